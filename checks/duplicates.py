@@ -44,16 +44,17 @@ BOILERPLATE = [
      "heads: the graph and the lines are put of the same chains"),
     (r"wcwhy_command/(src|specs)/(arguments|Arguments|usage)\.\w+:.*, wcplan_command/(src|specs)/(arguments|Arguments|usage)\.\w+:",
      "two programs that read arguments in one form, which no crate has for both"),
-    (r"(wc_record/src/fault_texts\.rt:\S+ \(to_text\), )?wcwhy_command/src/faults\.rt:\S+ \(gc_text\)"
+    (r"(wc_record/src/fault_texts\.rt:\S+ \(to_text\), )?wcwhy_command/src/fault\.rt:\S+ \(gc_text\)"
      r"(, wcplan_command/src/fault_texts\.rt:\S+ \(to_text\))?$",
      "the texts of faults of trimming: of a fault by itself, and of one that another carries"),
-    (r"wcplan_command/src/faults\.rt:\S+ \(fixed_text\), wcplan_command/src/json_faults\.rt:\S+ \(fixed_json\)$",
+    (r"wcplan_command/src/fault\.rt:\S+ \(fixed_text\), wcplan_command/src/json_faults\.rt:\S+ \(fixed_json\)$",
      "a match that names each fault without a fixed text: as lines in the one, as JSON in the other"),
 ]
 # Definitions that may be alike: their names, with the crates, and why.
 ALIKE = [
     ("wc_adapters::argument_view wc_validate::instance_entry",
      "a name and a view: the views are different definitions of different types"),
+    ("wc_dedupe::new_name wc_dedupe::import_name", "the name of a rename and that of an import: records of two types"),
     ("wc_read::func_value wc_read::global_value", "one for each kind of item, at its types"),
     ("wc_read::table_value wc_read::memory_value", "one for each kind of item, at its types"),
     ("wc_resolve::type_entry wc_resolve::interface_entry", "one for each kind of id"),

@@ -17,7 +17,7 @@ use Rattle.wc_json.specs.Messages.{AdapterMessageView, adapter_message_view}
 use Rattle.wc_json.specs.declared.messages.AdapterMessage.{AdapterMessage}
 use Rattle.wc_calls.specs.AskedKeys.{adapter_keys}
 use Rattle.wc_calls.specs.Encoders.{AreAdaptersOf, IsAdapterOf}
-use Rattle.wc_calls.specs.MessageFaults.{IsNamedTwice}
+use Rattle.wc_calls.specs.MessageFault.{IsNamedTwice}
 
 -- an item of a list, after those that were passed, as all are seen
 

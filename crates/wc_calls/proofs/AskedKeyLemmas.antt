@@ -1,24 +1,23 @@
 -- What a message asks of a world's exports.
-use Rattle.std.proofs.Common.{◌≡◌, ◌⊎◌, ◌<◌, ◌∙◌, ℕ, zero, suc, arith, true, false, List, [], ◌∷◌, length, map, flat_map, Option, None, Result, IfErr, All, Contains, inl, inr, refl, sym, ap, subst}
+use Rattle.std.proofs.Common.{◌≡◌, ◌<◌, ◌∙◌, ℕ, zero, suc, arith, List, [], ◌∷◌, length, map, flat_map, Option, None, Result, IfErr, refl, ap, subst}
 use Rattle.std.specs.List.{slice_get}
 use Rattle.std.specs.Option.{option_map_or}
 use Rattle.wc_adapters.specs.Adapters.{AdapterView}
 use Rattle.wc_resolve.specs.Views.{WorldView, key_view}
-use Rattle.wc_resolve.specs.World.{ResolveView}
+use Rattle.wc_resolve.specs.Kinds.{ResolveView}
 use Rattle.wc_selection.specs.KeyIndex.{keys_under}
-use Rattle.wc_selection.specs.KeyNames.{count_unversioned, indexed_keys, keys_as_given, keys_by_index}
+use Rattle.wc_selection.specs.KeyNames.{indexed_keys, keys_as_given, keys_by_index}
 use Rattle.wc_selection.specs.Keys.{NamedKey, export_keys, named_key, named_keys, texts_of}
-use Rattle.wc_selection.specs.ModuleKeys.{AreKeysThere, IsKeysCause}
+use Rattle.wc_selection.specs.ModuleKeys.{AreKeysThere}
 use Rattle.wc_selection.specs.Requests.{RequestValue, given_keys}
-use Rattle.wc_selection.specs.Texts.{IsFirstMissing, IsFirstRepeated, is_in}
 use Rattle.wc_selection.specs.declared.fault.RequestFault.{RequestFault}
 use Rattle.wc_selection.specs.declared.fault.RequestFault.TheVariants as request
 use Rattle.wc_json.specs.Messages.{AdapterMessageView, KeyMessageView}
 use Rattle.wc_selection.proofs.KeyIndexLemmas.{own_required}
 use Rattle.wc_calls.specs.AskedKeys.{adapter_keys, adapter_request, adapter_texts, key_texts, keys_in, main_texts, request_of}
 use Rattle.wc_calls.specs.Encoders.{AreAdaptersOf, AreExporters}
-use Rattle.wc_calls.specs.MessageFaults.{IsAdaptersCause, IsAskedCause}
-use Rattle.wc_calls.specs.Private.AskedKeys.{IsAskedCauseFor, IsAskedCauseIn, IsAskedFor, IsExportersCause, IsKeyFault, IsRepeatedKey, IsUnknownKey}
+use Rattle.wc_calls.specs.MessageFault.{IsAdaptersCause}
+use Rattle.wc_calls.specs.Private.AskedKeys.{IsAskedCauseFor, IsAskedCauseIn, IsAskedFor, IsExportersCause}
 use Rattle.wc_calls.specs.declared.asked_keys.AskedKeys.{AskedKeys}
 use Rattle.wc_calls.specs.declared.message_fault.MessageFault.{MessageFault}
 use Rattle.wc_calls.specs.declared.message_fault.MessageFault.TheVariants.{Memory, UnknownKey, SeveralKeys, RepeatedKey}
@@ -37,35 +36,6 @@ pub no_keys : (q : RequestValue) (r : ResolveView) (world : ℕ) → (world < le
 no_keys q r world past = ap (λ (ks : List NamedKey). keys_by_index (given_keys q) (keys_as_given (given_keys q) ks)) (no_exports r world past)
 
 -- faults of keys
-
-asked_unknown : (q : RequestValue) (own keys : List NamedKey) (key : List ℕ) (g : MessageFault) → IsFirstMissing (given_keys q) (texts_of keys) key
-    → IsUnknownKey own key g → IsAskedCause q own keys g
-asked_unknown q own keys key Memory missing h = tt
-asked_unknown q own keys key (UnknownKey k) missing h =
-    (subst (IsFirstMissing (given_keys q) (texts_of keys)) (sym h.0) missing, subst (λ t. count_unversioned own t ≡ 0) (sym h.0) h.1)
-asked_unknown q own keys key (SeveralKeys k) missing h = (
-  subst (IsFirstMissing (given_keys q) (texts_of keys)) (sym h.0) missing,
-  subst (λ t. is_in (texts_of own) t ≡ false) (sym h.0) h.1,
-  subst (λ t. 1 < count_unversioned own t) (sym h.0) h.2,
-)
-asked_unknown q own keys key (RepeatedKey k) missing h =
-    inl (
-      subst (IsFirstMissing (given_keys q) (texts_of keys)) (sym h.0) missing,
-      subst (λ t. (is_in (texts_of own) t ≡ true) ⊎ (count_unversioned own t ≡ 1)) (sym h.0) h.1,
-    )
-asked_unknown q own keys key g missing h = absurd h
-
-asked_repeated : (q : RequestValue) (own keys : List NamedKey) (key : List ℕ) (g : MessageFault) → All (Contains (texts_of keys)) (given_keys q)
-    → IsFirstRepeated (given_keys q) key → IsRepeatedKey key g → IsAskedCause q own keys g
-asked_repeated q own keys key Memory there again h = tt
-asked_repeated q own keys key (RepeatedKey k) there again h = inr (there, subst (IsFirstRepeated (given_keys q)) (sym h) again)
-asked_repeated q own keys key g there again h = absurd h
-
-pub asked_cause : (q : RequestValue) (own keys : List NamedKey) (f : RequestFault) (g : MessageFault) → IsKeysCause (given_keys q) (texts_of keys) f
-    → IsKeyFault own f g → IsAskedCause q own keys g
-asked_cause q own keys (request.UnknownKey key) g h is = asked_unknown q own keys key.now g h is
-asked_cause q own keys (request.RepeatedKey key) g h is = asked_repeated q own keys key.now g h.0 h.1 is
-asked_cause q own keys f g h is = subst (IsAskedCause q own keys) (sym is) tt
 
 -- why there are no exporters
 

@@ -3,7 +3,7 @@ use Rattle.std.proofs.Common.{◌≡◌, ◌∙◌, ℕ, ◌<◌, Bool, false, L
 use Rattle.std.specs.Str.{IsUtf8}
 use Rattle.json.specs.Json.{document}
 use Rattle.wc_dedupe.specs.Dedupe.{IsDedupeCause, IsDeduped, renames_in}
-use Rattle.wc_dedupe.specs.Renaming.{RenameValue}
+use Rattle.wc_dedupe.specs.Renaming.{RenameView}
 use Rattle.wc_dedupe.specs.declared.fault.DedupeFault.{DedupeFault}
 use Rattle.wc_dedupe.specs.declared.fault.DedupeFault.TheVariants.{Memory as dedupe_memory}
 use Rattle.wc_adapters.specs.Adapters.{AdapterView}
@@ -16,9 +16,9 @@ use Rattle.wc_json.specs.declared.fault.JsonFault.{JsonFault}
 use Rattle.wc_json.specs.declared.fault.JsonFault.TheVariants.{Memory as json_memory}
 use Rattle.wc_resolve.specs.Views.{KeyView}
 use Rattle.wc_resolve.specs.WellFormed.{IsWellFormed}
-use Rattle.wc_resolve.specs.World.{ResolveView}
-use Rattle.wc_resolve.specs.Faults.{IsResolveCause}
-use Rattle.wc_resolve.specs.Places.{IsPlace}
+use Rattle.wc_resolve.specs.Kinds.{ResolveView}
+use Rattle.wc_resolve.specs.Fault.{IsResolveCause}
+use Rattle.wc_resolve.specs.Explain.{IsPlace}
 use Rattle.wc_resolve.specs.Refusals.{IsRefusal}
 use Rattle.wc_resolve.specs.declared.explain.Part.{Part}
 use Rattle.wc_resolve.specs.declared.explain.Refusal.{Refusal}
@@ -35,9 +35,9 @@ use Rattle.wc_selection.specs.declared.fault.RequestFault.{RequestFault}
 use Rattle.wc_selection.specs.declared.fault.RequestFault.TheVariants.{Memory as request_memory, PackageRange, UnknownWorld, SeveralWorlds}
 use Rattle.wc_calls.specs.AskedKeys.{keys_in, request_of}
 use Rattle.wc_calls.specs.Encoders.{AreChosen, AreExporters, IsMessage, IsPartsOf, IsWorldNamed}
-use Rattle.wc_calls.specs.MessageFaults.{AreKeysKnown, IsAskedCause, IsKeyCause, IsNameCause, IsNoEncoderCause, IsOfChosen, IsPartsCause, IsWorldNameCause, of_dedupe, of_encoder, of_json, of_request, of_resolve}
+use Rattle.wc_calls.specs.MessageFault.{AreKeysKnown, IsAskedCause, IsKeyCause, IsNameCause, IsNoEncoderCause, IsOfChosen, IsPartsCause, IsWorldNameCause, of_dedupe, of_encoder, of_json, of_request, of_resolve}
 use Rattle.wc_calls.specs.Private.AskedKeys.{IsExportersCause}
-use Rattle.wc_calls.specs.Private.RefusedMessages.{AreNoParts, IsNoEncoder, IsOfRefusal, IsPartFor, IsPartOf, IsWithoutPart}
+use Rattle.wc_calls.specs.Private.RefusedMessage.{AreNoParts, IsNoEncoder, IsOfRefusal, IsPartFor, IsPartOf, IsWithoutPart}
 use Rattle.wc_calls.specs.declared.message_fault.MessageFault.{MessageFault}
 use Rattle.wc_calls.specs.declared.message_fault.MessageFault.TheVariants.{Memory, NotText, Json, UnknownWorld as unknown_world, Lengths, Resolve, AdapterTwice, World, SeveralWorlds as several_worlds, PackageRange as package_range, UnknownKey, SeveralKeys, RepeatedKey, Plan}
 use Rattle.wc_calls.specs.declared.refused_message.RefusedMessage.{RefusedMessage}
@@ -196,7 +196,7 @@ module _ (m : MessageView) (modules main others : List ℕ) (world : ℕ) (chose
       refused_for m modules x (of_encoder f) None fault none (encoder_cause e f made h) (encoder_part m.document.parts f)
 
 -- the parts of an encoder
-pub parts_of : (m : MessageView) (modules main others : List ℕ) (world : ℕ) (wasm : List ℕ) (renames : Option (List RenameValue)) (resolve : ResolveView)
+pub parts_of : (m : MessageView) (modules main others : List ℕ) (world : ℕ) (wasm : List ℕ) (renames : Option (List RenameView)) (resolve : ResolveView)
     (keys : List KeyView) (adapters : List (List ℕ × AdapterView)) (rejects grows : Bool) (hook : List ℕ) → AreChosen m modules world main others
     → IsDeduped main wasm (renames_in renames) → resolve ≡ m.document.parts → AreExporters resolve world m.exports m.adapters others keys adapters
     → rejects ≡ unwrap_or m.reject_legacy_names false → grows ≡ unwrap_or m.realloc_via_memory_grow false → hook ≡ unwrap_or m.task_hook no_task_hook

@@ -1,13 +1,13 @@
 -- What the call that makes the plan of a component answers.
 use Rattle.std.proofs.Common.{ℕ, List}
 use Rattle.wc_encoder.specs.EncoderParts.{EncoderView}
-use Rattle.wc_plan.specs.EncoderFaults.{IsEncoderFault}
+use Rattle.wc_plan.specs.Encoder.{IsEncoderFault}
 use Rattle.wc_plan.specs.declared.fault.PlanFault.{PlanFault}
 use Rattle.wc_plan.specs.declared.fault.PlanFault.TheVariants.{Memory as plan_memory, World as plan_world}
 use Rattle.wc_world.specs.Options.{OptionsOf}
 use Rattle.wc_calls.specs.ComponentPlans.{IsPlanAnswer}
 use Rattle.wc_calls.specs.Encoders.{AreOptionsOf, IsEncoderOf}
-use Rattle.wc_calls.specs.MessageFaults.{of_plan}
+use Rattle.wc_calls.specs.MessageFault.{of_plan}
 use Rattle.wc_calls.specs.Private.EncoderAnswers.{IsPlanFor, IsPlanFaultFor}
 
 pub plan_fault_for : (options : OptionsOf) (e : EncoderView) (f : PlanFault) → IsEncoderFault options e f → IsPlanFaultFor options e (of_plan f)

@@ -11,7 +11,7 @@ use Rattle.wc_world.specs.declared.fault.WorldFault.TheVariants.{Memory as world
 use Rattle.wc_calls.specs.Answers.{IsFront, IsPut, IsTooLong, done, too_small}
 use Rattle.wc_calls.specs.ComponentWorlds.{IsWorldAnswer, modules_text}
 use Rattle.wc_calls.specs.Encoders.{AreOptionsOf, IsEncoderOf}
-use Rattle.wc_calls.specs.MessageFaults.{of_world}
+use Rattle.wc_calls.specs.MessageFault.{of_world}
 use Rattle.wc_calls.specs.Private.EncoderAnswers.{IsAnswerFor, IsFaultFor}
 use Rattle.wc_calls.specs.declared.component_worlds.WorldAnswer.{WorldAnswer}
 use Rattle.wc_calls.specs.declared.message_fault.MessageFault.{MessageFault}

@@ -3,9 +3,9 @@ use Rattle.std.proofs.Common.{◌≡◌, ℕ, List, Option, false, true, ap, inl
 use Rattle.std.proofs.lemmas.Bool.{false≢true}
 use Rattle.wc_encoder.specs.EncoderParts.{EncoderView}
 use Rattle.wc_resolve.specs.declared.explain.Part.{Part}
-use Rattle.wc_plan.specs.EncoderFaults.{IsWorldCause}
-use Rattle.wc_validate.specs.Validated.{ModuleRecord}
-use Rattle.wc_world.specs.Adapters.{NamedAdapter}
+use Rattle.wc_plan.specs.Encoder.{IsWorldCause}
+use Rattle.wc_validate.specs.Validate.{ModuleRecord}
+use Rattle.wc_world.specs.Trimming.{NamedAdapter}
 use Rattle.wc_world.specs.Causes.{IsComponentWorldCause, IsMemory, IsMemoryOf}
 use Rattle.wc_world.specs.Options.{OptionsOf}
 use Rattle.wc_world.specs.declared.fault.WorldFault.{WorldFault}
@@ -15,10 +15,10 @@ use Rattle.wc_calls.specs.Answers.{IsPut, IsTooLong}
 use Rattle.wc_calls.specs.Encoders.{AreOptionsOf, IsEncoderOf}
 use Rattle.wc_calls.specs.FaultAnswers.{IsFaultAnswered}
 use Rattle.wc_calls.specs.MemoryFaults.{gc_is_memory, is_memory, validate_is_memory, world_is_memory}
-use Rattle.wc_calls.specs.MessageFaults.{IsMessageCause, IsNoEncoderCause}
+use Rattle.wc_calls.specs.MessageFault.{IsMessageCause, IsNoEncoderCause}
 use Rattle.wc_calls.specs.Places.{IsPlaceOf, place_text}
 use Rattle.wc_calls.specs.Private.EncoderAnswers.{IsFaultFor, IsPlaceFor, IsPlanFaultFor}
-use Rattle.wc_calls.specs.Private.RefusedMessages.{IsNoEncoder, IsPartOf}
+use Rattle.wc_calls.specs.Private.RefusedMessage.{IsNoEncoder, IsPartOf}
 use Rattle.wc_calls.specs.declared.answers.Answer.{Answer}
 use Rattle.wc_calls.specs.declared.message_fault.MessageFault.{MessageFault}
 use Rattle.wc_calls.specs.declared.message_fault.MessageFault.TheVariants.{Memory, Plan, Resolve, World}

@@ -6,10 +6,10 @@ use Rattle.std.proofs.lemmas.Slice.Eq.{bytes_eq-Decides}
 use Rattle.std.specs.Prelude.{string_bytes}
 use Rattle.std.specs.List.{find, list_any, slice_get}
 use Rattle.std.specs.Str.{bytes_eq}
-use Rattle.wc_gc.specs.Liveness.{IsFault, trim_input_for_names}
+use Rattle.wc_gc.specs.LiveItems.{IsFault, trim_input_for_names}
 use Rattle.wc_maps.specs.Names.{first_occurrences}
-use Rattle.wc_gc.specs.Parts.{SettingsValue}
-use Rattle.wc_gc.specs.Trimming.{IsTrimFault}
+use Rattle.wc_gc.specs.Parts.{SettingsView}
+use Rattle.wc_gc.specs.Trim.{IsTrimFault}
 use Rattle.wc_gc.specs.declared.fault.GcFault.{GcFault}
 use Rattle.wc_gc.specs.declared.fault.GcFault.TheVariants.{Memory, MissingExport}
 use Rattle.wc_gc.proofs.NameSetLemmas.{among_distinct}
@@ -50,7 +50,7 @@ missing_there names p x e =
     position_there names x (among_distinct names x (found_among p (first_occurrences names) x e))
 
 -- the position that an answer has for a fault that has its cause
-pub named_position : (s : SettingsValue) (wasm : List ℕ) (names : List (List ℕ)) (f : GcFault) → f ≢ Memory → IsTrimFault s (trim_input_for_names wasm names) f → IsPosition names f (position_in names f)
+pub named_position : (s : SettingsView) (wasm : List ℕ) (names : List (List ℕ)) (f : GcFault) → f ≢ Memory → IsTrimFault s (trim_input_for_names wasm names) f → IsPosition names f (position_in names f)
 named_position s wasm names (MissingExport name) other fault =
     elim fault [
       | inl memory ↦ absurd (other memory)

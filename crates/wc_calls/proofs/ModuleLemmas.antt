@@ -6,17 +6,17 @@ use Rattle.std.specs.Str.{bytes_eq}
 use Rattle.std.specs.declared.alloc.AllocError.{AllocError}
 use Rattle.std.specs.declared.alloc.Global.{Global}
 use Rattle.std.specs.declared.vec.Vec.{Vec}
-use Rattle.wc_dedupe.specs.Renaming.{RenameValue}
+use Rattle.wc_dedupe.specs.Renaming.{RenameView}
 use Rattle.wc_adapters.specs.Adapters.{LibraryView, adapter_view, library_view}
 use Rattle.wc_encoder.specs.EncoderParts.{EncoderView}
 use Rattle.wc_resolve.specs.Views.{key_view}
 use Rattle.wc_validate.specs.Imports.Map.{required_entry, required_in}
-use Rattle.wc_validate.specs.Places.{IsExplained, IsUnplaced}
-use Rattle.wc_validate.specs.Validated.{IsValidateCause, IsRecordOf, ModuleRecord, ValidationInput, adapter_input, main_input}
+use Rattle.wc_validate.specs.Explain.{IsExplained, IsUnplaced}
+use Rattle.wc_validate.specs.Validate.{IsValidateCause, IsRecordOf, ModuleRecord, ValidationInput, adapter_input, main_input}
 use Rattle.wc_validate.specs.declared.fault.ValidateFault.{ValidateFault}
 use Rattle.wc_validate.specs.declared.fault.ValidateFault.TheVariants as validate
 use Rattle.wc_validate.specs.declared.place.Place.{Place}
-use Rattle.wc_world.specs.Adapters.{validation_input_of}
+use Rattle.wc_world.specs.Trimming.{validation_input_of}
 use Rattle.wc_world.specs.Causes.{IsRefused}
 use Rattle.wc_world.specs.Places.{IsIn, IsValidationPlace}
 use Rattle.wc_world.specs.World.{IsMainRecord}
@@ -26,10 +26,10 @@ use Rattle.wc_world.specs.declared.places.WorldPlace.{WorldPlace}
 use Rattle.wc_record.specs.Places.{part_json, world_place_json}
 use Rattle.wc_calls.specs.Encoders.{IsEncoderOf}
 use Rattle.wc_calls.specs.FaultAnswers.{IsFaultAnswered}
-use Rattle.wc_calls.specs.MessageFaults.{IsNoEncoderCause}
+use Rattle.wc_calls.specs.MessageFault.{IsNoEncoderCause}
 use Rattle.wc_calls.specs.Places.{IsPlaceOf, place_text}
 use Rattle.wc_calls.specs.Private.ModuleAnswers.{IsInputPlace, IsInputPlaceText, IsInputRefused, IsInputValid, IsModuleFault, IsModulePlaceFor, input_of}
-use Rattle.wc_calls.specs.Private.RefusedMessages.{IsNoEncoder}
+use Rattle.wc_calls.specs.Private.RefusedMessage.{IsNoEncoder}
 use Rattle.wc_calls.specs.Validation.{IsAdapterPlace, IsAdapterRefused, IsModuleRefused, IsModuleValid, IsUnder, IsValidationCause, IsValidationPlaceOf}
 use Rattle.wc_calls.specs.declared.answers.Answer.{Answer}
 use Rattle.wc_calls.specs.declared.message_fault.MessageFault.{MessageFault}
@@ -121,7 +121,7 @@ module _ (g : AdapterInput) (main : ModuleRecord) (recorded : IsMainRecord g.enc
       (IsModulePlaceFor g.encoder.now) a old new (refused_under f h.name h.named refused) (λ text at. placed_under f h.name text h.named at) h.answered
 
 -- the main module is refused
-pub main_refused : (e : EncoderView) (name : Option (List ℕ)) (f : ValidateFault) (renames : Option (List RenameValue)) (bytes : List ℕ) (a : Answer) (old new : List ℕ)
+pub main_refused : (e : EncoderView) (name : Option (List ℕ)) (f : ValidateFault) (renames : Option (List RenameView)) (bytes : List ℕ) (a : Answer) (old new : List ℕ)
     → renames ≡ e.module_import_map → bytes ≡ e.module_bytes → f ≢ validate.Memory → IsValidateCause (main_input e renames) bytes f
     → IsFaultAnswered (λ m. m ≡ World (Main f)) (IsModulePlaceFor e) a old new
     → IsFaultAnswered (IsModuleFault e name) (IsModulePlaceFor e) a old new

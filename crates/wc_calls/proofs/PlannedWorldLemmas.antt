@@ -1,9 +1,9 @@
 -- What the call that makes a component's world and its plan answers.
 use Rattle.std.proofs.Common.{◌≡◌, ◌++◌, ◌⊎◌, inl, inr, ℕ, List, Result, Ok, Err, IfOk, IfErr, length, ap, refl, sym, subst}
 use Rattle.wc_encoder.specs.EncoderParts.{EncoderView}
-use Rattle.wc_plan.specs.Faults.{HasNoFault, IsFaultNamed, IsFirstFault, UseFault, no_lowering, no_memory, no_realloc}
+use Rattle.wc_plan.specs.Fault.{HasNoFault, IsFaultNamed, IsFirstFault, UseFault, no_lowering, no_memory, no_realloc}
 use Rattle.wc_plan.specs.Plans.{plan_of}
-use Rattle.wc_plan.specs.Progress.{IsPlanFault}
+use Rattle.wc_plan.specs.Planner.{IsPlanFault}
 use Rattle.wc_plan.specs.declared.fault.PlanFault.{PlanFault}
 use Rattle.wc_plan.specs.declared.fault.PlanFault.TheVariants.{Memory as plan_memory, World as plan_world}
 use Rattle.wc_record.specs.Texts.{planned_world_text}
@@ -16,7 +16,7 @@ use Rattle.wc_world.specs.declared.fault.WorldFault.{WorldFault}
 use Rattle.wc_world.specs.declared.fault.WorldFault.TheVariants.{Memory as world_memory}
 use Rattle.wc_calls.specs.ComponentWorlds.{modules_text}
 use Rattle.wc_calls.specs.Encoders.{AreOptionsOf, IsEncoderOf}
-use Rattle.wc_calls.specs.MessageFaults.{of_plan, of_world}
+use Rattle.wc_calls.specs.MessageFault.{of_plan, of_world}
 use Rattle.wc_calls.specs.PlannedWorlds.{IsPlannedText, IsPlannedWorldAnswer}
 use Rattle.wc_calls.specs.Private.EncoderAnswers.{IsPlanFaultFor}
 use Rattle.wc_calls.specs.Private.PlannedAnswers.{IsPlanFaultOf, IsPlannedFor}

@@ -1,7 +1,7 @@
 -- What trimming answers, as the answer of a call.
 use Rattle.std.proofs.Common.{◌≡◌, ◌≢◌, ◌≤◌, ◌⊎◌, ◌<◌, arith, ℕ, List, length, false, Result, Ok, Err, IfOk, IfErr, ap, sym, subst, inl, inr, ◌∙◌}
 use Rattle.std.proofs.lemmas.Bool.{false≢true}
-use Rattle.wc_gc.specs.Liveness.{TrimInput, trim_input_for_names}
+use Rattle.wc_gc.specs.LiveItems.{TrimInput, trim_input_for_names}
 use Rattle.wc_maps.specs.Names.{first_occurrences}
 use Rattle.wc_gc.specs.declared.fault.GcFault.{GcFault}
 use Rattle.wc_gc.specs.declared.fault.GcFault.TheVariants.{Memory}

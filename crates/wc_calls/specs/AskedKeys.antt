@@ -1,7 +1,7 @@
 -- Which keys of a world's exports a message asks of its modules.
 use Rattle.std.specs.Prelude.{ℕ, Bool, true, false, List, [], map, flat_map, Option, Some, None}
 use Rattle.wc_resolve.specs.Views.{KeyView}
-use Rattle.wc_resolve.specs.World.{ResolveView}
+use Rattle.wc_resolve.specs.Kinds.{ResolveView}
 use Rattle.wc_selection.specs.KeyNames.{indexed_keys}
 use Rattle.wc_selection.specs.Keys.{NamedKey}
 use Rattle.wc_selection.specs.ModuleKeys.{required_keys}

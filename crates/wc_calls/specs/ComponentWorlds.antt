@@ -7,7 +7,7 @@ use Rattle.wc_world.specs.Views.{ComponentWorldView, NamedWorldAdapter}
 use Rattle.wc_world.specs.World.{IsWorldOf}
 use Rattle.wc_calls.specs.Encoders.{AreOptionsOf, IsEncoderOf}
 use Rattle.wc_calls.specs.FaultAnswers.{IsFaultAnswered}
-use Rattle.wc_calls.specs.MessageFaults.{IsMessageCause}
+use Rattle.wc_calls.specs.MessageFault.{IsMessageCause}
 use Rattle.wc_calls.specs.Places.{IsPlaceOf}
 use Rattle.wc_calls.specs.declared.answers.Answer.{Answer}
 

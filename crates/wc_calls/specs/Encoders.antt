@@ -10,7 +10,7 @@ use Rattle.wc_encoder.specs.WellFormed.{IsWellFormed}
 use Rattle.wc_json.specs.Document.{DocumentView}
 use Rattle.wc_json.specs.Messages.{AdapterMessageView, KeyMessageView, MessageView, WorldNameView, at_index, message, of_name}
 use Rattle.wc_resolve.specs.Views.{KeyView}
-use Rattle.wc_resolve.specs.World.{ResolveView}
+use Rattle.wc_resolve.specs.Kinds.{ResolveView}
 use Rattle.wc_selection.specs.Keys.{NamedKey, texts_of}
 use Rattle.wc_selection.specs.ModuleKeys.{AreKeysThere}
 use Rattle.wc_selection.specs.Requests.{given_keys}

@@ -1,7 +1,7 @@
 -- The texts of the faults of a message: the name of a fault; where it carries another fault, its name, `: `, and the text of
 -- that; or its name, and a name or a key in quotation marks.
 use Rattle.std.specs.Prelude.{ℕ, List, ◌++◌, codes, string_bytes}
-use Rattle.wc_json.specs.Faults.{json_fault_text}
+use Rattle.wc_json.specs.Fault.{json_fault_text}
 use Rattle.wc_program.specs.FaultTexts.{carried_text, dedupe_fault_text, memory_text}
 use Rattle.wc_record.specs.FaultTexts.{encoder_fault_text, plan_fault_text, resolve_fault_text, world_fault_text}
 use Rattle.wc_calls.specs.declared.message_fault.MessageFault.{MessageFault}

@@ -1,7 +1,7 @@
 -- What the call that says why an adapter imports what it does answers.
 use Rattle.std.specs.Prelude.{◌≡◌, ℕ, List}
 use Rattle.wc_gc.specs.LiveChains.{AreWhyImports}
-use Rattle.wc_gc.specs.Liveness.{IsFault, TrimInput, trim_input_for_names}
+use Rattle.wc_gc.specs.LiveItems.{IsFault, TrimInput, trim_input_for_names}
 use Rattle.wc_gc.specs.declared.import_chains.ImportChains.{ImportChains}
 use Rattle.wc_record.specs.Chains.{chains_json}
 use Rattle.wc_record.specs.Texts.{text_of}

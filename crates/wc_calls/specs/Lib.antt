@@ -10,7 +10,7 @@ pub mod FaultTexts
 pub mod ImportChains
 pub mod ImportOptions
 pub mod MemoryFaults
-pub mod MessageFaults
+pub mod MessageFault
 pub mod Places
 pub mod PlannedWorlds
 pub mod Private

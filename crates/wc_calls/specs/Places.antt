@@ -2,13 +2,13 @@
 use Rattle.std.specs.Prelude.{◌≡◌, ℕ, List, [], Option, Some, None, string_bytes}
 use Rattle.json.specs.Json.{Json}
 use Rattle.wc_encoder.specs.EncoderParts.{EncoderView}
-use Rattle.wc_gc.specs.Liveness.{TrimInput}
-use Rattle.wc_gc.specs.TrimPlaces.{IsExplained as IsTrimExplained}
+use Rattle.wc_gc.specs.LiveItems.{TrimInput}
+use Rattle.wc_gc.specs.TrimPlace.{IsExplained as IsTrimExplained}
 use Rattle.wc_gc.specs.declared.fault.GcFault.{GcFault}
 use Rattle.wc_gc.specs.declared.trim_place.TrimPlace.{TrimPlace}
 use Rattle.wc_record.specs.Places.{function_json, page_sizes_json, part_json, trim_place_json, world_place_json}
 use Rattle.wc_record.specs.Texts.{text_of}
-use Rattle.wc_resolve.specs.Places.{IsExplained as IsPartExplained}
+use Rattle.wc_resolve.specs.Explain.{IsExplained as IsPartExplained}
 use Rattle.wc_resolve.specs.declared.explain.Part.{Part}
 use Rattle.wc_resolve.specs.declared.fault.ResolveFault.{ResolveFault}
 use Rattle.wc_plan.specs.declared.fault.PlanFault.{PlanFault}

@@ -1,7 +1,7 @@
 -- What the call that makes a component's world and its plan answers.
 use Rattle.std.specs.Prelude.{◌≡◌, ◌++◌, ℕ, List, length}
 use Rattle.wc_encoder.specs.EncoderParts.{EncoderView}
-use Rattle.wc_plan.specs.Faults.{HasNoFault}
+use Rattle.wc_plan.specs.Fault.{HasNoFault}
 use Rattle.wc_plan.specs.Plans.{plan_of}
 use Rattle.wc_record.specs.Texts.{planned_world_text}
 use Rattle.wc_world.specs.Options.{OptionsOf}

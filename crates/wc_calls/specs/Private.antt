@@ -4,5 +4,5 @@ pub mod AskedKeys
 pub mod ModuleAnswers
 pub mod OptionTables
 pub mod PlannedAnswers
-pub mod RefusedMessages
+pub mod RefusedMessage
 pub mod TrimArguments

@@ -2,9 +2,9 @@
 use Rattle.std.specs.Prelude.{◌≡◌, ◌≢◌, ◌≤◌, ◌<◌, false, length, ℕ, List, [], IfSome, Some, string_bytes}
 use Rattle.std.specs.List.{All, slice_get}
 use Rattle.std.specs.Str.{IsUtf8}
-use Rattle.wc_gc.specs.Liveness.{TrimInput, trim_input_for_names}
-use Rattle.wc_gc.specs.Parts.{SettingsValue}
-use Rattle.wc_gc.specs.Trimming.{IsTrimFault}
+use Rattle.wc_gc.specs.LiveItems.{TrimInput, trim_input_for_names}
+use Rattle.wc_gc.specs.Parts.{SettingsView}
+use Rattle.wc_gc.specs.Trim.{IsTrimFault}
 use Rattle.wc_gc.specs.declared.fault.GcFault.{GcFault}
 use Rattle.wc_gc.specs.declared.fault.GcFault.TheVariants.{MissingExport}
 use Rattle.wc_calls.specs.Answers.{IsFront, failed}
@@ -15,11 +15,11 @@ use Rattle.wc_calls.specs.ExportNames.{position_of}
 use Rattle.wc_calls.specs.declared.answers.Answer.{Answer}
 
 -- how an adapter is trimmed for a main module that exports a realloc of this name, and has pages of 2^16 bytes
-abbrev pub with_realloc : List ℕ → SettingsValue
+abbrev pub with_realloc : List ℕ → SettingsView
 with_realloc name = record { realloc = Some name; page_size_log2 = 16 }
 
 -- arguments that can be trimmed by: there is a name at least, all of them are text, and pages have 2^16 bytes at most
-pub record AreArguments (s : SettingsValue) (names : List (List ℕ)) : Type 0 where
+pub record AreArguments (s : SettingsView) (names : List (List ℕ)) : Type 0 where
   pub paged : s.page_size_log2 ≤ 16
   pub realloc_is_text : IfSome s.realloc IsUtf8
   pub some : names ≢ []
@@ -58,5 +58,5 @@ IsFaultFor IsCause wasm names answer old new =
     × IsTrimRefused (trim_input_for_names wasm names) names f answer old new
 
 -- the answer is a fault of trimming
-abbrev pub IsTrimmingFault : SettingsValue → List ℕ → List (List ℕ) → Answer → List ℕ → List ℕ → Type 0
+abbrev pub IsTrimmingFault : SettingsView → List ℕ → List (List ℕ) → Answer → List ℕ → List ℕ → Type 0
 IsTrimmingFault s wasm names = IsFaultFor (IsTrimFault s (trim_input_for_names wasm names)) wasm names

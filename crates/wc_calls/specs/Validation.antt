@@ -5,10 +5,10 @@ use Rattle.std.specs.Map.{lookup}
 use Rattle.std.specs.Str.{IsUtf8, bytes_eq}
 use Rattle.wc_adapters.specs.Adapters.{AdapterView}
 use Rattle.wc_encoder.specs.EncoderParts.{EncoderView}
-use Rattle.wc_validate.specs.Places.{IsUnplaced}
-use Rattle.wc_validate.specs.Validated.{IsRecordOf, ModuleRecord, main_input}
+use Rattle.wc_validate.specs.Explain.{IsUnplaced}
+use Rattle.wc_validate.specs.Validate.{IsRecordOf, ModuleRecord, main_input}
 use Rattle.wc_validate.specs.declared.fault.ValidateFault.{ValidateFault}
-use Rattle.wc_world.specs.Adapters.{NamedAdapter, validation_input_of}
+use Rattle.wc_world.specs.Trimming.{NamedAdapter, validation_input_of}
 use Rattle.wc_world.specs.Causes.{IsRefused}
 use Rattle.wc_world.specs.Places.{IsInAdapter, IsValidationPlace}
 use Rattle.wc_world.specs.World.{IsMainRecord}
@@ -18,7 +18,7 @@ use Rattle.wc_world.specs.declared.places.WorldPlace.{WorldPlace}
 use Rattle.wc_record.specs.Places.{world_place_json}
 use Rattle.wc_calls.specs.Encoders.{IsEncoderOf}
 use Rattle.wc_calls.specs.FaultAnswers.{IsFaultAnswered}
-use Rattle.wc_calls.specs.MessageFaults.{IsNoEncoderCause}
+use Rattle.wc_calls.specs.MessageFault.{IsNoEncoderCause}
 use Rattle.wc_calls.specs.Places.{IsPartPlaceText, IsWorldPlaceText, place_text}
 use Rattle.wc_calls.specs.declared.answers.Answer.{Answer}
 use Rattle.wc_calls.specs.declared.message_fault.MessageFault.{MessageFault}

@@ -11,10 +11,10 @@ ghost use Rattle.wc_selection.specs.Keys.{AreKeysApart, named_key};
 ghost use Rattle.wc_selection.specs.TaskHook.{no_task_hook};
 ghost use Rattle.wc_selection.specs.Worlds.{IsSelected};
 ghost use Rattle.wc_calls.specs.Encoders.{AreAdaptersOf, AreChosen, AreExporters, AreOptionsOf, IsEncoderOf, IsPartsOf, IsWorldNamed};
-ghost use Rattle.wc_calls.specs.MessageFaults.{IsAdaptersCause, IsNameCause, IsWorldNameCause, of_request};
+ghost use Rattle.wc_calls.specs.MessageFault.{IsAdaptersCause, IsNameCause, IsWorldNameCause, of_request};
 ghost use Rattle.wc_calls.specs.Private.AskedKeys.{IsExportersCause};
 ghost use Rattle.wc_calls.specs.Private.OptionTables.{table_options};
-ghost use Rattle.wc_calls.specs.Private.RefusedMessages.{AreNoParts, IsNoEncoder};
+ghost use Rattle.wc_calls.specs.Private.RefusedMessage.{AreNoParts, IsNoEncoder};
 
 use crate::asked_keys::{AskedWorld, adapter_keys, asked_of};
 use crate::import_options::OptionTable;

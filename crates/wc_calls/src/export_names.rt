@@ -4,7 +4,7 @@ ghost use Rattle.std.specs.Prelude.{◌≡◌, ◌↔◌, IsTrue, IfOk, IfErr, I
 ghost use Rattle.std.specs.List.{All};
 ghost use Rattle.std.specs.Option.{option_map};
 ghost use Rattle.std.specs.Str.{IsUtf8};
-ghost use Rattle.wc_gc.specs.Liveness.{names_of};
+ghost use Rattle.wc_gc.specs.LiveItems.{names_of};
 ghost use Rattle.wc_maps.specs.Names.{first_occurrences};
 ghost use Rattle.wc_calls.specs.ExportNames.{texts, position_of};
 

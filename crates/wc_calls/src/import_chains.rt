@@ -3,7 +3,7 @@
 ghost use Rattle.std.specs.Prelude.{◌≡◌, ◌≢◌, ◌<◌, ◌≤◌, ◌⊎◌, IfErr, IfOk, false, length};
 ghost use Rattle.std.specs.List.{All};
 ghost use Rattle.std.specs.Str.{IsUtf8};
-ghost use Rattle.wc_gc.specs.Liveness.{IsFault, trim_input, trim_input_for_names};
+ghost use Rattle.wc_gc.specs.LiveItems.{IsFault, trim_input, trim_input_for_names};
 ghost use Rattle.wc_calls.specs.Answers.{AreOthersOfTextZero, IsBytesStatus, IsFront, IsPut, IsTooLong, bad_argument, done, failed, out_of_memory, same, too_small};
 ghost use Rattle.wc_calls.specs.ExportNames.{texts};
 ghost use Rattle.wc_calls.specs.ImportChains.{IsWhyFault, IsWhyText};

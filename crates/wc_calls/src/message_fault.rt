@@ -88,7 +88,7 @@ impl<T: Drop> From<AllocFailed<T>> for MessageFault {
 }
 
 impl From<JsonFault> for MessageFault {
-    ghost use Rattle.wc_calls.specs.MessageFaults.{of_json};
+    ghost use Rattle.wc_calls.specs.MessageFault.{of_json};
 
     ghost from_gives = { λ f e. e ≡ of_json f };
 
@@ -101,7 +101,7 @@ impl From<JsonFault> for MessageFault {
 }
 
 impl From<ResolveFault> for MessageFault {
-    ghost use Rattle.wc_calls.specs.MessageFaults.{of_resolve};
+    ghost use Rattle.wc_calls.specs.MessageFault.{of_resolve};
 
     ghost from_gives = { λ f e. e ≡ of_resolve f };
 
@@ -114,7 +114,7 @@ impl From<ResolveFault> for MessageFault {
 }
 
 impl From<DedupeFault> for MessageFault {
-    ghost use Rattle.wc_calls.specs.MessageFaults.{of_dedupe};
+    ghost use Rattle.wc_calls.specs.MessageFault.{of_dedupe};
 
     ghost from_gives = { λ f e. e ≡ of_dedupe f };
 
@@ -127,7 +127,7 @@ impl From<DedupeFault> for MessageFault {
 }
 
 impl From<EncoderFault> for MessageFault {
-    ghost use Rattle.wc_calls.specs.MessageFaults.{of_encoder};
+    ghost use Rattle.wc_calls.specs.MessageFault.{of_encoder};
 
     ghost from_gives = { λ f e. e ≡ of_encoder f };
 
@@ -140,7 +140,7 @@ impl From<EncoderFault> for MessageFault {
 }
 
 impl From<WorldFault> for MessageFault {
-    ghost use Rattle.wc_calls.specs.MessageFaults.{of_world};
+    ghost use Rattle.wc_calls.specs.MessageFault.{of_world};
 
     ghost from_gives = { λ f e. e ≡ of_world f };
 
@@ -153,7 +153,7 @@ impl From<WorldFault> for MessageFault {
 }
 
 impl From<PlanFault> for MessageFault {
-    ghost use Rattle.wc_calls.specs.MessageFaults.{of_plan};
+    ghost use Rattle.wc_calls.specs.MessageFault.{of_plan};
 
     ghost from_gives = { λ f e. e ≡ of_plan f };
 

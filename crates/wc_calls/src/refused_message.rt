@@ -16,7 +16,7 @@ pub(crate) struct RefusedMessage {
 }
 
 impl From<MessageFault> for RefusedMessage {
-    ghost use Rattle.wc_calls.specs.Private.RefusedMessages.{IsWithoutPart};
+    ghost use Rattle.wc_calls.specs.Private.RefusedMessage.{IsWithoutPart};
 
     ghost from_gives = { IsWithoutPart };
 
@@ -29,7 +29,7 @@ impl From<MessageFault> for RefusedMessage {
 }
 
 impl From<AllocError> for RefusedMessage {
-    ghost use Rattle.wc_calls.specs.Private.RefusedMessages.{IsWithoutPart};
+    ghost use Rattle.wc_calls.specs.Private.RefusedMessage.{IsWithoutPart};
     ghost use Rattle.wc_calls.specs.declared.message_fault.MessageFault.TheVariants.{Memory};
 
     ghost from_gives = { λ _ x. IsWithoutPart Memory x };
@@ -43,8 +43,8 @@ impl From<AllocError> for RefusedMessage {
 }
 
 impl From<JsonFault> for RefusedMessage {
-    ghost use Rattle.wc_calls.specs.MessageFaults.{of_json};
-    ghost use Rattle.wc_calls.specs.Private.RefusedMessages.{IsWithoutPart};
+    ghost use Rattle.wc_calls.specs.MessageFault.{of_json};
+    ghost use Rattle.wc_calls.specs.Private.RefusedMessage.{IsWithoutPart};
 
     ghost from_gives = { λ f x. IsWithoutPart (of_json f) x };
 
@@ -57,8 +57,8 @@ impl From<JsonFault> for RefusedMessage {
 }
 
 impl From<DedupeFault> for RefusedMessage {
-    ghost use Rattle.wc_calls.specs.MessageFaults.{of_dedupe};
-    ghost use Rattle.wc_calls.specs.Private.RefusedMessages.{IsWithoutPart};
+    ghost use Rattle.wc_calls.specs.MessageFault.{of_dedupe};
+    ghost use Rattle.wc_calls.specs.Private.RefusedMessage.{IsWithoutPart};
 
     ghost from_gives = { λ f x. IsWithoutPart (of_dedupe f) x };
 
@@ -71,8 +71,8 @@ impl From<DedupeFault> for RefusedMessage {
 }
 
 impl From<EncoderFault> for RefusedMessage {
-    ghost use Rattle.wc_calls.specs.MessageFaults.{of_encoder};
-    ghost use Rattle.wc_calls.specs.Private.RefusedMessages.{IsWithoutPart};
+    ghost use Rattle.wc_calls.specs.MessageFault.{of_encoder};
+    ghost use Rattle.wc_calls.specs.Private.RefusedMessage.{IsWithoutPart};
 
     ghost from_gives = { λ f x. IsWithoutPart (of_encoder f) x };
 
@@ -85,7 +85,7 @@ impl From<EncoderFault> for RefusedMessage {
 }
 
 impl From<RefusedParts> for RefusedMessage {
-    ghost use Rattle.wc_calls.specs.Private.RefusedMessages.{IsOfRefusal};
+    ghost use Rattle.wc_calls.specs.Private.RefusedMessage.{IsOfRefusal};
 
     ghost from_gives = { λ e x. IsOfRefusal e.refusal x };
 

@@ -3,7 +3,7 @@
 ghost use Rattle.std.specs.Prelude.{◌≡◌, ◌++◌, OnOk, IfOk};
 ghost use Rattle.std.specs.List.{flat_map};
 ghost use Rattle.wc_write.specs.Text.{number_text, name_text};
-ghost use Rattle.wc_dedupe.specs.Renames.{rename_value, rename_values};
+ghost use Rattle.wc_dedupe.specs.Renames.{rename_view, rename_values};
 ghost use Rattle.wc_calls.specs.Renames.{rename_text, renames_text};
 
 use std::alloc::{AllocError, Global};
@@ -37,7 +37,7 @@ fn put_renames(out: &mut Vec<u8>, renames: &[Rename]) -> Result<(), AllocError>
 /// Appends a rename.
 fn put_rename(out: &mut Vec<u8>, rename: &Rename) -> Result<(), AllocError>
     ensures { OnOk result (out.new.items
-        ≡ out.old.items ++ rename_text (rename_value rename.now)) }
+        ≡ out.old.items ++ rename_text (rename_view rename.now)) }
 {
     put_name(out, rename.module.as_str())?;
     put_name(out, rename.original.as_str())?;

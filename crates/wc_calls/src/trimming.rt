@@ -3,7 +3,7 @@
 ghost use Rattle.std.specs.Prelude.{◌≡◌, ◌≢◌, ◌<◌, ◌≤◌, ◌⊎◌, [], false, length, IfOk, IfErr};
 ghost use Rattle.std.specs.List.{All};
 ghost use Rattle.std.specs.Str.{IsUtf8};
-ghost use Rattle.wc_gc.specs.Liveness.{trim_input, trim_input_for_names};
+ghost use Rattle.wc_gc.specs.LiveItems.{trim_input, trim_input_for_names};
 ghost use Rattle.wc_gc.specs.Parts.{settings};
 ghost use Rattle.wc_gc.specs.TrimmedText.{IsTrimmed};
 ghost use Rattle.wc_calls.specs.Answers.{AreOthersOfTextZero, IsBytesStatus, IsFront, IsPut, IsTooLong, done, failed, too_small, same, bad_argument, out_of_memory};

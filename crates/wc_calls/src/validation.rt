@@ -6,7 +6,7 @@ ghost use Rattle.std.specs.Option.{option_map};
 ghost use Rattle.std.specs.Str.{bytes_eq};
 ghost use Rattle.wc_adapters.specs.Adapters.{adapter_view};
 ghost use Rattle.wc_validate.specs.Imports.Map.{required_entry, required_in};
-ghost use Rattle.wc_validate.specs.Validated.{IsValidateCause, module_record};
+ghost use Rattle.wc_validate.specs.Validate.{IsValidateCause, module_record};
 ghost use Rattle.wc_world.specs.Places.{IsIn};
 ghost use Rattle.wc_world.specs.World.{IsMainRecord};
 ghost use Rattle.wc_calls.specs.Answers.{AreOthersOfFaultZero, AreOthersOfTextZero, IsCheckStatus, IsModuleStatus, bad_argument, done, failed, out_of_memory, same, too_small};

@@ -9,7 +9,7 @@ use Rattle.wc_dedupe.specs.Renaming.{ImportName, name_with_number, IsGiven, IsLe
 none_in_nil : (x : ImportName) → Contains [] x → ⊥
 none_in_nil x c = absurd (omega (arith, c.1))
 
-Contains-cons_cases : (n : ImportName) (ns : List ImportName) (x : ImportName) → Contains (n ∷ ns) x → (n ≡ x) ⊎ Contains ns x
+pub Contains-cons_cases : (n : ImportName) (ns : List ImportName) (x : ImportName) → Contains (n ∷ ns) x → (n ≡ x) ⊎ Contains ns x
 Contains-cons_cases n ns x c =
     elim (Contains-append_cases (n ∷ []) ns x c) [
       | inl first ↦ elim (Contains-push_cases [] n x first) [ inl none ↦ absurd (none_in_nil x none) | inr same ↦ inl same ]

@@ -1,12 +1,11 @@
+pub mod NamePositionLemmas
+pub mod OrderLemmas
 pub mod DistinctLemmas
-pub mod DistinctImportsLemmas
-pub mod ModulesLemmas
 pub mod RenamedLemmas
 pub mod NumberedLemmas
 pub mod OriginalNameLemmas
-pub mod RenamesLemmas
+pub mod GivenLemmas
 pub mod RenameAllLemmas
-pub mod ByModuleLemmas
 pub mod WriteSectionsLemmas
 pub mod ParsedSectionsLemmas
 pub mod DedupeLemmas

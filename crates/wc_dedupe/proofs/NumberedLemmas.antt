@@ -1,18 +1,62 @@
--- An original name has as many names with numbers as there are numbers, so some number is free.
-use Rattle.std.proofs.Common.{◌≡◌, ℕ, zero, suc, ◌+◌, ◌^◌, ◌<◌, ◌≤◌, ◌||◌, true, false, List, [], ◌∷◌, ◌++◌, length, codes, refl, sym, ap, subst, arith}
+-- Names with numbers: each is of one name and one number, and of an original name there are as many as there are numbers,
+-- so some number is free.
+use Rattle.std.proofs.Common.{◌≡◌, ◌≢◌, ℕ, zero, suc, ◌+◌, ◌%◌, ◌^◌, ◌<◌, ◌≤◌, ◌||◌, Bool, true, false, cond, Some, inl, inr, List, [], ◌∷◌, ◌++◌, length, map, codes, append_assoc, refl, sym, ap, ◌∙◌, subst, arith}
 use Rattle.std.specs.Fmt.{decimal}
 use Rattle.std.specs.Option.{IsSome}
-use Rattle.std.specs.List.{All, IsDistinct, list_any}
+use Rattle.std.specs.List.{All, Contains, IsDistinct, list_any}
 use Rattle.std.specs.Map.{lookup}
 use Rattle.std.specs.Str.{bytes_eq}
 use Rattle.std.proofs.lemmas.Cmp.{nat_list_eq_equiv}
-use Rattle.std.proofs.lemmas.Fmt.{decimal_injective}
-use Rattle.std.proofs.lemmas.List.{append_cancel_left, append_cancel_right}
+use Rattle.std.proofs.lemmas.Fmt.{decimal_injective, decimal_by_steps}
+use Rattle.std.proofs.lemmas.List.{append_cancel_left, append_cancel_right, length-map}
 use Rattle.std.proofs.lemmas.List.Elements.{All-nil, All-cons, recursion_from_All}
 use Rattle.std.proofs.lemmas.Map.Steps.{length-le_from_keys}
 use Rattle.std.proofs.lemmas.Slice.Eq.{bytes_eq-Decides}
 use Rattle.std.proofs.lemmas.Bool.{false_from_ne_true, false≢true}
-use Rattle.wc_dedupe.specs.Renaming.{name_with_number}
+use Rattle.wc_dedupe.specs.Renaming.{ImportName, name_with_number}
+use Rattle.wc_dedupe.specs.Private.Numbers.{numbered}
+use Rattle.wc_dedupe.proofs.DistinctLemmas.{Contains-cons_cases}
+
+-- a list is cut in one way at the last element of a kind
+
+abbrev Without : ℕ → List ℕ → Type 0
+Without c [] = Unit {0}
+Without c (d ∷ ds) = (d ≢ c) × Without c ds
+
+without_append : (c : ℕ) (xs ys : List ℕ) → Without c xs → Without c ys → Without c (xs ++ ys)
+without_append c [] ys p q = q
+without_append c (x ∷ xs) ys p q = (p.0, without_append c xs ys p.1 q)
+
+without_not : (c : ℕ) (xs ys : List ℕ) → Without c (xs ++ c ∷ ys) → ⊥
+without_not c [] ys p = p.0 refl
+without_not c (x ∷ xs) ys p = without_not c xs ys p.1
+
+last_cut : (c : ℕ) (xs ys ds es : List ℕ) → Without c ds → Without c es → xs ++ c ∷ ds ≡ ys ++ c ∷ es → (xs ≡ ys) × (ds ≡ es)
+last_cut c [] [] ds es p q e = (refl, (let rest : ds ≡ es = cc in rest))
+last_cut c [] (y ∷ ys) ds es p q e = let rest : ds ≡ ys ++ c ∷ es = cc in absurd (without_not c ys es (subst (Without c) rest p))
+last_cut c (x ∷ xs) [] ds es p q e = let rest : es ≡ xs ++ c ∷ ds = cc in absurd (without_not c xs ds (subst (Without c) rest q))
+last_cut c (x ∷ xs) (y ∷ ys) ds es p q e =
+    let head : x ≡ y = cc in
+    let rest : xs ++ c ∷ ds ≡ ys ++ c ∷ es = cc in
+    let cut = last_cut c xs ys ds es p q rest in
+    (ap (λ (z : ℕ). z ∷ xs) head ∙ ap (λ (zs : List ℕ). y ∷ zs) cut.0, cut.1)
+
+digits_without : (n : ℕ) → n < 2 ^ 64 → Without 118 (decimal n)
+digits_without =
+    decimal_by_steps (λ (n : ℕ) (ds : List ℕ). Without 118 ds)
+    (λ n small. (λ e. absurd (omega (arith, e, small)), tt))
+    (λ n ds large ih. without_append 118 ds ((48 + n % 10) ∷ []) ih (λ e. absurd (omega (arith, e)), tt))
+
+number_without : (n : ℕ) → n < 2 ^ 64 → Without 118 (decimal n ++ codes "]")
+number_without n small = without_append 118 (decimal n) (codes "]") (digits_without n small) (λ e. absurd (omega (arith, e)), tt)
+
+-- what name a name with a number is of, and with which number
+pub unnumbered : (a b : List ℕ) (j k : ℕ) → j < 2 ^ 64 → k < 2 ^ 64 → name_with_number a j ≡ name_with_number b k → (a ≡ b) × (j ≡ k)
+unnumbered a b j k small little e =
+    let left : name_with_number a j ≡ (a ++ codes " [") ++ 118 ∷ (decimal j ++ codes "]") = sym (append_assoc a (codes " [") (118 ∷ (decimal j ++ codes "]"))) in
+    let right : name_with_number b k ≡ (b ++ codes " [") ++ 118 ∷ (decimal k ++ codes "]") = sym (append_assoc b (codes " [") (118 ∷ (decimal k ++ codes "]"))) in
+    let cut = last_cut 118 (a ++ codes " [") (b ++ codes " [") (decimal j ++ codes "]") (decimal k ++ codes "]") (number_without j small) (number_without k little) (sym left ∙ e ∙ right) in
+    (append_cancel_right a b (codes " [") cut.0, decimal_injective j k small little (append_cancel_right (decimal j) (decimal k) (codes "]") cut.1))
 
 pub name_with_number_injective : (s : List ℕ) (j k : ℕ) → j < 2 ^ 64 → k < 2 ^ 64 → name_with_number s j ≡ name_with_number s k → j ≡ k
 name_with_number_injective s j k a b e =
@@ -57,3 +101,25 @@ pub no_room : {X : Type 0} (es : List (List ℕ × X)) (s : List ℕ) (n : ℕ) 
 no_room es s n small h given =
     let le = length-le_from_keys nat_list_eq_equiv (candidates s n) es (candidates_distinct s n small) (candidates_found (λ q. IsSome (lookup (bytes_eq q) es)) s n given) in
     omega (arith, le, length-candidates s n)
+
+abbrev name_pair : ImportName → List ℕ × List ℕ
+name_pair x = (x.name, x.module_name)
+
+listed : (given : List ImportName) (m q : List ℕ) → Contains given (record { module_name = m; name = q }) → IsSome (lookup (bytes_eq q) (map name_pair given))
+listed [] m q c = absurd (omega (arith, c.1))
+listed (x ∷ xs) m q c =
+    elim (Contains-cons_cases x xs (record { module_name = m; name = q }) c) [
+      | inl same ↦ let is : q ≡ x.name = sym (ap (λ (n : ImportName). n.name) same) in rw ((bytes_eq-Decides q x.name).1 is) refl
+      | inr later ↦ some (bytes_eq q x.name) (listed xs m q later)
+    ]
+  where
+    some : (b : Bool) → IsSome (lookup (bytes_eq q) (map name_pair xs)) → IsSome (cond b (Some x.module_name) (lookup (bytes_eq q) (map name_pair xs)))
+    some true h = refl
+    some false h = h
+
+-- a name has no more names with numbers that are given than names are given
+pub some_number_free : (given : List ImportName) (x : ImportName) (count : ℕ) → length given ≡ count → count + 3 < 2 ^ 64 → ((k : ℕ) → 2 ≤ k → k < count + 3 → Contains given (numbered x k)) → ⊥
+some_number_free given x count e small all =
+    let long : length (map name_pair given) ≡ length given = length-map given name_pair in
+    no_room (map name_pair given) x.name (count + 1) (omega arith) (omega (arith, e, long))
+    (λ k a b. listed given x.module_name (name_with_number x.name k) (all k a (omega arith)))

@@ -4,11 +4,11 @@ use Rattle.std.specs.List.{Contains, AllZip}
 use Rattle.std.specs.Str.{bytes_eq}
 use Rattle.std.proofs.lemmas.Bool.{cases_Bool, false_from_ne_true, true≢false}
 use Rattle.std.proofs.lemmas.Slice.Eq.{bytes_eq-Decides}
-use Rattle.wc_dedupe.specs.Renaming.{ImportName, RenameValue, Renamed, renames_of, is_rename_to, original_in}
+use Rattle.wc_dedupe.specs.Renaming.{ImportName, RenameView, Renamed, renames_of, is_rename_to, original_in}
 use Rattle.wc_dedupe.proofs.DistinctLemmas.{Contains-here, Contains-later, names_are_distinct}
 
 -- where no rename of the first list is to the name, it is looked for in the second
-original_in-append : (front back : List RenameValue) (m n : List ℕ) → original_in front m n ≡ None → original_in (front ++ back) m n ≡ original_in back m n
+original_in-append : (front back : List RenameView) (m n : List ℕ) → original_in front m n ≡ None → original_in (front ++ back) m n ≡ original_in back m n
 original_in-append [] back m n e = refl
 original_in-append (r ∷ front) back m n e =
     elim (is_rename_to m n r) as (λ b. cond b (Some r.original) (original_in front m n) ≡ None → cond b (Some r.original) (original_in (front ++ back) m n) ≡ original_in back m n)
@@ -41,11 +41,11 @@ not_found given (s ∷ ss) (n ∷ ns) r x absent =
     [ true ↦ rest | false ↦ rw other rest ]
 
 -- what is in the list of renames for the name n of the original name s
-abbrev pub HasOriginal : List RenameValue → ImportName → ImportName → Type 0
+abbrev pub HasOriginal : List RenameView → ImportName → ImportName → Type 0
 HasOriginal rs s n = original_in rs n.module_name n.name ≡ cond (bytes_eq s.name n.name) None (Some s.name)
 
 -- after renames to none of the names
-originals_after : (front : List RenameValue) (given ss ns : List ImportName) → Renamed given ss ns → ((x : ImportName) → Contains ns x → original_in front x.module_name x.name ≡ None)
+originals_after : (front : List RenameView) (given ss ns : List ImportName) → Renamed given ss ns → ((x : ImportName) → Contains ns x → original_in front x.module_name x.name ≡ None)
     → AllZip (HasOriginal (front ++ renames_of ss ns)) ss ns
 originals_after front given [] [] r none = tt
 originals_after front given [] (n ∷ ns) r none = cc
@@ -55,19 +55,19 @@ originals_after front given (s ∷ ss) (n ∷ ns) r none =
       | inl same ↦
           let listed : renames_of (s ∷ ss) (n ∷ ns) ≡ renames_of ss ns = rw same refl in
           let first : HasOriginal (front ++ renames_of ss ns) s n = rw same (original_in-append front (renames_of ss ns) n.module_name n.name (none n (Contains-here n ns)) ∙ not_found (given ++ n ∷ []) ss ns r.1 n again) in
-          subst (λ (rs : List RenameValue). AllZip (HasOriginal (front ++ rs)) (s ∷ ss) (n ∷ ns)) (sym listed)
+          subst (λ (rs : List RenameView). AllZip (HasOriginal (front ++ rs)) (s ∷ ss) (n ∷ ns)) (sym listed)
           (first, originals_after front (given ++ n ∷ []) ss ns r.1 (λ x there. none x (Contains-later n ns x there)))
       | inr differs ↦
           let listed : renames_of (s ∷ ss) (n ∷ ns) ≡ here ∷ renames_of ss ns = rw differs refl in
           let first : HasOriginal (front ++ here ∷ renames_of ss ns) s n = rw differs (original_in-append front (here ∷ renames_of ss ns) n.module_name n.name (none n (Contains-here n ns)) ∙ rw (is_rename_to_itself s n r.0.0) refl) in
-          subst (λ (rs : List RenameValue). AllZip (HasOriginal (front ++ rs)) (s ∷ ss) (n ∷ ns)) (sym listed) (
+          subst (λ (rs : List RenameView). AllZip (HasOriginal (front ++ rs)) (s ∷ ss) (n ∷ ns)) (sym listed) (
             first,
-            subst (λ (rs : List RenameValue). AllZip (HasOriginal rs) ss ns) (append_assoc front (here ∷ []) (renames_of ss ns))
+            subst (λ (rs : List RenameView). AllZip (HasOriginal rs) ss ns) (append_assoc front (here ∷ []) (renames_of ss ns))
                 (originals_after (front ++ here ∷ []) (given ++ n ∷ []) ss ns r.1 (λ x there. original_in-append front (here ∷ []) x.module_name x.name (none x (Contains-later n ns x there)) ∙ rw (another x there) refl)),
           )
     ]
   where
-    here : RenameValue
+    here : RenameView
     here = record { module_name = s.module_name; original = s.name; name = n.name }
 
     again : Contains ns n → ⊥

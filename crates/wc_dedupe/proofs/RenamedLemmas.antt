@@ -8,7 +8,7 @@ use Rattle.std.proofs.lemmas.Slice.Eq.{bytes_eq-Decides}
 use Rattle.wc_read.specs.Imports.{ImportValue, import_value, import_values}
 use Rattle.wc_read.specs.declared.types.Import.{Import}
 use Rattle.std.proofs.lemmas.List.{length-map, length-take-le, map-append, take_more}
-use Rattle.wc_dedupe.specs.Renaming.{ImportName, RenameValue, name_with_number, NamesOne, Renamed, renames_of, renamed_name, renamed_names, renamed_import, renamed_imports, originals}
+use Rattle.wc_dedupe.specs.Renaming.{ImportName, RenameView, name_with_number, NamesOne, Renamed, renames_of, renamed_name, renamed_names, renamed_import, renamed_imports, originals}
 
 -- a number makes a name longer
 pub bytes_eq-name_with_number : (s : List ℕ) (n : ℕ) → bytes_eq s (name_with_number s n) ≡ false
@@ -40,10 +40,10 @@ renames_of_push (t ∷ ss) (x ∷ ns) s n e =
     (elim (bytes_eq t.name x.name) as (λ b. cond b (renames_of ss ns ++ last) (first ∷ (renames_of ss ns ++ last)) ≡ cond b (renames_of ss ns) (first ∷ renames_of ss ns) ++ last)
     [ true ↦ refl | false ↦ refl ])
   where
-    first : RenameValue
+    first : RenameView
     first = record { module_name = t.module_name; original = t.name; name = x.name }
 
-    last : List RenameValue
+    last : List RenameView
     last = cond (bytes_eq s.name n.name) [] ((record { module_name = s.module_name; original = s.name; name = n.name }) ∷ [])
 
 -- each index is below n
@@ -77,20 +77,20 @@ slice_get_end [] y = refl
 slice_get_end (x ∷ xs) y = slice_get_end xs y
 
 -- a rename at the end changes no name whose index is before it
-pub renamed_names_more : (rs : List RenameValue) (r : RenameValue) (ss : List ImportName) (ps : List (Option ℕ)) → Within ps (length rs) → renamed_names (rs ++ r ∷ []) ss ps ≡ renamed_names rs ss ps
+pub renamed_names_more : (rs : List RenameView) (r : RenameView) (ss : List ImportName) (ps : List (Option ℕ)) → Within ps (length rs) → renamed_names (rs ++ r ∷ []) ss ps ≡ renamed_names rs ss ps
 renamed_names_more rs r [] ps w = refl
 renamed_names_more rs r (s ∷ ss) [] w = refl
 renamed_names_more rs r (s ∷ ss) (None ∷ ps) w = ap (λ ns. (record { module_name = s.module_name; name = s.name }) ∷ ns) (renamed_names_more rs r ss ps w)
 renamed_names_more rs r (s ∷ ss) (Some k ∷ ps) w = rw (slice_get-append rs (r ∷ []) k w.0, renamed_names_more rs r ss ps w.1) refl
 
-pub renamed_names_push : (rs : List RenameValue) (ss : List ImportName) (ps : List (Option ℕ)) (s : ImportName) (p : Option ℕ) → length ps ≡ length ss
+pub renamed_names_push : (rs : List RenameView) (ss : List ImportName) (ps : List (Option ℕ)) (s : ImportName) (p : Option ℕ) → length ps ≡ length ss
     → renamed_names rs (ss ++ s ∷ []) (ps ++ p ∷ []) ≡ renamed_names rs ss ps ++ (record { module_name = s.module_name; name = renamed_name rs s.name p }) ∷ []
 renamed_names_push rs [] [] s p e = refl
 renamed_names_push rs [] (q ∷ ps) s p e = absurd (omega arith)
 renamed_names_push rs (t ∷ ss) [] s p e = absurd (omega arith)
 renamed_names_push rs (t ∷ ss) (q ∷ ps) s p e = ap (λ ns. (record { module_name = t.module_name; name = renamed_name rs t.name q }) ∷ ns) (renamed_names_push rs ss ps s p (omega arith))
 
-pub renamed_imports_push : (rs : List RenameValue) (is : List ImportValue) (ps : List (Option ℕ)) (i : ImportValue) (p : Option ℕ) → length ps ≡ length is
+pub renamed_imports_push : (rs : List RenameView) (is : List ImportValue) (ps : List (Option ℕ)) (i : ImportValue) (p : Option ℕ) → length ps ≡ length is
     → renamed_imports rs (is ++ i ∷ []) (ps ++ p ∷ []) ≡ renamed_imports rs is ps ++ renamed_import rs i p ∷ []
 renamed_imports_push rs [] [] i p e = refl
 renamed_imports_push rs [] (q ∷ ps) i p e = absurd (omega arith)
@@ -98,7 +98,7 @@ renamed_imports_push rs (j ∷ is) [] i p e = absurd (omega arith)
 renamed_imports_push rs (j ∷ is) (q ∷ ps) i p e = ap (λ xs. renamed_import rs j q ∷ xs) (renamed_imports_push rs is ps i p (omega arith))
 
 -- the loop's step: the import at i is next
-pub renamed_imports_more : (rs : List RenameValue) (is : List Import) (ps : List (Option ℕ)) (i : ℕ) (d : Import) (e : Option ℕ) → i < length is → length ps ≡ length is
+pub renamed_imports_more : (rs : List RenameView) (is : List Import) (ps : List (Option ℕ)) (i : ℕ) (d : Import) (e : Option ℕ) → i < length is → length ps ≡ length is
     → renamed_imports rs (import_values (take (i + 1) is)) (take (i + 1) ps) ≡ renamed_imports rs (import_values (take i is)) (take i ps) ++ renamed_import rs (import_value (get_or is i d)) (get_or ps i e) ∷ []
 renamed_imports_more rs is ps i d e h same =
     let there : i < length ps = omega arith in
@@ -107,7 +107,7 @@ renamed_imports_more rs is ps i d e h same =
     (renamed_imports_push rs (map import_value (take i is)) (take i ps) (import_value (get_or is i d)) (get_or ps i e) as_long)
 
 -- the names of imports under their new names
-pub originals-renamed_imports : (rs : List RenameValue) (is : List ImportValue) (ps : List (Option ℕ)) → originals (renamed_imports rs is ps) ≡ renamed_names rs (originals is) ps
+pub originals-renamed_imports : (rs : List RenameView) (is : List ImportValue) (ps : List (Option ℕ)) → originals (renamed_imports rs is ps) ≡ renamed_names rs (originals is) ps
 originals-renamed_imports rs [] ps = refl
 originals-renamed_imports rs (i ∷ is) [] = refl
 originals-renamed_imports rs (i ∷ is) (p ∷ ps) = ap (λ xs. (record { module_name = i.module_name; name = renamed_name rs i.name p }) ∷ xs) (originals-renamed_imports rs is ps)

@@ -10,24 +10,24 @@ use Rattle.wc_read.specs.Sections.{module_header}
 use Rattle.wc_read.specs.Imports.{import_value, import_values}
 use Rattle.wc_read.specs.declared.types.Import.{Import}
 use Rattle.wc_dedupe.specs.declared.parsed_sections.ParsedSection.{ParsedSection}
-use Rattle.wc_dedupe.specs.Renaming.{RenameValue}
+use Rattle.wc_dedupe.specs.Renaming.{RenameView}
 use Rattle.wc_dedupe.specs.ParsedSections.{ParsedSectionValue, parsed_section_value, imports_in, imports_of, import_count, renamed_section, renamed_sections, parsed_section_text, parsed_module_text, Fits, IsTooLarge}
 
 -- parts were written up to here: what is after them, with the indices that are left, makes all parts
-pub record AreWritten (rs : List RenameValue) (parts : List ParsedSectionValue) (indices : List (Option ℕ)) (after : List ParsedSectionValue) (left : List (Option ℕ)) (out : List ℕ) : Type 0 where
+pub record AreWritten (rs : List RenameView) (parts : List ParsedSectionValue) (indices : List (Option ℕ)) (after : List ParsedSectionValue) (left : List (Option ℕ)) (out : List ℕ) : Type 0 where
   pub front : List ParsedSectionValue
   pub cut : renamed_sections rs parts indices ≡ front ++ renamed_sections rs after left
   pub written : out ≡ parsed_module_text front
   pub fits : All Fits front
   pub enough : length left ≡ length (imports_of after)
 
-pub written_start : (rs : List RenameValue) (parts : List ParsedSectionValue) (indices : List (Option ℕ)) → length indices ≡ length (imports_of parts) → AreWritten rs parts indices parts indices module_header
+pub written_start : (rs : List RenameView) (parts : List ParsedSectionValue) (indices : List (Option ℕ)) → length indices ≡ length (imports_of parts) → AreWritten rs parts indices parts indices module_header
 written_start rs parts indices enough = record { front = []; cut = refl; written = sym (append-nil module_header); fits = λ k d lt. absurd (omega (arith, lt)); enough = enough }
 
-pub written_room : (rs : List RenameValue) (parts : List ParsedSectionValue) (indices : List (Option ℕ)) (p : ParsedSectionValue) (after : List ParsedSectionValue) (left : List (Option ℕ)) (out : List ℕ) → AreWritten rs parts indices (p ∷ after) left out → import_count p ≤ length left
+pub written_room : (rs : List RenameView) (parts : List ParsedSectionValue) (indices : List (Option ℕ)) (p : ParsedSectionValue) (after : List ParsedSectionValue) (left : List (Option ℕ)) (out : List ℕ) → AreWritten rs parts indices (p ∷ after) left out → import_count p ≤ length left
 written_room rs parts indices p after left out w = omega (arith, w.enough, length-append (imports_in p) (imports_of after))
 
-pub written_more : (rs : List RenameValue) (parts : List ParsedSectionValue) (indices : List (Option ℕ)) (p : ParsedSectionValue) (after : List ParsedSectionValue) (left : List (Option ℕ)) (out more : List ℕ) → AreWritten rs parts indices (p ∷ after) left out → more ≡ out ++ parsed_section_text (renamed_section rs p (take (import_count p) left)) → Fits (renamed_section rs p (take (import_count p) left)) → AreWritten rs parts indices after (drop (import_count p) left) more
+pub written_more : (rs : List RenameView) (parts : List ParsedSectionValue) (indices : List (Option ℕ)) (p : ParsedSectionValue) (after : List ParsedSectionValue) (left : List (Option ℕ)) (out more : List ℕ) → AreWritten rs parts indices (p ∷ after) left out → more ≡ out ++ parsed_section_text (renamed_section rs p (take (import_count p) left)) → Fits (renamed_section rs p (take (import_count p) left)) → AreWritten rs parts indices after (drop (import_count p) left) more
 written_more rs parts indices p after left out more w e fit =
     let q = renamed_section rs p (take (import_count p) left) in
     record {
@@ -38,11 +38,11 @@ written_more rs parts indices p after left out more w e fit =
       enough = rw length-drop (omega (arith, w.enough, length-append (imports_in p) (imports_of after)));
     }
 
-pub written_end : (rs : List RenameValue) (parts : List ParsedSectionValue) (indices left : List (Option ℕ)) (out : List ℕ) → AreWritten rs parts indices [] left out → out ≡ parsed_module_text (renamed_sections rs parts indices)
+pub written_end : (rs : List RenameView) (parts : List ParsedSectionValue) (indices left : List (Option ℕ)) (out : List ℕ) → AreWritten rs parts indices [] left out → out ≡ parsed_module_text (renamed_sections rs parts indices)
 written_end rs parts indices left out w = w.written ∙ ap parsed_module_text (sym (w.cut ∙ append-nil w.front))
 
 -- a part that is too large is one of all parts
-pub written_too_large : (rs : List RenameValue) (parts : List ParsedSectionValue) (indices : List (Option ℕ)) (p : ParsedSectionValue) (after : List ParsedSectionValue) (left : List (Option ℕ)) (out : List ℕ) → AreWritten rs parts indices (p ∷ after) left out → IsTooLarge (renamed_section rs p (take (import_count p) left)) → Any IsTooLarge (renamed_sections rs parts indices)
+pub written_too_large : (rs : List RenameView) (parts : List ParsedSectionValue) (indices : List (Option ℕ)) (p : ParsedSectionValue) (after : List ParsedSectionValue) (left : List (Option ℕ)) (out : List ℕ) → AreWritten rs parts indices (p ∷ after) left out → IsTooLarge (renamed_section rs p (take (import_count p) left)) → Any IsTooLarge (renamed_sections rs parts indices)
 written_too_large rs parts indices p after left out w large =
     let q = renamed_section rs p (take (import_count p) left) in
     let others = renamed_sections rs after (drop (import_count p) left) in
@@ -60,5 +60,5 @@ count_is imports p e = sym (length-map imports import_value) ∙ ap length e
 pub err_of : {T U E : Type 0} (a b : E) → ◌≡◌ {A = Result T E} (Err a) (Err b) → ◌≡◌ {A = Result U E} (Err a) (Err b)
 err_of a b e = let same : a ≡ b = cc in ap Err same
 
-pub written_fits : (rs : List RenameValue) (parts : List ParsedSectionValue) (indices left : List (Option ℕ)) (out : List ℕ) → AreWritten rs parts indices [] left out → All Fits (renamed_sections rs parts indices)
+pub written_fits : (rs : List RenameView) (parts : List ParsedSectionValue) (indices left : List (Option ℕ)) (out : List ℕ) → AreWritten rs parts indices [] left out → All Fits (renamed_sections rs parts indices)
 written_fits rs parts indices left out w = subst (λ (ps : List ParsedSectionValue). All Fits ps) (sym (w.cut ∙ append-nil w.front)) w.fits

@@ -1,9 +1,7 @@
-pub mod NamesInModules
 pub mod Renaming
-pub mod Modules
 pub mod Renames
 pub mod Laws
 pub mod ParsedSections
 pub mod Dedupe
-pub mod Faults
+pub mod Fault
 pub mod Private

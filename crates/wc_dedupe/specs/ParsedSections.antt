@@ -5,7 +5,7 @@ use Rattle.wc_read.specs.Formats.{Format}
 use Rattle.wc_read.specs.Imports.{ImportValue, import_values, SpellsImports}
 use Rattle.wc_read.specs.Sections.{SectionValue, section_value, SpellsFrames, module_header}
 use Rattle.wc_write.specs.Text.{imports_text, section_text}
-use Rattle.wc_dedupe.specs.Renaming.{RenameValue, renamed_imports}
+use Rattle.wc_dedupe.specs.Renaming.{RenameView, renamed_imports}
 use Rattle.wc_dedupe.specs.declared.parsed_sections.ParsedSection.{ParsedSection}
 use Rattle.wc_dedupe.specs.declared.parsed_sections.ParsedSection.TheVariants.{Imports, Other}
 
@@ -91,13 +91,13 @@ KeepAllButNames (p ∷ ps) [] = ⊥
 KeepAllButNames (p ∷ ps) (q ∷ qs) = KeepsAllButNames p q × KeepAllButNames ps qs
 
 -- parts whose imports have their new names, by the indices of their renames
-abbrev pub renamed_section : List RenameValue → ParsedSectionValue → List (Option ℕ) → ParsedSectionValue
+abbrev pub renamed_section : List RenameView → ParsedSectionValue → List (Option ℕ) → ParsedSectionValue
 renamed_section rs (import_section is) indices = import_section (renamed_imports rs is indices)
 renamed_section rs (other_section s) indices = other_section s
 
 abbrev pub import_count : ParsedSectionValue → ℕ
 import_count p = length (imports_in p)
 
-abbrev pub renamed_sections : List RenameValue → List ParsedSectionValue → List (Option ℕ) → List ParsedSectionValue
+abbrev pub renamed_sections : List RenameView → List ParsedSectionValue → List (Option ℕ) → List ParsedSectionValue
 renamed_sections rs [] indices = []
 renamed_sections rs (p ∷ ps) indices = renamed_section rs p (take (import_count p) indices) ∷ renamed_sections rs ps (drop (import_count p) indices)

@@ -1,3 +1,4 @@
 -- Words of contracts of private functions. No contract of a public function cites these, directly or through others.
-pub mod Next
-pub mod Texts
+pub mod Numbers
+pub mod RenameOrder
+pub mod NamePositions

@@ -49,49 +49,49 @@ Renamed given (s ∷ ss) [] = ⊥
 Renamed given (s ∷ ss) (n ∷ ns) = NamesOne given s n × Renamed (given ++ n ∷ []) ss ns
 
 -- a renamed import: its module, its original name and its name now
-pub record RenameValue : Type 0 where
+pub record RenameView : Type 0 where
   pub module_name : List ℕ
   pub original : List ℕ
   pub name : List ℕ
 
 -- the imports whose name differs from their original name, in order
-abbrev pub renames_of : List ImportName → List ImportName → List RenameValue
+abbrev pub renames_of : List ImportName → List ImportName → List RenameView
 renames_of [] ns = []
 renames_of (s ∷ ss) [] = []
 renames_of (s ∷ ss) (n ∷ ns) =
     cond (bytes_eq s.name n.name) (renames_of ss ns) ((record { module_name = s.module_name; original = s.name; name = n.name }) ∷ renames_of ss ns)
 
 -- whether this is a rename to this name in this module
-abbrev pub is_rename_to : List ℕ → List ℕ → RenameValue → Bool
+abbrev pub is_rename_to : List ℕ → List ℕ → RenameView → Bool
 is_rename_to m n r = bytes_eq r.module_name m && bytes_eq r.name n
 
 -- the original name of the import of this name, where it was renamed
-abbrev pub original_in : List RenameValue → List ℕ → List ℕ → Option (List ℕ)
+abbrev pub original_in : List RenameView → List ℕ → List ℕ → Option (List ℕ)
 original_in [] m n = None
 original_in (r ∷ rs) m n = cond (is_rename_to m n r) (Some r.original) (original_in rs m n)
 
 -- the name that an import has, by the index of its rename
-abbrev pub renamed_name : List RenameValue → List ℕ → Option ℕ → List ℕ
-renamed_name rs original index = option_map_or (λ (r : RenameValue). r.name) (option_and_then (slice_get rs) index) original
+abbrev pub renamed_name : List RenameView → List ℕ → Option ℕ → List ℕ
+renamed_name rs original index = option_map_or (λ (r : RenameView). r.name) (option_and_then (slice_get rs) index) original
 
 -- the names that imports have, by the indices of their renames
-abbrev pub renamed_names : List RenameValue → List ImportName → List (Option ℕ) → List ImportName
+abbrev pub renamed_names : List RenameView → List ImportName → List (Option ℕ) → List ImportName
 renamed_names rs [] ps = []
 renamed_names rs (s ∷ ss) [] = []
 renamed_names rs (s ∷ ss) (p ∷ ps) = (record { module_name = s.module_name; name = renamed_name rs s.name p }) ∷ renamed_names rs ss ps
 
 -- the imports with the names that they have, by the indices of their renames
-abbrev pub renamed_import : List RenameValue → ImportValue → Option ℕ → ImportValue
+abbrev pub renamed_import : List RenameView → ImportValue → Option ℕ → ImportValue
 renamed_import rs i p = record { module_name = i.module_name; name = renamed_name rs i.name p; ty = i.ty }
 
-abbrev pub renamed_imports : List RenameValue → List ImportValue → List (Option ℕ) → List ImportValue
+abbrev pub renamed_imports : List RenameView → List ImportValue → List (Option ℕ) → List ImportValue
 renamed_imports rs [] ps = []
 renamed_imports rs (i ∷ is) [] = []
 renamed_imports rs (i ∷ is) (p ∷ ps) = renamed_import rs i p ∷ renamed_imports rs is ps
 
--- the renaming of a list of imports: the names are renamed from the original names, and the renames are the imports
+-- the renaming of imports of these names: the names are renamed from the original names, and the renames are the imports
 -- whose names differ
-pub record IsRenaming (imports : List ImportValue) (indices : List (Option ℕ)) (renames : List RenameValue) : Type 0 where
-  pub as_long : length indices ≡ length imports
-  pub renamed : Renamed [] (originals imports) (renamed_names renames (originals imports) indices)
-  pub listed : renames ≡ renames_of (originals imports) (renamed_names renames (originals imports) indices)
+pub record IsRenaming (names : List ImportName) (indices : List (Option ℕ)) (renames : List RenameView) : Type 0 where
+  pub as_long : length indices ≡ length names
+  pub renamed : Renamed [] names (renamed_names renames names indices)
+  pub listed : renames ≡ renames_of names (renamed_names renames names indices)

@@ -1,15 +1,16 @@
 //! From a module's bytes to the bytes of a module in which no two imports share a module and a name.
 
-ghost use Rattle.std.specs.Prelude.{◌≡◌, ◌≢◌, List, [], IfOk, IfErr, IfSome, IsNone, Ok, None};
+ghost use Rattle.std.specs.Prelude.{◌≡◌, ◌≢◌, [], IfOk, IfErr, IfSome, IsNone, Ok, None};
 ghost use Rattle.std.specs.Cow.{cow_slice_items};
 ghost use Rattle.wc_read.specs.Sections.{IsComponent};
 ghost use Rattle.wc_dedupe.specs.Dedupe.{IsDeduped, IsDedupeCause, renames_in};
+ghost use Rattle.wc_dedupe.specs.ParsedSections.{imports_of, parsed_values};
+ghost use Rattle.wc_dedupe.specs.Renaming.{originals, IsRenaming};
 
-use crate::distinct::have_distinct_names;
 use crate::fault::DedupeFault;
-use crate::parsed_sections::{all_imports, parse_module, write_sections};
-use crate::renaming::{ModuleImportMap, rename_all};
-use std::alloc::Global;
+use crate::parsed_sections::{ParsedSection, import_names, parse_module, write_sections};
+use crate::renaming::{ModuleImportMap, Renaming, rename_all};
+use std::alloc::{AllocError, Global};
 use std::borrow::CowSlice;
 use wc_read::ReadFault;
 
@@ -71,15 +72,20 @@ fn dedupe(alloc: Global, bytes: &[u8]) -> Result<Option<(Vec<u8>, ModuleImportMa
             _ => return Err(DedupeFault::from(fault)),
         },
     };
-    let imports = all_imports(alloc, &parts)?;
-    if have_distinct_names(alloc, &imports)? {
-        return Ok(None);
-    }
-    let renaming = rename_all(alloc, &imports)?;
+    let renaming = renaming_of(alloc, &parts)?;
     let renames = renaming.map.renames();
     if renames.is_empty() {
         return Ok(None);
     }
     let written = write_sections(alloc, bytes.len(), &parts, &renaming.indices, renames)?;
     Ok(Some((written, renaming.map)))
+}
+
+/// The renaming of the imports of all import sections.
+fn renaming_of(alloc: Global, parts: &[ParsedSection<'_>]) -> Result<Renaming, AllocError>
+    ensures { IfOk result (λ r. IsRenaming
+        (originals (imports_of (parsed_values parts.now))) r.indices.items r.map) }
+{
+    let names = import_names(alloc, parts)?;
+    rename_all(alloc, &names)
 }

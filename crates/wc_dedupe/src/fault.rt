@@ -39,7 +39,7 @@ impl<T: Drop> From<AllocFailed<T>> for DedupeFault {
 }
 
 impl From<ReadFault> for DedupeFault {
-    ghost use Rattle.wc_dedupe.specs.Faults.{of_read};
+    ghost use Rattle.wc_dedupe.specs.Fault.{of_read};
 
     ghost from_gives = { λ f e. e ≡ of_read f };
 
@@ -52,7 +52,7 @@ impl From<ReadFault> for DedupeFault {
 }
 
 impl From<WriteFault> for DedupeFault {
-    ghost use Rattle.wc_dedupe.specs.Faults.{of_write};
+    ghost use Rattle.wc_dedupe.specs.Fault.{of_write};
 
     ghost from_gives = { λ f e. e ≡ of_write f };
 

@@ -15,7 +15,7 @@
 //!     bytes: &[u8],
 //!     import: &Import<'_>,
 //! ) -> Result<Option<String>, DedupeFault>
-//!     ensures { IfOk result (λ name. (out : List ℕ) × (renames : List RenameValue)
+//!     ensures { IfOk result (λ name. (out : List ℕ) × (renames : List RenameView)
 //!         × IsDeduped bytes.now out renames
 //!         × (option_map string_bytes name
 //!         ≡ original_in renames import.now.module.now import.now.name.now)) }
@@ -35,11 +35,12 @@
 #![tactic(auto)]
 
 mod dedupe;
-mod distinct;
 mod fault;
 pub mod laws;
-mod names_in_modules;
+mod name_positions;
+mod numbers;
 mod parsed_sections;
+mod rename_order;
 mod renaming;
 
 pub use fault::DedupeFault;

@@ -1,9 +1,11 @@
 //! A module as its import sections, which are read, and all other sections, which are unchanged.
 
-ghost use Rattle.std.specs.Prelude.{◌≡◌, ◌≢◌, ◌↔◌, ◌++◌, ◌≤◌, ◌^◌, length, List, map, IfOk, IfErr, OnOk, IsOk, IsErrOf, All, Any};
+ghost use Rattle.std.specs.Prelude.{◌≡◌, ◌≢◌, ◌↔◌, ◌++◌, length, List, map, IfOk, IfErr, OnOk, IsOk, IsErrOf, All, Any};
 ghost use Rattle.wc_read.specs.Imports.{import_values};
 ghost use Rattle.wc_read.specs.Sections.{section_value, IsComponent};
+ghost use Rattle.wc_dedupe.specs.Private.NamePositions.{names_of};
 ghost use Rattle.wc_dedupe.specs.Renames.{rename_values};
+ghost use Rattle.wc_dedupe.specs.Renaming.{originals};
 ghost use Rattle.wc_dedupe.specs.ParsedSections.{ParsedSectionValue, parsed_section_value, parsed_values, SpellsParsedSection, AreSpelled, SpellsParsedSections, imports_in, imports_of, renamed_section, renamed_sections, parsed_section_text, parsed_module_text, import_count, Fits, IsTooLarge};
 
 use crate::renaming::{Rename, renamed_imports};
@@ -67,18 +69,32 @@ fn parse_section<'a>(alloc: Global, section: &Section<'a>) -> Result<ParsedSecti
     Ok(ParsedSection::Imports(imports))
 }
 
-/// The imports of all import sections, in order.
-pub fn all_imports<'a>(
+/// The modules and names of the imports of all import sections, in order.
+pub fn import_names<'a>(
     alloc: Global,
     parts: &[ParsedSection<'a>],
-) -> Result<Vec<Import<'a>>, AllocError>
-    ensures { IfOk result (λ v. import_values v.items ≡ imports_of (parsed_values parts.now)) }
+) -> Result<Vec<(&'a str, &'a str)>, AllocError>
+    ensures { IfOk result (λ v. names_of v.items ≡ originals (imports_of (parsed_values parts.now))) }
 {
-    let mut all = Vec::new(alloc);
+    let mut names = Vec::new(alloc);
     for part in parts {
-        all.extend_from_slice(imports_in(part))?;
+        push_names(&mut names, imports_in(part))?;
     }
-    Ok(all)
+    Ok(names)
+}
+
+/// Appends the modules and names of imports.
+fn push_names<'a>(
+    names: &mut Vec<(&'a str, &'a str)>,
+    imports: &[Import<'a>],
+) -> Result<(), AllocError>
+    ensures { OnOk result (names_of names.new.items
+        ≡ names_of names.old.items ++ originals (import_values imports.now)) }
+{
+    for import in imports {
+        names.push((import.module, import.name))?;
+    }
+    Ok(())
 }
 
 /// Writes the module of these parts. `indices` has for each import the index of its rename, or `None` where it

@@ -1,15 +1,17 @@
 //! The renaming of a list of imports, so that no two share a module and a name.
 
-ghost use Rattle.std.specs.Prelude.{◌≡◌, ℕ, false, List, IfOk, map, length};
+ghost use Rattle.std.specs.Prelude.{◌≡◌, IfOk, map, length, string_bytes};
 ghost use Rattle.std.specs.Option.{option_map};
-ghost use Rattle.std.specs.Str.{bytes_eq};
 ghost use Rattle.wc_read.specs.Imports.{import_value, import_values};
-ghost use Rattle.wc_dedupe.specs.Modules.{name_record_in};
-ghost use Rattle.wc_dedupe.specs.Private.Next.{RenamesImport};
-ghost use Rattle.wc_dedupe.specs.Renames.{rename_value, rename_values};
+ghost use Rattle.wc_dedupe.specs.Private.Numbers.{PushesRename};
+ghost use Rattle.wc_dedupe.specs.Private.RenameOrder.{LeadBack};
+ghost use Rattle.wc_dedupe.specs.Private.NamePositions.{named, names_of, Ascend, HavePositions};
+ghost use Rattle.wc_dedupe.specs.Renames.{rename_view, rename_values};
 ghost use Rattle.wc_dedupe.specs.Renaming.{original_in, renamed_import, renamed_imports, IsRenaming};
 
-use crate::names_in_modules::NamesInModules;
+use crate::name_positions::{NamePositions, name_positions};
+use crate::numbers::give;
+use crate::rename_order::{find, rename_order};
 use std::alloc::{AllocError, Global};
 use std::marker::Model;
 use wc_read::Import;
@@ -28,23 +30,23 @@ pub struct Rename {
 /// The original names of renamed imports.
 #[derive(Drop)]
 pub struct ModuleImportMap {
-    names: NamesInModules,
     renames: Vec<Rename>,
+    order: Vec<usize>,
 }
 
 impl Model for ModuleImportMap {
     ghost use Rattle.std.specs.Prelude.{List, map};
-    ghost use Rattle.wc_dedupe.specs.Renaming.{RenameValue};
+    ghost use Rattle.wc_dedupe.specs.Renaming.{RenameView};
 
-    ghost Value = { List RenameValue };
+    ghost Value = { List RenameView };
 
-    ghost use Rattle.wc_dedupe.specs.Renames.{rename_value, IsIndexed};
-    ghost use Rattle.wc_dedupe.specs.Modules.{name_record_in};
+    ghost use Rattle.wc_dedupe.specs.Renames.{rename_view};
+    ghost use Rattle.wc_dedupe.specs.Private.RenameOrder.{IsNameOrder, LeadBack};
 
-    ghost view = { λ a. map rename_value a.renames.items };
+    ghost view = { λ a. map rename_view a.renames.items };
 
-    ghost invariant = { λ a. IsIndexed (name_record_in a.names)
-        (map rename_value a.renames.items) };
+    ghost invariant = { λ a. IsNameOrder (map rename_view a.renames.items) a.order.items
+        × LeadBack (map rename_view a.renames.items) };
 }
 
 impl ModuleImportMap {
@@ -54,7 +56,7 @@ impl ModuleImportMap {
         ensures { option_map (λ s. s.now) result
             ≡ original_in self.now import.now.module.now import.now.name.now }
     {
-        match self.names.rename(import.module, import.name) {
+        match find(&self.renames, &self.order, import.module, import.name) {
             Some(index) => Some(self.renames[index].original.as_str()),
             None => None,
         }
@@ -62,7 +64,7 @@ impl ModuleImportMap {
 
     /// The renamed imports, in the order of the module's imports.
     pub fn renames(&self) -> &[Rename]
-        ensures { map rename_value result.now ≡ self.now }
+        ensures { map rename_view result.now ≡ self.now }
     {
         self.renames.as_slice()
     }
@@ -76,42 +78,59 @@ pub(crate) struct Renaming {
     pub(crate) indices: Vec<Option<usize>>,
 }
 
-/// Renames `imports` so that no two share a module and a name.
-pub(crate) fn rename_all(alloc: Global, imports: &[Import<'_>]) -> Result<Renaming, AllocError>
-    ensures { IfOk result (λ r. IsRenaming (import_values imports.now) r.indices.items r.map) }
+/// Renames imports of these names, so that no two share a module and a name.
+pub(crate) fn rename_all(alloc: Global, names: &[(&str, &str)]) -> Result<Renaming, AllocError>
+    ensures { IfOk result (λ r. IsRenaming (names_of names.now) r.indices.items r.map) }
 {
-    let mut names = NamesInModules::new(alloc);
-    let mut renames = Vec::new(alloc);
-    let mut indices = Vec::new(alloc);
-    for import in imports {
-        let index = rename_next(alloc, &mut names, &mut renames, import)?;
-        indices.push(index)?;
-    }
+    let known = name_positions(alloc, names)?;
+    let (renames, indices) = rename_each(alloc, names, &known)?;
+    let order = rename_order(alloc, &renames)?;
     Ok(Renaming {
-        map: ModuleImportMap { names, renames },
+        map: ModuleImportMap { renames, order },
         indices,
     })
 }
 
-/// Renames the next import, after those of `names`: the index of its rename, `None` where it keeps its name. After an
-/// error nothing is known of `renames`, nor of the names of the import's module.
-fn rename_next(
+/// The renames of imports of these names, whose positions are known, and for each import the index of its rename.
+fn rename_each(
     alloc: Global,
-    names: &mut NamesInModules,
-    renames: &mut Vec<Rename>,
-    import: &Import<'_>,
-) -> Result<Option<usize>, AllocError>
-    ensures elsewhere { (m : List ℕ) → bytes_eq import.now.module.now m ≡ false
-        → (n : List ℕ) → name_record_in names.new m n ≡ name_record_in names.old m n }
-    ensures here { IfOk result (RenamesImport names.old names.new
-        renames.old.items renames.new.items import.now) }
+    names: &[(&str, &str)],
+    known: &NamePositions<'_>,
+) -> Result<(Vec<Rename>, Vec<Option<usize>>), AllocError>
+    requires ascend { Ascend known.now.names.items }
+    requires positions { HavePositions (names_of names.now) (names_of known.now.names.items)
+        known.now.positions.items }
+    ensures { IfOk result (λ r. IsRenaming (names_of names.now) r.1.items (rename_values r.0.items)
+        × LeadBack (rename_values r.0.items)) }
 {
-    let index = renames.len();
-    let Some(name) = names.give(alloc, import.module, import.name, index)? else {
+    let mut numbers = vec![in alloc; 0; known.names.len()]?;
+    let mut renames = Vec::new(alloc);
+    let mut indices = Vec::with_capacity(alloc, names.len())?;
+    for (i, position) in known.positions.iter().enumerate() {
+        let name = give(alloc, &known.names, &mut numbers, *position, i)?;
+        let index = push_rename(alloc, &mut renames, &known.names[*position], name)?;
+        indices.push(index)?;
+    }
+    Ok((renames, indices))
+}
+
+/// Appends the rename of an import to its new name, where it has one, and answers the index of that rename.
+fn push_rename(
+    alloc: Global,
+    renames: &mut Vec<Rename>,
+    original: &(&str, &str),
+    name: Option<String>,
+) -> Result<Option<usize>, AllocError>
+    ensures { IfOk result (λ index. PushesRename (rename_values renames.old.items)
+        (rename_values renames.new.items) (named original.now)
+        (option_map string_bytes name) index) }
+{
+    let Some(name) = name else {
         return Ok(None);
     };
-    let module = String::from_str(alloc, import.module)?;
-    let original = String::from_str(alloc, import.name)?;
+    let module = String::from_str(alloc, original.0)?;
+    let original = String::from_str(alloc, original.1)?;
+    let index = renames.len();
     renames.push(Rename {
         module,
         original,

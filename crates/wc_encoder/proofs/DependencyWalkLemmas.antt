@@ -4,10 +4,10 @@ use Rattle.std.proofs.lemmas.List.{drop-map, drop_at}
 use Rattle.wc_resolve.specs.declared.worlds.WorldKey.{WorldKey}
 use Rattle.wc_resolve.specs.declared.worlds.WorldItem.{WorldItem}
 use Rattle.wc_resolve.specs.Views.{KeyView, ItemView, item_view, world_entry}
-use Rattle.wc_resolve.specs.World.{ResolveView}
+use Rattle.wc_resolve.specs.Kinds.{ResolveView}
 use Rattle.wc_encoder.specs.Dependencies.{AreDependenciesBefore, DependsOn, IsIndependent}
 use Rattle.wc_adapters.specs.Entries.{Entries}
-use Rattle.wc_adapters.proofs.PairLemmas.{pairs_head, pairs_none, pairs_step}
+use Rattle.wc_adapters.proofs.PairLemmas.{pairs_head, pairs_step}
 
 -- the exports that are left come after so many others, and dependencies come before in all where they do in these
 pub record IsDependencyWalk (r : ResolveView) (all_items left : List (WorldKey × WorldItem)) (index : ℕ) : Type 0 where
@@ -53,9 +53,3 @@ module _ (r : ResolveView) (all_items left rest : List (WorldKey × WorldItem)) 
     (λ t. absurd (let bad : ⊥ = cc t in bad)),
     (λ h. sym f ∙ rest_test.1 (pairs_head (λ (x later : KeyView × ItemView). ¬ DependsOn r x.1 later.0) (world_entry e) (map world_entry rest) (left_same.0 h))),
   )
-
-pub walk_all : (r : ResolveView) (all_items left : List (WorldKey × WorldItem)) (index : ℕ) → IsDependencyWalk r all_items left index → left ≡ [] → IsTrue true ↔ AreDependenciesBefore r (map world_entry all_items)
-walk_all r all_items left index walk none = (
-  (λ t. walk.same.1 (subst (λ (z : List (WorldKey × WorldItem)). AreDependenciesBefore r (map world_entry z)) (sym none) (pairs_none (λ (x later : KeyView × ItemView). ¬ DependsOn r x.1 later.0)))),
-  (λ h. refl),
-)

@@ -1,6 +1,6 @@
 -- Things that were seen, and whether one of them comes again.
 use Rattle.std.proofs.Common.{String, Option, Some, string_bytes, ◌≡◌, ◌≢◌, ◌↔◌, ℕ, Bool, true, false, not, cond, List, [], ◌∷◌, ◌++◌, map, AllPairs, Contains}
-use Rattle.std.proofs.Common.{refl, sym, ap, ◌∙◌, subst, inl, inr, arith, append-nil, append_assoc}
+use Rattle.std.proofs.Common.{refl, sym, ap, ◌∙◌, subst, inl, inr, arith, append_assoc}
 use Rattle.std.specs.List.{list_any}
 use Rattle.std.specs.declared.alloc.Global.{Global}
 use Rattle.std.proofs.lemmas.List.{map-append}
@@ -74,7 +74,3 @@ module _ {K V : Type 0} (v : K → V) where
       let found : Contains (map v keys) n = any_contains test n law keys (not-false (list_any test keys) (sym e ∙ f)) in
       let at : all_items ≡ map v keys ++ n ∷ rest = s.split ∙ ap (λ z. map v keys ++ z) next in
       twice (map v keys) rest n found (subst (AllPairs (λ x y. x ≢ y)) at distinct)
-
-  -- all were seen
-  pub seen_all : (all_items left : List V) (keys : List K) → IsSeen all_items left keys → left ≡ [] → AllPairs (λ x y. x ≢ y) all_items
-  seen_all all_items left keys s none = subst (AllPairs (λ x y. x ≢ y)) (sym (s.split ∙ ap (λ z. map v keys ++ z) none ∙ append-nil (map v keys))) s.distinct

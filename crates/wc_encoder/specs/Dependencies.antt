@@ -3,7 +3,7 @@ use Rattle.std.specs.Prelude.{ℕ, All, AllPairs, Contains}
 use Rattle.wc_resolve.specs.Dependencies.{direct_dependencies}
 use Rattle.wc_resolve.specs.Ranges.{IsItemIn}
 use Rattle.wc_resolve.specs.Views.{KeyView, interface_key, ItemView, interface_item}
-use Rattle.wc_resolve.specs.World.{ResolveView}
+use Rattle.wc_resolve.specs.Kinds.{ResolveView}
 use Rattle.wc_adapters.specs.Entries.{Entries}
 use Rattle.wc_encoder.specs.Exported.{IsExported}
 

@@ -1,9 +1,9 @@
 -- What contracts see of an encoder: bytes and texts as lists of numbers; lists, sets and maps as lists in order.
 use Rattle.std.specs.Prelude.{◌≡◌, ℕ, ◌<◌, Bool, List, [], map, length, Option, Some, slice_get, string_bytes}
 use Rattle.std.specs.Option.{option_map_or}
-use Rattle.wc_dedupe.specs.Renaming.{RenameValue}
+use Rattle.wc_dedupe.specs.Renaming.{RenameView}
 use Rattle.wc_resolve.specs.Views.{KeyView, key_view, WorldView}
-use Rattle.wc_resolve.specs.World.{ResolveView}
+use Rattle.wc_resolve.specs.Kinds.{ResolveView}
 use Rattle.wc_encoder.specs.declared.encoder_parts.EncoderParts.{EncoderParts}
 use Rattle.wc_adapters.specs.Adapters.{AdapterView, adapter_entry}
 use Rattle.wc_adapters.specs.Entries.{Entries}
@@ -12,7 +12,7 @@ use Rattle.wc_adapters.specs.Entries.{Entries}
 -- keys of the main module's exports; adapters by their names; two flags; and the name of the task hook
 pub record EncoderView : Type 0 where
   pub module_bytes : List ℕ
-  pub module_import_map : Option (List RenameValue)
+  pub module_import_map : Option (List RenameView)
   pub resolve : ResolveView
   pub world : ℕ
   pub main_module_exports : List KeyView

@@ -1,3 +1,3 @@
 -- What the examples' contracts cite.
-pub mod Summary
-pub mod Unedited
+pub mod World
+pub mod Gc

@@ -8,8 +8,8 @@ mod names;
 mod plan;
 mod read;
 mod resolve;
-mod tool;
 mod validate;
+mod wctrim;
 mod world;
 mod write;
 
@@ -227,7 +227,7 @@ fn answer_printed_lines(alloc: Global, row: &Row<'_>, out: &mut Lines) -> Result
         arguments.push(String::from_str(alloc, argument)?)?;
     }
     let input = bytes_of(alloc, &row.input, out)?;
-    match tool::printed_lines(alloc, row_seed(), &arguments, &input) {
+    match wctrim::printed_lines(alloc, row_seed(), &arguments, &input) {
         Ok(Some(lines)) => put_lines(out, &lines),
         Ok(None) => out.push_str("usage\n"),
         // The lines are put into memory, which ran out.

@@ -16,8 +16,8 @@ use Rattle.wc_read.specs.declared.operators.IndexKind.TheVariants.{In, Local}
 use Rattle.wc_read.specs.declared.operators.BlockType.TheVariants.{Empty}
 use Rattle.wc_read.specs.declared.operators.Form.TheVariants.{None as form_none, Block as form_block, Index as form_index, I32 as form_i32}
 use Rattle.wc_write.specs.Text.{digits, signed_digits, signed_digit, vector_text, FitsSize}
-use Rattle.wc_write.specs.OperatorText.{immediates_text, instr_text}
-use Rattle.wc_write.specs.BodyText.{locals_text, body_text}
+use Rattle.wc_write.specs.Operators.{immediates_text, instr_text}
+use Rattle.wc_write.specs.Bodies.{locals_text, body_text}
 use Rattle.wc_write.specs.Values.{IsU32, IsInstr, IsBody, IsValType}
 use Rattle.wc_gc.specs.AddedCode.{with, plain, const, get_global, set_global, end, trap_if, trap_unless, growth, shifted, growing_body, allocation, stack_code, stack_body}
 

@@ -7,12 +7,12 @@ use Rattle.wc_read.specs.Bodies.{BodyValue}
 use Rattle.wc_read.specs.declared.bodies.Locals.{Locals}
 use Rattle.wc_read.specs.declared.types.ValType.TheVariants.{I32}
 use Rattle.wc_write.specs.Text.{vector_text}
-use Rattle.wc_write.specs.OperatorText.{instr_text}
-use Rattle.wc_write.specs.BodyText.{locals_text, body_text}
+use Rattle.wc_write.specs.Operators.{instr_text}
+use Rattle.wc_write.specs.Bodies.{locals_text, body_text}
 use Rattle.wc_write.specs.Laws.{BodyTextIsRead}
 use Rattle.wc_gc.specs.AddedCode.{end, trap_unless, growth, shifted, growing_body, stack_code, stack_body}
-use Rattle.wc_gc.specs.AddedCodeRuns.{IsSpellable, SpellsOnly}
-use Rattle.wc_write.specs.ModuleText.{operators_text}
+use Rattle.wc_gc.specs.MachineLaws.{IsSpellable, SpellsOnly}
+use Rattle.wc_write.specs.Modules.{operators_text}
 
 -- a part more
 part_more : (old new before : List ℕ) (is js : List InstrValue) → new ≡ old ++ (before ++ operators_text is) → new ++ operators_text js ≡ old ++ (before ++ operators_text (is ++ js))

@@ -10,7 +10,7 @@ use Rattle.wc_gc.specs.AddedCode.{const, plain, set_global, end, shifted, growin
 use Rattle.wc_gc.specs.Machine.{Store, with_global, is_granted, can_grow, grown_store, OpenCall, finished, trapped, called, step, code_outcome, call_outcome}
 use Rattle.wc_gc.specs.Machine.{answer_outcome}
 use Rattle.wc_gc.proofs.MachineLemmas.{global_at, global_set, global_kept, there_stays}
-use Rattle.wc_gc.specs.AddedCodeRuns.{IsGrowingRealloc, stack_request, block_end, IsGlobal, IsThere, IsAllocated, allocated_store, AllocatesStack}
+use Rattle.wc_gc.specs.MachineLaws.{IsGrowingRealloc, stack_request, block_end, IsGlobal, IsThere, IsAllocated, allocated_store, AllocatesStack}
 
 -- numbers
 

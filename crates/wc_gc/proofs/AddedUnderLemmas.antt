@@ -19,7 +19,7 @@ use Rattle.wc_read.specs.declared.operators.Form.TheVariants.{Index as form_inde
 use Rattle.wc_write.specs.Values.{IsInstr, IsBody, IsName}
 use Rattle.wc_gc.specs.AddedCode.{call, const, end, growing_body, growth, plain, stack_body, trap_unless}
 use Rattle.wc_gc.specs.Counts.{count_below}
-use Rattle.wc_gc.specs.Edited.{with_call}
+use Rattle.wc_gc.specs.Edit.{with_call}
 use Rattle.wc_gc.specs.Found.{main_module}
 use Rattle.wc_gc.specs.Image.{renumber_body, renumber_code}
 use Rattle.wc_gc.specs.Laws.{KeepsBits}

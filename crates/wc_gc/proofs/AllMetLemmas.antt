@@ -11,11 +11,11 @@ use Rattle.std.proofs.lemmas.Map.Made.{IsDistinct-from_AllPairs, length-le_from_
 use Rattle.std.proofs.lemmas.Map.Views.{Contains-from_any, list_any-from_Contains}
 use Rattle.std.proofs.lemmas.Slice.Eq.{bytes_eq-Decides}
 use Rattle.wc_read.specs.Exports.{ExportValue}
-use Rattle.wc_gc.specs.KeptExports.{export_names, is_exported, kept_exports, missing_name}
+use Rattle.wc_gc.specs.Exports.{export_names, is_exported, kept_exports, missing_name}
 use Rattle.wc_gc.proofs.ExportLemmas.{all_kept}
 use Rattle.wc_gc.proofs.KeptExportLemmas.{names_of_pairs, pairs_kept, pairs_named}
 use Rattle.wc_gc.proofs.LiveItemLemmas.{contains_mapped}
-use Rattle.wc_gc.proofs.PlaceLemmas.{Differ, flip, tests}
+use Rattle.wc_gc.proofs.KeptOrderLemmas.{Differ, flip, tests}
 use Rattle.wc_gc.proofs.RequiredExportLemmas.{kept_required}
 
 equal : (a b : List ℕ) → bytes_eq a b ≡ true → a ≡ b

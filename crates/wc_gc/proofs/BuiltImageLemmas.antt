@@ -9,7 +9,7 @@ use Rattle.std.proofs.lemmas.List.Elements.{All-append, All-map, All-weaker, All
 use Rattle.std.proofs.lemmas.Option.{slice_get-map, slice_get_within, IfSome_then}
 use Rattle.wc_read.specs.Bodies.{BodyValue}
 use Rattle.wc_read.specs.Types.{FuncTypeValue, HasTypeIndex, HaveTypeIndices}
-use Rattle.wc_read.specs.Decoding.{body_in, init_in}
+use Rattle.wc_read.specs.BodyOperators.{body_in, init_in}
 use Rattle.wc_read.specs.Exports.{ExportValue}
 use Rattle.wc_read.specs.InitTypes.{AreTyped}
 use Rattle.wc_read.specs.Items.{ItemValue, FuncValue, GlobalValue, TableValue, MemoryValue}
@@ -22,9 +22,9 @@ use Rattle.wc_read.specs.declared.operators.Space.{Space}
 use Rattle.wc_read.specs.declared.operators.Space.TheVariants.{Types, Funcs, Tables, Memories, Globals}
 use Rattle.wc_read.specs.declared.types.GlobalType.{GlobalType}
 use Rattle.wc_read.specs.declared.types.ImportType.TheVariants.{Func, Table, Memory, Global}
-use Rattle.wc_write.specs.BodyText.{body_text}
+use Rattle.wc_write.specs.Bodies.{body_text}
 use Rattle.wc_write.specs.BuiltValues.{def_seen, item_seen, written_module, IsExport, IsWritableMemory, IsInitialiser, HasInitialiser, HasImportsFirst, IsBuilt, IsWritable}
-use Rattle.wc_write.specs.ModuleText.{BuiltValue, built_imports, operators_text}
+use Rattle.wc_write.specs.Modules.{BuiltValue, built_imports, operators_text}
 use Rattle.wc_write.specs.Spaces.{imports_of, defined_contents}
 use Rattle.wc_write.specs.Values.{IsU32, IsBody, IsFuncType, IsImport, IsTable, IsValType}
 use Rattle.wc_write.proofs.SpaceLemmas.{map_again}

@@ -6,7 +6,7 @@ use Rattle.std.specs.Option.{option_map}
 use Rattle.std.proofs.lemmas.List.{map-id}
 use Rattle.std.proofs.lemmas.List.Elements.{All-map, All-from_recursion, recursion_from_All}
 use Rattle.std.proofs.lemmas.Option.{slice_get-map}
-use Rattle.wc_read.specs.Decoding.{init_in}
+use Rattle.wc_read.specs.BodyOperators.{init_in}
 use Rattle.wc_read.specs.Items.{DefValue, imported, local, ItemValue, GlobalValue, TableValue}
 use Rattle.wc_read.specs.Operators.{InstrValue}
 use Rattle.wc_read.specs.Renumbering.{Renumbering, renumber_global_type, renumber_table_type}
@@ -17,7 +17,7 @@ use Rattle.wc_read.proofs.DecodingLemmas.{init_found}
 use Rattle.wc_write.specs.Spaces.{imports_of, import_by, DefinedValue, defined, defined_by, defined_types, defined_contents}
 use Rattle.wc_write.specs.Text.{FitsSize, global_text}
 use Rattle.wc_write.specs.Values.{IsImport, IsImportType}
-use Rattle.wc_write.specs.ModuleText.{BuiltValue, SizesFit, SizeFits, OptionalSection, optional_sections, operators_text, defined_global_text}
+use Rattle.wc_write.specs.Modules.{BuiltValue, SizesFit, SizeFits, OptionalSection, optional_sections, operators_text, defined_global_text}
 use Rattle.wc_write.specs.BuiltValues.{def_seen, item_seen, is_import, is_imported, IsInitialiser, HasInitialiser}
 use Rattle.wc_write.proofs.VectorTextLemmas.{back_shorter}
 use Rattle.wc_write.proofs.ContentLemmas.{all_item_sizes_fit}

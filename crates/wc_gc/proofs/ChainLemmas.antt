@@ -17,8 +17,8 @@ use Rattle.wc_read.specs.Modules.{IsModule, ModuleValue}
 use Rattle.wc_gc.specs.Chains.{HasChain, KeptExportsAreRequired, KeptItemsHaveChains}
 use Rattle.wc_gc.specs.Decoded.{ItemIndex, decode, exported_item}
 use Rattle.wc_gc.specs.Entries.{refs_in}
-use Rattle.wc_gc.specs.KeptExports.{dropped_names, export_names, is_required, kept_exports, without}
-use Rattle.wc_gc.specs.Liveness.{IsLive}
+use Rattle.wc_gc.specs.Exports.{dropped_names, export_names, is_required, kept_exports, without}
+use Rattle.wc_gc.specs.LiveItems.{IsLive}
 use Rattle.wc_gc.specs.Reached.{IsPath}
 use Rattle.wc_gc.proofs.BuiltPartLemmas.{each_weaker}
 use Rattle.wc_gc.proofs.KeptExportLemmas.{at_hole, at_other, bounded_after, pairs_named, pairs_without}

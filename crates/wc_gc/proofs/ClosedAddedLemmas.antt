@@ -4,7 +4,7 @@ use Rattle.std.specs.Prelude.{IfSome, IsTrue, is_some, nat_lt, not, ◌&&◌, �
 use Rattle.std.specs.List.{AllByRecursion}
 use Rattle.std.proofs.lemmas.Bool.{false≢true, le-ltb, lt-ltb, ltb-true, and_parts}
 use Rattle.std.proofs.lemmas.List.{length-map}
-use Rattle.wc_read.specs.Decoding.{body_in}
+use Rattle.wc_read.specs.BodyOperators.{body_in}
 use Rattle.wc_read.specs.Exports.{ExportValue}
 use Rattle.wc_read.specs.Modules.{ModuleValue}
 use Rattle.wc_read.specs.Types.{FuncTypeValue}
@@ -12,10 +12,10 @@ use Rattle.wc_read.specs.declared.operators.Space.TheVariants.{Types, Funcs, Tab
 use Rattle.wc_write.specs.BuiltValues.{item_seen}
 use Rattle.wc_gc.specs.AddedCode.{empty_type, growing_body, realloc_type, stack_body}
 use Rattle.wc_gc.specs.Decoded.{FuncCode, ItemIndex, decode, is_in, is_code}
-use Rattle.wc_gc.specs.Edited.{EditedModule, called_realloc, growing_func, growing_position, import_func, lazy_func, lazy_position, memory_of, one_if, only_if, stack_of, start_func, start_position, state_of, types_added}
+use Rattle.wc_gc.specs.Edit.{EditedModule, called_realloc, growing_func, growing_position, import_func, lazy_func, lazy_position, memory_of, one_if, only_if, stack_of, start_func, start_position, state_of, types_added}
 use Rattle.wc_gc.specs.Entries.{body_refs, code_body_refs, func_refs, func_type_refs}
-use Rattle.wc_gc.specs.Found.{FoundValue, found_in, is_empty}
-use Rattle.wc_gc.specs.Parts.{SettingsValue, first_of, is_any, is_lazy, last_of, parts_of}
+use Rattle.wc_gc.specs.Found.{FoundView, found_in, is_empty}
+use Rattle.wc_gc.specs.Parts.{SettingsView, first_of, is_any, is_lazy, last_of, parts_of}
 use Rattle.wc_gc.specs.Unfolding.{in_image}
 use Rattle.wc_gc.specs.declared.parts.Parts.{Parts}
 use Rattle.wc_gc.proofs.AddedUnderLemmas.{first_has, growing_by, last_has, members}
@@ -45,7 +45,7 @@ stack_names has realloc stack (Some state) r g s = (s, (s, (r, (g, (s, tt)))))
 
 -- code that allocates a stack is added where there is a stack pointer, and calls a realloc; code that grows memory where
 -- there is a memory
-pub record AreParts (p : Parts) (f : FoundValue) : Type 0 where
+pub record AreParts (p : Parts) (f : FoundView) : Type 0 where
   pub stack : (p.lazy ≡ true) ⊎ (p.start ≡ true) → is_any f.stacks ≡ true
   pub memory : p.growing ≡ true → is_any f.memories ≡ true
   pub import : (p.lazy ≡ true) ⊎ (p.start ≡ true) → p.growing ≡ false → is_empty f.reallocs ≡ true → p.import_realloc ≡ true
@@ -73,7 +73,7 @@ import_there true true false false true (inr h) g k = absurd (false≢true h)
 import_there true false false false true (inl h) g k = absurd (false≢true h)
 import_there true false false false true (inr h) g k = absurd (false≢true h)
 
-pub parts_are : (s : SettingsValue) (f : FoundValue) → AreParts (parts_of s f) f
+pub parts_are : (s : SettingsView) (f : FoundView) → AreParts (parts_of s f) f
 parts_are s f = record {
   stack = stack_there (is_any f.stacks) (is_empty f.states) (is_some s.realloc) (is_any f.memories);
   memory = memory_there (is_any f.stacks) (is_any f.memories) (is_lazy s f) (is_empty f.states || (not (is_some s.realloc) && is_empty f.reallocs));
@@ -98,8 +98,8 @@ added_types_name_none P p no_empty =
 abbrev pub AreThere : ModuleValue → (ItemIndex → Bool) → Type 0
 AreThere m live = (x : ItemIndex) → IsTrue (live x) → IsTrue (is_in (decode m) x)
 
-module _ (s : SettingsValue) (m : ModuleValue) (exports : List ExportValue) (live : ItemIndex → Bool) (p : Parts) (there : AreThere m live) where
-  abbrev pub found : FoundValue
+module _ (s : SettingsView) (m : ModuleValue) (exports : List ExportValue) (live : ItemIndex → Bool) (p : Parts) (there : AreThere m live) where
+  abbrev pub found : FoundView
   found = found_in (decode m) live
 
   abbrev pub with_added : EditedModule

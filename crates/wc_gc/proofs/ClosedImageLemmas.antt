@@ -8,7 +8,7 @@ use Rattle.std.proofs.lemmas.List.{length-append, length-map}
 use Rattle.std.proofs.lemmas.List.Elements.{All-contains, All-from_recursion, All-map, All-weaker, recursion_from_All}
 use Rattle.std.proofs.lemmas.Option.{slice_get-map, slice_get_within}
 use Rattle.wc_read.specs.Bodies.{BodyValue, local_types}
-use Rattle.wc_read.specs.Decoding.{body_in, init_in}
+use Rattle.wc_read.specs.BodyOperators.{body_in, init_in}
 use Rattle.wc_read.specs.Exports.{ExportValue}
 use Rattle.wc_read.specs.Items.{DefValue, imported, local, FuncValue, TableValue, MemoryValue}
 use Rattle.wc_read.specs.Modules.{ModuleValue, IsModule, count_of}
@@ -19,11 +19,11 @@ use Rattle.wc_write.specs.BuiltValues.{def_seen, item_seen, IsWritable}
 use Rattle.wc_write.proofs.WritableModuleLemmas.{spelled_writable}
 use Rattle.wc_gc.specs.Causes.{DecidesLive, has_page_size_at}
 use Rattle.wc_gc.specs.Decoded.{DecodedModule, FuncCode, ItemIndex, decode, exported_item, is_in, size_of, is_code}
-use Rattle.wc_gc.specs.Edited.{EditedModule, edit, edited_def, growing_code, is_exported_func, lazy_position, memory_of, one_if, replaced, with_call}
+use Rattle.wc_gc.specs.Edit.{EditedModule, edit, edited_def, growing_code, is_exported_func, lazy_position, memory_of, one_if, replaced, with_call}
 use Rattle.wc_gc.specs.Entries.{body_refs, code_refs, def_refs, entry_at, entry_refs, func_entry, func_refs, memory_entry, no_entry, refs_in, table_entry, type_entry, val_type_refs, func_type_refs}
-use Rattle.wc_gc.specs.Found.{FoundValue, found_in, is_empty, is_realloc, is_realloc_at, main_module}
-use Rattle.wc_gc.specs.KeptExports.{kept_exports}
-use Rattle.wc_gc.specs.Parts.{SettingsValue, adds_growing, is_any, parts_of}
+use Rattle.wc_gc.specs.Found.{FoundView, found_in, is_empty, is_realloc, is_realloc_at, main_module}
+use Rattle.wc_gc.specs.Exports.{kept_exports}
+use Rattle.wc_gc.specs.Parts.{SettingsView, adds_growing, is_any, parts_of}
 use Rattle.wc_gc.specs.InRange.{is_item_in_range, is_body_in_range, is_def_in_range, is_entry_in_range}
 use Rattle.wc_gc.specs.Unfolding.{IsClosed, TrimmedIsClosed, TrimmedUnfolds, has_code, edited_module}
 use Rattle.wc_gc.specs.declared.parts.Parts.{Parts}
@@ -112,13 +112,13 @@ pub record AreLive (m : ModuleValue) (live : ItemIndex → Bool) : Type 0 where
   pub in_range : (n : ℕ) → IsTrue (live (Funcs, n)) → is_item_in_range (decode m) (Funcs, n) ≡ true
 
 -- a memory is live, where a live realloc import becomes a function that grows it
-abbrev pub HasMemory : SettingsValue → FoundValue → Type 0
+abbrev pub HasMemory : SettingsView → FoundView → Type 0
 HasMemory s f = s.realloc ≡ None → is_any f.reallocs ≡ true → is_any f.memories ≡ true
 
-module _ (s : SettingsValue) (m : ModuleValue) (exports : List ExportValue) (live : ItemIndex → Bool) (p : Parts) (w : IsWritable m) (v : IsModule m)
+module _ (s : SettingsView) (m : ModuleValue) (exports : List ExportValue) (live : ItemIndex → Bool) (p : Parts) (w : IsWritable m) (v : IsModule m)
     (k : AreLive m live)
     (a : AreParts p (found_in (decode m) live)) (memory : HasMemory s (found_in (decode m) live)) where
-  abbrev found_parts : FoundValue
+  abbrev found_parts : FoundView
   found_parts = found s m exports live p k.there
 
   abbrev edited : EditedModule
@@ -350,7 +350,7 @@ either_one a true e h = refl
 either_one true false e h = absurd (h refl)
 either_one false false e h = absurd (false≢true e)
 
-has_memory : (s : SettingsValue) (d : DecodedModule) (f : FoundValue)
+has_memory : (s : SettingsView) (d : DecodedModule) (f : FoundView)
     → ¬ (IsTrue ((adds_growing s f || (not (is_some s.realloc) && is_any f.reallocs)) && not (list_any (has_page_size_at d s.page_size_log2) f.memories)))
     → HasMemory s f
 has_memory s d f h none some =

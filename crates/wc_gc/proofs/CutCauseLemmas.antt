@@ -1,7 +1,7 @@
 -- After liveness, a fault has a cause in an adapter exactly where it has one in its cut.
 use Rattle.std.proofs.Common.{◌≡◌, ℕ, ◌≤◌, List, [], ◌∷◌, length, map, refl, sym, ◌∙◌, ap, subst, Bool, true, false, ◌&&◌, ◌||◌, not, cond}
 use Rattle.std.proofs.Common.{Option, Some, None, arith, ◌⊎◌, inl, inr}
-use Rattle.std.specs.Prelude.{◌==◌, ◌↔◌, IfSome, IsTrue, is_some}
+use Rattle.std.specs.Prelude.{◌==◌, ◌↔◌, IfSome, is_some}
 use Rattle.std.specs.List.{AllByRecursion, list_all, list_any, slice_get}
 use Rattle.std.specs.Option.{option_map, option_map_or, option_to_list}
 use Rattle.std.proofs.lemmas.Option.{slice_get-map}
@@ -13,14 +13,14 @@ use Rattle.wc_read.specs.declared.operators.Space.TheVariants.{Types, Funcs, Tab
 use Rattle.wc_write.specs.BuiltValues.{is_defined}
 use Rattle.wc_gc.specs.Causes.{IsFoundCause, called_reallocs, grows_memory, has_page_size, has_page_size_at, has_realloc_type, is_realloc_type_at}
 use Rattle.wc_gc.specs.Decoded.{DecodedModule, FuncCode, ItemIndex}
-use Rattle.wc_gc.specs.Edited.{edit}
+use Rattle.wc_gc.specs.Edit.{edit}
 use Rattle.wc_gc.specs.EditedImage.{FitsBits, edited_image}
 use Rattle.wc_gc.specs.Entries.{entry_refs, func_entry, no_entry}
-use Rattle.wc_gc.specs.Found.{FoundValue, found_in, is_realloc_type}
+use Rattle.wc_gc.specs.Found.{FoundView, found_in, is_realloc_type}
 use Rattle.wc_gc.specs.Image.{rank}
-use Rattle.wc_gc.specs.Parts.{SettingsValue, adds_growing, is_lazy, last_of}
-use Rattle.wc_gc.specs.Traces.{AreClosed, CausesAreOfCut, all_items}
-use Rattle.wc_gc.specs.Trimming.{IsLaterCause}
+use Rattle.wc_gc.specs.Parts.{SettingsView, adds_growing, is_lazy, last_of}
+use Rattle.wc_gc.specs.TraceLaws.{AreClosed, CausesAreOfCut, all_items}
+use Rattle.wc_gc.specs.Trim.{IsLaterCause}
 use Rattle.wc_gc.specs.Unfolding.{renumber_func}
 use Rattle.wc_gc.specs.declared.fault.GcFault.{GcFault}
 use Rattle.wc_gc.specs.declared.fault.GcFault.TheVariants.{SeveralNamed, LiveTable, SeveralMemories, LocalMemory, ReallocType, ReallocMemory}
@@ -63,8 +63,8 @@ cond_all : (P : ℕ → Type 0) (b : Bool) (xs ys : List ℕ) → AllByRecursion
 cond_all P true xs ys h k = h
 cond_all P false xs ys h k = k
 
-module _ (s : SettingsValue) (m : DecodedModule) (exports : List ExportValue) (live : ItemIndex → Bool) (k : AreClosed m exports live)
-    (f g : FoundValue) (a : AreRanks live f g) where
+module _ (s : SettingsView) (m : DecodedModule) (exports : List ExportValue) (live : ItemIndex → Bool) (k : AreClosed m exports live)
+    (f g : FoundView) (a : AreRanks live f g) where
   abbrev C : DecodedModule
   C = cut m exports live
 
@@ -99,7 +99,7 @@ module _ (s : SettingsValue) (m : DecodedModule) (exports : List ExportValue) (l
   lazy_same : is_lazy s g ≡ is_lazy s f
   lazy_same = ap (λ (p : Parts). p.lazy) (parts_same s live f g a)
 
-  abbrev called_by : Bool → Bool → FoundValue → List ℕ
+  abbrev called_by : Bool → Bool → FoundView → List ℕ
   called_by given lazy x = cond given (cond lazy (option_to_list (last_of x.reallocs)) []) x.reallocs
 
   last_same : option_to_list (last_of g.reallocs) ≡ map (rank live Funcs) (option_to_list (last_of f.reallocs))
@@ -149,9 +149,6 @@ module _ (s : SettingsValue) (m : DecodedModule) (exports : List ExportValue) (l
   memories_long : length g.memories ≡ length f.memories
   memories_long = same_length f.memories g.memories (rank live Memories) a.memories
 
-  grown_by : Bool → Bool → Type 0
-  grown_by b c = IsTrue (b && not c)
-
   pub found_to : (x : GcFault) → IsFoundCause s m f x → IsFoundCause s C g x
   found_to SeveralNamed h = two_of (length f.stacks) (length f.states) (length g.stacks) (length g.states) (sym stacks_long) (sym states_long) h
   found_to LiveTable h = λ e. h (nil_from_length f.tables (sym tables_long ∙ ap length e))
@@ -174,7 +171,7 @@ module _ (s : SettingsValue) (m : DecodedModule) (exports : List ExportValue) (l
       ∙ ap (λ b. grows_memory s f && not b) (memories_same (λ (t : MemoryValue). has_page_size s.page_size_log2 t.ty))) ∙ h
   found_back x h = absurd h
 
-module _ (s : SettingsValue) (m : DecodedModule) (exports : List ExportValue) (live : ItemIndex → Bool) (k : AreClosed m exports live) where
+module _ (s : SettingsView) (m : DecodedModule) (exports : List ExportValue) (live : ItemIndex → Bool) (k : AreClosed m exports live) where
   later_to : (x : GcFault) → IsLaterCause s m exports live x → IsLaterCause s (cut m exports live) (cut m exports live).exports all_items x
   later_to TooLarge h =
       subst (λ b. ¬ (FitsBits b))

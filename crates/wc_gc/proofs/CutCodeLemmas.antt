@@ -6,7 +6,7 @@ use Rattle.wc_read.specs.Bodies.{BodyValue, local_types}
 use Rattle.wc_read.specs.Items.{DefValue, ItemValue, TableValue, imported, local}
 use Rattle.wc_read.specs.Operators.{ImmediatesValue, WithNone, WithBlock, WithIndex, WithIndices, WithLabels, WithValTypes, WithRefType, WithMemArg}
 use Rattle.wc_read.specs.Operators.{WithMemArgLane, WithI32, WithI64, WithBytes, WithLane, InstrValue}
-use Rattle.wc_read.specs.Refs.{in_space, reference, one_ref, two_refs, refs_of, type_reference, type_refs_of}
+use Rattle.wc_read.specs.References.{in_space, reference, one_ref, two_refs, refs_of, type_reference, type_refs_of}
 use Rattle.wc_read.specs.Renumbering.{Renumbering, renumber, renumber_index, renumber_immediates, renumber_instr, renumber_val_type}
 use Rattle.wc_read.specs.Renumbering.{renumber_func_type, renumber_global_type}
 use Rattle.wc_read.specs.Types.{FuncTypeValue, type_index, type_indices}

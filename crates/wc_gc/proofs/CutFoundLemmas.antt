@@ -19,11 +19,11 @@ use Rattle.wc_read.specs.declared.operators.Space.TheVariants.{Types, Funcs, Tab
 use Rattle.wc_gc.specs.Counts.{count_below}
 use Rattle.wc_gc.specs.Cut.{cut_of, ranks_named, part_names}
 use Rattle.wc_gc.specs.Decoded.{DecodedModule, FuncCode, GlobalCode, ItemIndex}
-use Rattle.wc_gc.specs.Found.{FoundValue, allocation_state, found_in, has_name, is_empty_type, is_empty_type_at, is_mutable_i32, is_mutable_i32_at}
+use Rattle.wc_gc.specs.Found.{FoundView, allocation_state, found_in, has_name, is_empty_type, is_empty_type_at, is_mutable_i32, is_mutable_i32_at}
 use Rattle.wc_gc.specs.Found.{is_named_at, is_realloc, is_realloc_at, stack_pointer}
 use Rattle.wc_gc.specs.Image.{kept_items, kept_of, new_export, new_table, rank, renumber_body}
-use Rattle.wc_gc.specs.Parts.{SettingsValue, parts_of}
-use Rattle.wc_gc.specs.Traces.{all_items}
+use Rattle.wc_gc.specs.Parts.{SettingsView, parts_of}
+use Rattle.wc_gc.specs.TraceLaws.{all_items}
 use Rattle.wc_gc.specs.Unfolding.{renumber_func, renumber_global}
 use Rattle.wc_gc.specs.declared.parts.Parts.{Parts}
 use Rattle.wc_gc.proofs.AddedUnderLemmas.{IsMember, members}
@@ -146,7 +146,7 @@ module _ {A : Type 0} (has : ℕ → Bool) (xs : List A) (n : ℕ) (l : n < leng
 
 -- in each list that is found, the second module has the ranks of what the first has
 
-pub record AreRanks (live : ItemIndex → Bool) (f g : FoundValue) : Type 0 where
+pub record AreRanks (live : ItemIndex → Bool) (f g : FoundView) : Type 0 where
   pub stacks : g.stacks ≡ map (rank live Globals) f.stacks
   pub states : g.states ≡ map (rank live Globals) f.states
   pub reallocs : g.reallocs ≡ map (rank live Funcs) f.reallocs
@@ -312,7 +312,7 @@ module _ (m : DecodedModule) (exports : List ExportValue) (live : ItemIndex → 
 
 -- which parts are added is a matter of lengths
 
-abbrev parts_by : SettingsValue → ℕ → ℕ → ℕ → ℕ → Parts
+abbrev parts_by : SettingsView → ℕ → ℕ → ℕ → ℕ → Parts
 parts_by s stacks states reallocs memories =
     let lazy = not (stacks == 0) && not (states == 0) && is_some s.realloc in
     let start = not (stacks == 0) && not (memories == 0) && not lazy in
@@ -323,14 +323,14 @@ parts_by s stacks states reallocs memories =
       start = start;
     }
 
-parts_counted : (s : SettingsValue) (f : FoundValue) → parts_of s f
+parts_counted : (s : SettingsView) (f : FoundView) → parts_of s f
     ≡ parts_by s (length f.stacks) (length f.states) (length f.reallocs) (length f.memories)
 parts_counted s f = refl
 
 pub same_length : (xs ys : List ℕ) (g : ℕ → ℕ) → ys ≡ map g xs → length ys ≡ length xs
 same_length xs ys g e = ap length e ∙ length-map xs g
 
-pub parts_same : (s : SettingsValue) (live : ItemIndex → Bool) (f g : FoundValue) → AreRanks live f g → parts_of s g ≡ parts_of s f
+pub parts_same : (s : SettingsView) (live : ItemIndex → Bool) (f g : FoundView) → AreRanks live f g → parts_of s g ≡ parts_of s f
 parts_same s live f g r =
     parts_counted s g
     ∙ (ap (λ k. parts_by s k (length g.states) (length g.reallocs) (length g.memories)) (same_length f.stacks g.stacks (rank live Globals) r.stacks)
@@ -348,7 +348,7 @@ stackless : (realloc : Option (List ℕ)) (page_size_log2 states reallocs memori
 stackless None page_size_log2 states reallocs memories = refl
 stackless (Some name) page_size_log2 states reallocs memories = refl
 
-pub parts_stackless : (s : SettingsValue) (f : FoundValue) → length f.stacks ≡ 0 → parts_of s f
+pub parts_stackless : (s : SettingsView) (f : FoundView) → length f.stacks ≡ 0 → parts_of s f
     ≡ record { import_realloc = false; lazy = false; growing = false; start = false }
 parts_stackless s f e =
     parts_counted s f ∙ (ap (λ k. parts_by s k (length f.states) (length f.reallocs) (length f.memories)) e

@@ -20,18 +20,18 @@ use Rattle.wc_read.specs.declared.operators.Space.TheVariants.{Types, Funcs, Tab
 use Rattle.wc_write.specs.BuiltValues.{def_seen}
 use Rattle.wc_gc.specs.AddedCode.{call, growing_body, stack_body}
 use Rattle.wc_gc.specs.Decoded.{DecodedModule, FuncCode, GlobalCode, ItemIndex, exported_item}
-use Rattle.wc_gc.specs.Edited.{EditedModule, added_imports, added_funcs, added_types, allocation_code, called_realloc, edit, edited_by, edited_def, edited_func}
-use Rattle.wc_gc.specs.Edited.{growing_code, growing_func, growing_position, import_func, is_exported_func, is_func, lazy_func, lazy_position}
-use Rattle.wc_gc.specs.Edited.{memory_of, only_if, replaced, stack_of, start_func, start_of, start_position, start_type, state_of, types_added}
-use Rattle.wc_gc.specs.Edited.{with_call}
+use Rattle.wc_gc.specs.Edit.{EditedModule, added_imports, added_funcs, added_types, allocation_code, called_realloc, edit, edited_by, edited_def, edited_func}
+use Rattle.wc_gc.specs.Edit.{growing_code, growing_func, growing_position, import_func, is_exported_func, is_func, lazy_func, lazy_position}
+use Rattle.wc_gc.specs.Edit.{memory_of, only_if, replaced, stack_of, start_func, start_of, start_position, start_type, state_of, types_added}
+use Rattle.wc_gc.specs.Edit.{with_call}
 use Rattle.wc_gc.specs.EditedImage.{edited_image, edited_rank, is_kept_defined, is_kept_import}
 use Rattle.wc_gc.specs.Entries.{body_refs, code_body_refs, def_refs, entry_refs, func_entry, func_refs, func_type_refs, global_entry, global_refs}
 use Rattle.wc_gc.specs.Entries.{no_entry, table_entry, type_entry, val_type_refs}
-use Rattle.wc_gc.specs.Found.{FoundValue, found_in, is_realloc, main_module}
+use Rattle.wc_gc.specs.Found.{FoundView, found_in, is_realloc, main_module}
 use Rattle.wc_gc.specs.Image.{kept_items, kept_of, new_body, new_export, new_global, new_table, rank, renumber_body}
 use Rattle.wc_gc.specs.Image.{new_func as func_under}
-use Rattle.wc_gc.specs.Parts.{SettingsValue, first_of, last_of, parts_of}
-use Rattle.wc_gc.specs.Traces.{AreClosed, ImageIsOfCut, all_items}
+use Rattle.wc_gc.specs.Parts.{SettingsView, first_of, last_of, parts_of}
+use Rattle.wc_gc.specs.TraceLaws.{AreClosed, ImageIsOfCut, all_items}
 use Rattle.wc_gc.specs.Unfolding.{renumber_func, renumber_global}
 use Rattle.wc_gc.specs.declared.parts.Parts.{Parts}
 use Rattle.wc_gc.proofs.AddedUnderLemmas.{growing_under, last_has, stack_under}
@@ -69,8 +69,8 @@ kept_twice has xs first second both each =
     ∙ both_mapped (λ x. second (first x)) both kept
     (recursion_from_All (λ x. second (first x) ≡ both x) kept (all_kept (λ x. second (first x) ≡ both x) has xs each (length xs)))
 
-module _ (s : SettingsValue) (m : DecodedModule) (exports : List ExportValue) (live : ItemIndex → Bool) (k : AreClosed m exports live) (p : Parts)
-    (f g : FoundValue) (a : AreRanks live f g) where
+module _ (s : SettingsView) (m : DecodedModule) (exports : List ExportValue) (live : ItemIndex → Bool) (k : AreClosed m exports live) (p : Parts)
+    (f g : FoundView) (a : AreRanks live f g) where
   abbrev E : Renumbering
   E = edited_rank (old_edit s m exports live k p f g)
 

@@ -14,12 +14,12 @@ use Rattle.wc_read.specs.declared.operators.Space.TheVariants.{Types, Funcs, Tab
 use Rattle.wc_write.specs.BuiltValues.{def_seen, is_import}
 use Rattle.wc_gc.specs.Counts.{count_below}
 use Rattle.wc_gc.specs.Decoded.{DecodedModule, FuncCode, ItemIndex}
-use Rattle.wc_gc.specs.Edited.{EditedModule, edited_by, edited_def, edited_func, growing_code, import_func, is_exported_func, only_if, replaced}
+use Rattle.wc_gc.specs.Edit.{EditedModule, edited_by, edited_def, edited_func, growing_code, import_func, is_exported_func, only_if, replaced}
 use Rattle.wc_gc.specs.EditedImage.{added_func_rank, count_defined, count_imports, edited_rank, func_rank, is_kept_defined, is_kept_import}
-use Rattle.wc_gc.specs.Found.{FoundValue, is_realloc, main_module}
+use Rattle.wc_gc.specs.Found.{FoundView, is_realloc, main_module}
 use Rattle.wc_gc.specs.Image.{rank, renumber_body}
-use Rattle.wc_gc.specs.Parts.{SettingsValue}
-use Rattle.wc_gc.specs.Traces.{AreClosed, all_items}
+use Rattle.wc_gc.specs.Parts.{SettingsView}
+use Rattle.wc_gc.specs.TraceLaws.{AreClosed, all_items}
 use Rattle.wc_gc.specs.Unfolding.{renumber_func}
 use Rattle.wc_gc.specs.declared.parts.Parts.{Parts}
 use Rattle.wc_gc.proofs.CutFoundLemmas.{cut, funcs_kept, types_kept}
@@ -32,8 +32,8 @@ cond_same : {A B : Type 0} (f : A → B) (b : Bool) (x y z : A) → f x ≡ f y 
 cond_same f true x y z e = e
 cond_same f false x y z e = refl
 
-module _ (s : SettingsValue) (m : DecodedModule) (exports : List ExportValue) (live : ItemIndex → Bool) (k : AreClosed m exports live) (p : Parts)
-    (f g : FoundValue) where
+module _ (s : SettingsView) (m : DecodedModule) (exports : List ExportValue) (live : ItemIndex → Bool) (k : AreClosed m exports live) (p : Parts)
+    (f g : FoundView) where
   abbrev pub old_edit : EditedModule
   old_edit = edited_by s m exports live p f
 

@@ -10,11 +10,11 @@ use Rattle.wc_read.specs.Renumbering.{Renumbering}
 use Rattle.wc_read.specs.declared.items.Item.{Item}
 use Rattle.wc_read.specs.declared.operators.Space.TheVariants.{Funcs, Memories, Globals, Types}
 use Rattle.wc_gc.specs.AddedCode.{growing_body, stack_body}
-use Rattle.wc_gc.specs.Edited.{edited_body, import_func, lazy_position, only_if, with_call}
+use Rattle.wc_gc.specs.Edit.{edited_body, import_func, lazy_position, only_if, with_call}
 use Rattle.wc_gc.specs.Found.{main_module}
 use Rattle.wc_gc.specs.Image.{new_body}
 use Rattle.wc_gc.specs.NewBodies.{body_written, call_added, calls_of}
-use Rattle.wc_gc.specs.Private.Edits.{imports_added, new_funcs, new_indices, settings_of, types_of, written_funcs}
+use Rattle.wc_gc.specs.Private.Edit.{imports_added, new_funcs, new_indices, settings_of, types_of, written_funcs}
 use Rattle.wc_gc.specs.declared.edit.Edit.{Edit}
 use Rattle.wc_gc.specs.declared.new_bodies.NewBody.{NewBody}
 use Rattle.wc_gc.specs.declared.parts.Parts.{Parts}

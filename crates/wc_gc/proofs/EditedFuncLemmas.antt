@@ -11,7 +11,7 @@ use Rattle.std.proofs.lemmas.List.Elements.{All-map, All-from_recursion, recursi
 use Rattle.std.proofs.lemmas.Option.{slice_get-map, slice_get_within}
 use Rattle.wc_read.specs.Bodies.{BodyValue, SpellsBody}
 use Rattle.wc_read.specs.Types.{FuncTypeValue}
-use Rattle.wc_read.specs.Decoding.{body_in, init_in, IsSpelled}
+use Rattle.wc_read.specs.BodyOperators.{body_in, init_in, IsSpelled}
 use Rattle.wc_read.specs.Exports.{ExportValue}
 use Rattle.wc_read.specs.Imports.{ImportValue}
 use Rattle.wc_read.specs.Items.{DefValue, imported, local, ItemValue, FuncValue}
@@ -23,21 +23,21 @@ use Rattle.wc_read.proofs.DecodingLemmas.{body_spelled}
 use Rattle.wc_write.specs.Text.{FitsSize, import_text, name_text, import_type_text, number_text}
 use Rattle.wc_write.specs.Values.{AreBytes, IsU32, IsName, IsImport, IsBody}
 use Rattle.wc_write.specs.Spaces.{imports_of, import_by}
-use Rattle.wc_write.specs.ModuleText.{BuiltValue, SizesFit, SizeFits, OptionalSection, built_imports, optional_sections}
+use Rattle.wc_write.specs.Modules.{BuiltValue, SizesFit, SizeFits, OptionalSection, built_imports, optional_sections}
 use Rattle.wc_write.specs.BuiltValues.{def_seen, item_seen, is_imported, is_defined, HasImportsFirst, IsWritable}
 use Rattle.wc_write.proofs.ContentLemmas.{all_item_sizes_fit}
 use Rattle.wc_write.proofs.ShortestBodyLemmas.{body_is}
 use Rattle.wc_write.proofs.VectorTextLemmas.{back_shorter, front_shorter}
 use Rattle.wc_gc.specs.AddedCode.{growing_body, stack_body, empty_type, realloc_type}
 use Rattle.wc_gc.specs.Decoded.{FuncCode, ItemIndex, decode}
-use Rattle.wc_gc.specs.Edited.{EditedModule, added_funcs, added_imports, added_types, called_realloc, edited_body, edited_def, growing_code, growing_func}
-use Rattle.wc_gc.specs.Edited.{growing_position, import_func, is_exported_func, lazy_func, lazy_position, memory_of, one_if, only_if, replaced, stack_of}
-use Rattle.wc_gc.specs.Edited.{start_func, start_of, start_position, start_type, state_of, types_added, with_call}
+use Rattle.wc_gc.specs.Edit.{EditedModule, added_funcs, added_imports, added_types, called_realloc, edited_body, edited_def, growing_code, growing_func}
+use Rattle.wc_gc.specs.Edit.{growing_position, import_func, is_exported_func, lazy_func, lazy_position, memory_of, one_if, only_if, replaced, stack_of}
+use Rattle.wc_gc.specs.Edit.{start_func, start_of, start_position, start_type, state_of, types_added, with_call}
 use Rattle.wc_gc.specs.EditedImage.{count_defined, count_imports, is_kept_defined, is_kept_import}
-use Rattle.wc_gc.specs.Found.{FoundValue, found_in, is_empty, is_empty_type, is_empty_type_at, is_realloc, main_module}
+use Rattle.wc_gc.specs.Found.{FoundView, found_in, is_empty, is_empty_type, is_empty_type_at, is_realloc, main_module}
 use Rattle.wc_gc.specs.Image.{kept_items, new_body, new_func, rank}
 use Rattle.wc_gc.specs.Laws.{AreSettings, KeepsBits}
-use Rattle.wc_gc.specs.Parts.{SettingsValue, first_of, last_of}
+use Rattle.wc_gc.specs.Parts.{SettingsView, first_of, last_of}
 use Rattle.wc_gc.specs.InRange.{is_body_in_range, is_def_in_range}
 use Rattle.wc_gc.specs.declared.parts.Parts.{Parts}
 use Rattle.wc_gc.proofs.AddedBodyLemmas.{growing_is_body, stack_is_body}
@@ -138,7 +138,7 @@ types_count p none =
     (only_if p.lazy empty_type ++ (only_if p.growing realloc_type ++ only_if (p.start && none) empty_type)) in
     omega (arith, a, b, c, d, x, y, z)
 
-pub funcs_count : (types funcs : ℕ) (s : SettingsValue) (p : Parts) (f : FoundValue) → length (added_funcs types funcs s p f) ≡ one_if p.lazy
+pub funcs_count : (types funcs : ℕ) (s : SettingsView) (p : Parts) (f : FoundView) → length (added_funcs types funcs s p f) ≡ one_if p.lazy
     + (one_if p.growing + one_if p.start)
 funcs_count types funcs s p f =
     let a = only_count p.lazy (lazy_func types funcs p f) in
@@ -183,10 +183,10 @@ pub none_last : {A : Type 0} (xs : List A) → last_of xs ≡ None → is_empty 
 none_last [] e = refl
 none_last (x ∷ xs) e = let item = get_some (x ∷ xs) (length (x ∷ xs) - 1) (omega arith) in absurd (let bad : None ≡ Some item.0 = sym e ∙ item.1 in cc bad)
 
-module _ (s : SettingsValue) (m : ModuleValue) (exports : List ExportValue) (live : ItemIndex → Bool) (p : Parts) (set : AreSettings s)
+module _ (s : SettingsView) (m : ModuleValue) (exports : List ExportValue) (live : ItemIndex → Bool) (p : Parts) (set : AreSettings s)
     (w : IsWritable m) (items : HaveItems m) (v : IsModule m)
     (k : AreKept m exports live) (in_range : AreInRange m live) where
-  abbrev found : FoundValue
+  abbrev found : FoundView
   found = found_in (decode m) live
 
   abbrev ranks : Renumbering

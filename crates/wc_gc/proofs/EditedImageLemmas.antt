@@ -14,7 +14,7 @@ use Rattle.wc_read.specs.Types.{FuncTypeValue, func_type_value}
 use Rattle.wc_read.specs.Exports.{ExportValue}
 use Rattle.wc_read.specs.Operators.{InstrValue}
 use Rattle.wc_read.specs.Bodies.{BodyValue}
-use Rattle.wc_read.specs.Decoding.{body_in, init_in}
+use Rattle.wc_read.specs.BodyOperators.{body_in, init_in}
 use Rattle.wc_read.specs.Items.{DefValue, imported, local, ItemValue, func_value, global_value, table_value, memory_value}
 use Rattle.wc_read.specs.Renumbering.{Renumbering, renumber_func_type}
 use Rattle.wc_read.specs.declared.core_module.Module.{Module}
@@ -28,16 +28,16 @@ use Rattle.wc_write.specs.BuiltValues.{is_defined, is_imported, item_seen}
 use Rattle.wc_gc.specs.Bits.{bit_of}
 use Rattle.wc_gc.specs.Counts.{count_below}
 use Rattle.wc_gc.specs.Decoded.{FuncCode, ItemIndex, decoded_module, func_code, global_code, size_of}
-use Rattle.wc_gc.specs.Edited.{EditedModule, added_funcs, added_imports, added_types, growing_code, edited_by, edited_func, edited_funcs, is_exported_func}
-use Rattle.wc_gc.specs.Edited.{start_of}
+use Rattle.wc_gc.specs.Edit.{EditedModule, added_funcs, added_imports, added_types, growing_code, edited_by, edited_func, edited_funcs, is_exported_func}
+use Rattle.wc_gc.specs.Edit.{start_of}
 use Rattle.wc_gc.specs.EditedImage.{edited_image, edited_rank, is_kept_defined, is_kept_import}
-use Rattle.wc_gc.specs.Private.Edits.{AreCoded, edited_of, edited_at, found_of, funcs_added, funcs_of, imports_added, live_funcs, new_funcs, new_indices, settings_of}
-use Rattle.wc_gc.specs.Private.Edits.{types_of}
-use Rattle.wc_gc.specs.Found.{FoundValue, is_realloc, main_module}
+use Rattle.wc_gc.specs.Private.Edit.{AreCoded, edited_of, edited_at, found_of, funcs_added, funcs_of, imports_added, live_funcs, new_funcs, new_indices, settings_of}
+use Rattle.wc_gc.specs.Private.Edit.{types_of}
+use Rattle.wc_gc.specs.Found.{FoundView, is_realloc, main_module}
 use Rattle.wc_gc.specs.Private.FuncGroups.{AreGroups, has_func, is_import_after, is_in_group}
 use Rattle.wc_gc.specs.Image.{kept_items, new_export, new_func, new_global, new_table}
 use Rattle.wc_gc.specs.NewIndices.{AreRanksOf, new_of}
-use Rattle.wc_gc.specs.Parts.{SettingsValue}
+use Rattle.wc_gc.specs.Parts.{SettingsView}
 use Rattle.wc_gc.specs.Ranks.{has_number}
 use Rattle.wc_gc.specs.InRange.{is_item_in_range}
 use Rattle.wc_gc.specs.declared.edit.Edit.{Edit}
@@ -51,7 +51,7 @@ use Rattle.wc_gc.proofs.TypeTestLemmas.{added_types_stay}
 
 -- a function that was edited is imported where it was, but for a realloc that becomes a growing realloc
 
-import_after : (funcs : ℕ) (s : SettingsValue) (p : Parts) (f : FoundValue) (exported : Bool) (d : DefValue (Option BodyValue)) (ty : ℕ)
+import_after : (funcs : ℕ) (s : SettingsView) (p : Parts) (f : FoundView) (exported : Bool) (d : DefValue (Option BodyValue)) (ty : ℕ)
     → is_imported (edited_func funcs s p f true exported (record { ty = ty; def = d })) ≡ is_import_after s (record { ty = ty; def = d })
 import_after funcs s p f exported (local b) ty = refl
 import_after funcs s p f exported (imported m n) ty = by (is_realloc {C = ℕ} (imported m n)) s.realloc
@@ -76,7 +76,7 @@ and_same : (b x y : Bool) → (b ≡ true → x ≡ y) → (b && x) ≡ (b && y)
 and_same true x y h = h refl
 and_same false x y h = refl
 
-module _ (exports : List ExportValue) (s : SettingsValue) (p : Parts) (f : FoundValue) where
+module _ (exports : List ExportValue) (s : SettingsView) (p : Parts) (f : FoundView) where
   pub edited_length : (live : ItemIndex → Bool) (funcs : List FuncCode) → length (edited_funcs exports live s p f funcs) ≡ length funcs
   edited_length live funcs = length-map (enumerate_from 0 funcs) _ ∙ length-enumerate_from 0 funcs
 

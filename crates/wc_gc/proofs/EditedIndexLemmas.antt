@@ -9,7 +9,7 @@ use Rattle.std.proofs.lemmas.List.{length-map, length-append}
 use Rattle.std.proofs.lemmas.List.FromFn.{length-enumerate_from}
 use Rattle.std.proofs.lemmas.Option.{slice_get-map, slice_get_within}
 use Rattle.wc_read.specs.Bodies.{BodyValue}
-use Rattle.wc_read.specs.Decoding.{body_in}
+use Rattle.wc_read.specs.BodyOperators.{body_in}
 use Rattle.wc_read.specs.Exports.{ExportValue}
 use Rattle.wc_read.specs.Items.{ItemValue, FuncValue}
 use Rattle.wc_read.specs.Modules.{ModuleValue}
@@ -18,12 +18,12 @@ use Rattle.wc_read.specs.declared.operators.Space.TheVariants.{Types, Funcs, Tab
 use Rattle.wc_write.specs.BuiltValues.{item_seen, is_imported, is_defined}
 use Rattle.wc_gc.specs.Counts.{AreDisjoint, count_below}
 use Rattle.wc_gc.specs.Decoded.{FuncCode, ItemIndex, decode}
-use Rattle.wc_gc.specs.Edited.{EditedModule, edited_by, edited_func, is_exported_func}
+use Rattle.wc_gc.specs.Edit.{EditedModule, edited_by, edited_func, is_exported_func}
 use Rattle.wc_gc.specs.EditedImage.{count_defined, count_imports, edited_rank, func_rank, added_func_rank, is_kept_defined, is_kept_import}
-use Rattle.wc_gc.specs.Found.{FoundValue}
+use Rattle.wc_gc.specs.Found.{FoundView}
 use Rattle.wc_gc.specs.Image.{kept_items, new_func, rank}
 use Rattle.wc_gc.specs.Laws.{KeepsBits}
-use Rattle.wc_gc.specs.Parts.{SettingsValue}
+use Rattle.wc_gc.specs.Parts.{SettingsView}
 use Rattle.wc_gc.specs.declared.parts.Parts.{Parts}
 use Rattle.wc_gc.proofs.BuiltImageLemmas.{AreNew}
 use Rattle.wc_gc.proofs.ImageLemmas.{enumerated}
@@ -36,7 +36,7 @@ pub cond_has : {A : Type 0} (P : A → Type 0) (b : Bool) (x y : A) → (b ≡ t
 cond_has P true x y h k = h refl
 cond_has P false x y h k = k refl
 
-module _ (s : SettingsValue) (m : ModuleValue) (exports : List ExportValue) (live : ItemIndex → Bool) (p : Parts) (f : FoundValue) where
+module _ (s : SettingsView) (m : ModuleValue) (exports : List ExportValue) (live : ItemIndex → Bool) (p : Parts) (f : FoundView) where
   abbrev pub edited : EditedModule
   edited = edited_by s (decode m) exports live p f
 

@@ -11,20 +11,20 @@ use Rattle.wc_read.specs.Exports.{ExportValue}
 use Rattle.wc_read.specs.Renumbering.{renumber_func_type}
 use Rattle.wc_read.specs.declared.core_module.Module.{Module}
 use Rattle.wc_read.specs.declared.operators.Space.TheVariants.{Types, Funcs, Memories}
-use Rattle.wc_write.specs.ModuleText.{BuiltValue, SizesFit}
+use Rattle.wc_write.specs.Modules.{BuiltValue, SizesFit}
 use Rattle.wc_write.specs.declared.fault.WriteFault.{WriteFault}
 use Rattle.wc_write.specs.declared.fault.WriteFault.TheVariants.{Memory as write_memory, TooLarge as write_too_large}
 use Rattle.wc_gc.specs.AddedCode.{empty_type, realloc_type}
 use Rattle.wc_gc.specs.Counts.{AreDisjoint, count_below}
 use Rattle.wc_gc.specs.Decoded.{DecodedModule, ItemIndex, decoded_module, size_of}
-use Rattle.wc_gc.specs.Edited.{EditedModule, added_types, edit, edited_by, growing_func, import_func, lazy_func, memory_of, one_if, only_if, start_func}
-use Rattle.wc_gc.specs.Edited.{start_position}
+use Rattle.wc_gc.specs.Edit.{EditedModule, added_types, edit, edited_by, growing_func, import_func, lazy_func, memory_of, one_if, only_if, start_func}
+use Rattle.wc_gc.specs.Edit.{start_position}
 use Rattle.wc_gc.specs.EditedImage.{FitsBits, count_defined, count_imports, edited_image, edited_rank, is_kept_defined, is_kept_import}
-use Rattle.wc_gc.specs.Faults.{of_write}
-use Rattle.wc_gc.specs.Found.{FoundValue, found_in, is_empty}
+use Rattle.wc_gc.specs.Fault.{of_write}
+use Rattle.wc_gc.specs.Found.{FoundView, found_in, is_empty}
 use Rattle.wc_gc.specs.Image.{kept_items, new_func}
 use Rattle.wc_gc.specs.NewIndices.{AreRanksOf, HasRoom, HasRoomFor, new_of}
-use Rattle.wc_gc.specs.Parts.{SettingsValue, parts_of}
+use Rattle.wc_gc.specs.Parts.{SettingsView, parts_of}
 use Rattle.wc_gc.specs.Ranks.{has_number, rank_of}
 use Rattle.wc_gc.specs.declared.fault.GcFault.{GcFault}
 use Rattle.wc_gc.specs.declared.fault.GcFault.TheVariants.{Memory, TooLarge}
@@ -52,7 +52,7 @@ two_added false false x y = refl
 pub three_added : {A : Type 0} (a b c : Bool) (x y z : A) → length (only_if a x ++ (only_if b y ++ only_if c z)) ≡ one_if a + (one_if b + one_if c)
 three_added a b c x y z = omega (arith, length-append (only_if a x) (only_if b y ++ only_if c z), only_length a x, two_added b c y z)
 
-pub count_added_types : (p : Parts) (f : FoundValue) → start_position p + one_if (p.start && is_empty f.empties) ≡ length (added_types p f)
+pub count_added_types : (p : Parts) (f : FoundView) → start_position p + one_if (p.start && is_empty f.empties) ≡ length (added_types p f)
 count_added_types p f =
     let all = length-append (only_if p.import_realloc realloc_type)
     (only_if p.lazy empty_type ++ (only_if p.growing realloc_type ++ only_if (p.start && is_empty f.empties) empty_type)) in
@@ -96,17 +96,17 @@ none_before_first has (suc n) =
 
 -- the edit by what was found
 
-pub edit_is : (s : SettingsValue) (m : DecodedModule) (exports : List ExportValue) (live : ItemIndex → Bool) (p : Parts) (f : FoundValue)
+pub edit_is : (s : SettingsView) (m : DecodedModule) (exports : List ExportValue) (live : ItemIndex → Bool) (p : Parts) (f : FoundView)
     → f ≡ found_in m live → p ≡ parts_of s f → edited_by s m exports live p f ≡ edit s m exports live
 unfolding edit
-edit_is s m exports live p f e q = ap (λ (z : Parts). edited_by s m exports live z f) q ∙ ap (λ (z : FoundValue). edited_by s m exports live (parts_of s z) z) e
+edit_is s m exports live p f e q = ap (λ (z : Parts). edited_by s m exports live z f) q ∙ ap (λ (z : FoundView). edited_by s m exports live (parts_of s z) z) e
 
-pub memory_first : (n : NewIndices) (m : DecodedModule) (kept : ItemIndex → Bool) (f : FoundValue) → f ≡ found_in m kept
+pub memory_first : (n : NewIndices) (m : DecodedModule) (kept : ItemIndex → Bool) (f : FoundView) → f ≡ found_in m kept
     → has_number n.ranks.memories ≡ (λ k. kept (Memories, k)) → new_of n Memories (memory_of f) ≡ 0
 unfolding new_of found_in
 memory_first n m kept f e r =
     ap (λ (h : ℕ → Bool). count_below h (memory_of f)) r
-    ∙ (ap (λ (z : FoundValue). count_below (λ k. kept (Memories, k)) (memory_of z)) e ∙ none_before_first (λ k. kept (Memories, k)) (size_of m Memories))
+    ∙ (ap (λ (z : FoundView). count_below (λ k. kept (Memories, k)) (memory_of z)) e ∙ none_before_first (λ k. kept (Memories, k)) (size_of m Memories))
 
 -- whether there is room for what is live and what is added
 
@@ -161,7 +161,7 @@ module _ (e : EditedModule) where
         kept_length (is_kept_defined e) size e.value.funcs (omega arith),
       )
 
-module _ (s : SettingsValue) (a : Module) (exports : List ExportValue) (live : ItemIndex → Bool) (p : Parts) (f : FoundValue) (i d : ℕ → Bool) (c : Counts)
+module _ (s : SettingsView) (a : Module) (exports : List ExportValue) (live : ItemIndex → Bool) (p : Parts) (f : FoundView) (i d : ℕ → Bool) (c : Counts)
     (is : i ≡ is_kept_import (edited_by s (decoded_module a) exports live p f)) (ds : d ≡ is_kept_defined (edited_by s (decoded_module a) exports live p f))
     (types : c.types ≡ length a.types.items) (funcs : c.funcs ≡ length a.funcs.items) (added_types : c.added_types ≡ length (added_types p f))
     (added_imports : c.added_imports ≡ one_if p.import_realloc) (added_funcs : c.added_funcs ≡ one_if p.lazy + (one_if p.growing + one_if p.start)) where

@@ -22,7 +22,7 @@ use Rattle.std.proofs.Math.Seq.{drop-cons}
 use Rattle.std.proofs.lemmas.List.Elements.{All-from_recursion}
 use Rattle.std.specs.Map.{lookup}
 use Rattle.std.specs.Prelude.{is_some}
-use Rattle.wc_gc.specs.KeptExports.{kept_exports, dropped_names, missing_name, is_exported, without, export_entries, AreNamed, is_required, by_name}
+use Rattle.wc_gc.specs.Exports.{kept_exports, dropped_names, missing_name, is_exported, without, export_entries, AreNamed, is_required, by_name}
 
 -- swapping and mapping
 

@@ -7,8 +7,8 @@ use Rattle.std.proofs.lemmas.Bool.{cases_lt}
 use Rattle.std.proofs.lemmas.List.{get_or_default}
 use Rattle.std.proofs.lemmas.Option.{get_or_from_slice_get, slice_get_cases, slice_get_read, slice_get_within}
 use Rattle.wc_gc.specs.Reached.{IsReachedFrom}
-use Rattle.wc_gc.specs.ShortestChains.{IsBefore, IsFinderChain, IsShortestChain, at_root, at_named}
-use Rattle.wc_gc.specs.Private.Searches.{HasGrown}
+use Rattle.wc_gc.specs.ImportChains.{IsBefore, IsFinderChain, IsShortestChain, at_root, at_named}
+use Rattle.wc_gc.specs.Private.Search.{HasGrown}
 use Rattle.wc_gc.specs.Private.Finders.{AreFound}
 use Rattle.wc_gc.proofs.ShortestLemmas.{AreTails, tails_start, tails_step, tails_end}
 
@@ -16,23 +16,23 @@ get_some : {A : Type 0} (xs : List A) (n : ℕ) → n < length xs → (x : A) ×
 get_some xs n h = elim (slice_get_cases xs n).1 [ inl r ↦ (r.0, r.2) | inr r ↦ absurd (let l = r.0 in omega (arith, l, h)) ]
 
 module _ {X : Type 0} where
-  -- the chain of what was found at a place, and what was walked before
+  -- the chain of what was found at a position, and what was walked before
 
-  walk_shortest : (names : X → List X) (roots found : List X) (finder : List ℕ) → AreFound names roots found finder → (place : ℕ) (d : X) → place < length found
+  walk_shortest : (names : X → List X) (roots found : List X) (finder : List ℕ) → AreFound names roots found finder → (position : ℕ) (d : X) → position < length found
       → {at : ℕ} {chain : List X} → IsFinderChain found finder at chain → (rest : List X)
-      → AreTails found finder at place d (get_or found at d ∷ rest) → IsShortestChain names roots (get_or found place d) (chain ++ rest)
-  walk_shortest names roots found finder a place d pl (at_root k x is own) rest t =
-      subst (λ z. IsShortestChain names roots (get_or found place d) (z ∷ rest)) (get_or_from_slice_get found k x d is)
-      (tails_end found finder k place d (get_or found k d ∷ rest) (slice_get_within found k x is) pl (get_or_from_slice_get finder k k 0 own) t names roots a)
-  walk_shortest names roots found finder a place d pl (at_named k j x chain is by other c) rest t =
+      → AreTails found finder at position d (get_or found at d ∷ rest) → IsShortestChain names roots (get_or found position d) (chain ++ rest)
+  walk_shortest names roots found finder a position d pl (at_root k x is own) rest t =
+      subst (λ z. IsShortestChain names roots (get_or found position d) (z ∷ rest)) (get_or_from_slice_get found k x d is)
+      (tails_end found finder k position d (get_or found k d ∷ rest) (slice_get_within found k x is) pl (get_or_from_slice_get finder k k 0 own) t names roots a)
+  walk_shortest names roots found finder a position d pl (at_named k j x chain is by other c) rest t =
       let finds : get_or finder k 0 ≡ j = get_or_from_slice_get finder k j 0 by in
-      let step : AreTails found finder (get_or finder k 0) place d (get_or found (get_or finder k 0) d ∷ (get_or found k d ∷ rest)) =
-      tails_step found finder k place d (get_or found k d ∷ rest) (slice_get_within found k x is) (λ e. other (sym finds ∙ e)) t in
-      let there : AreTails found finder j place d (get_or found j d ∷ (x ∷ rest)) =
-      subst (λ z. AreTails found finder j place d (get_or found j d ∷ (z ∷ rest))) (get_or_from_slice_get found k x d is)
-      (subst (λ z. AreTails found finder z place d (get_or found z d ∷ (get_or found k d ∷ rest))) finds step) in
-      subst (IsShortestChain names roots (get_or found place d)) (sym (append_assoc chain (x ∷ []) rest))
-      (walk_shortest names roots found finder a place d pl c (x ∷ rest) there)
+      let step : AreTails found finder (get_or finder k 0) position d (get_or found (get_or finder k 0) d ∷ (get_or found k d ∷ rest)) =
+      tails_step found finder k position d (get_or found k d ∷ rest) (slice_get_within found k x is) (λ e. other (sym finds ∙ e)) t in
+      let there : AreTails found finder j position d (get_or found j d ∷ (x ∷ rest)) =
+      subst (λ z. AreTails found finder j position d (get_or found j d ∷ (z ∷ rest))) (get_or_from_slice_get found k x d is)
+      (subst (λ z. AreTails found finder z position d (get_or found z d ∷ (get_or found k d ∷ rest))) finds step) in
+      subst (IsShortestChain names roots (get_or found position d)) (sym (append_assoc chain (x ∷ []) rest))
+      (walk_shortest names roots found finder a position d pl c (x ∷ rest) there)
 
   pub finder_chains : (names : X → List X) (roots found : List X) (finder : List ℕ) → AreFound names roots found finder
       → (k : ℕ) (x : X) (chain : List X) → slice_get found k ≡ Some x → IsFinderChain found finder k chain → IsShortestChain names roots x chain
@@ -87,44 +87,44 @@ module _ {X : Type 0} where
     pub reached_from_list : (names : X → List X) (y : X) → IsReachedFrom names xs y ↔ IsReachedFrom names order y
     reached_from_list names y = ((λ r. (r.0, g.all r.0 r.1, r.2, r.3)), λ r. (r.0, in_list r.0 r.1, r.2, r.3))
 
-  -- what was walked from one place to another before it: the chain of the place goes on with it
-  pub record IsWalked (found : List X) (finder : List ℕ) (at place : ℕ) (items : List X) : Type 0 where
+  -- what was walked from one position to another before it: the chain of the position goes on with it
+  pub record IsWalked (found : List X) (finder : List ℕ) (at position : ℕ) (items : List X) : Type 0 where
     pub rest : List X
     pub is : (d : X) → items ≡ get_or found at d ∷ rest
-    pub goes_on : (chain : List X) → IsFinderChain found finder at chain → IsFinderChain found finder place (chain ++ rest)
+    pub goes_on : (chain : List X) → IsFinderChain found finder at chain → IsFinderChain found finder position (chain ++ rest)
 
-  pub walk_start : (found : List X) (finder : List ℕ) (place : ℕ) (items : List X) → ((d : X) → items ≡ get_or found place d ∷ [])
-      → IsWalked found finder place place items
-  walk_start found finder place items e = record {
+  pub walk_start : (found : List X) (finder : List ℕ) (position : ℕ) (items : List X) → ((d : X) → items ≡ get_or found position d ∷ [])
+      → IsWalked found finder position position items
+  walk_start found finder position items e = record {
     rest = [];
     is = e;
-    goes_on = λ chain c. subst (IsFinderChain found finder place) (sym (append-nil chain)) c;
+    goes_on = λ chain c. subst (IsFinderChain found finder position) (sym (append-nil chain)) c;
   }
 
-  pub walk_step : (found : List X) (finder : List ℕ) (at by place : ℕ) (items more : List X) → at < length found → length finder ≡ length found
-      → get_or finder at 0 ≡ by → by ≢ at → ((d : X) → more ≡ get_or found by d ∷ items) → IsWalked found finder at place items
-      → IsWalked found finder by place more
-  walk_step found finder at by place items more lt sized finds other e w = record {
+  pub walk_step : (found : List X) (finder : List ℕ) (at by position : ℕ) (items more : List X) → at < length found → length finder ≡ length found
+      → get_or finder at 0 ≡ by → by ≢ at → ((d : X) → more ≡ get_or found by d ∷ items) → IsWalked found finder at position items
+      → IsWalked found finder by position more
+  walk_step found finder at by position items more lt sized finds other e w = record {
     rest = items;
     is = e;
     goes_on = λ chain c.
         let x = get_some found at lt in
         let own : slice_get finder at ≡ Some by = slice_get_read finder (length found) at by (sym sized) lt (sym (get_or_default finder at by 0 (omega (arith, lt, sized)) ∙ finds)) in
-        subst (IsFinderChain found finder place) (append_assoc chain (x.0 ∷ []) w.rest ∙ ap (λ z. chain ++ z) (ap (λ z. z ∷ w.rest) (sym (get_or_from_slice_get found at x.0 x.0 x.1)) ∙ sym (w.is x.0)))
+        subst (IsFinderChain found finder position) (append_assoc chain (x.0 ∷ []) w.rest ∙ ap (λ z. chain ++ z) (ap (λ z. z ∷ w.rest) (sym (get_or_from_slice_get found at x.0 x.0 x.1)) ∙ sym (w.is x.0)))
         (w.goes_on (chain ++ x.0 ∷ []) (at_named at by x.0 chain x.1 own other c));
   }
 
-  pub walk_end : (found : List X) (finder : List ℕ) (at place : ℕ) (items : List X) → at < length found → length finder ≡ length found
-      → get_or finder at 0 ≡ at → IsWalked found finder at place items → IsFinderChain found finder place items
-  walk_end found finder at place items lt sized finds w =
+  pub walk_end : (found : List X) (finder : List ℕ) (at position : ℕ) (items : List X) → at < length found → length finder ≡ length found
+      → get_or finder at 0 ≡ at → IsWalked found finder at position items → IsFinderChain found finder position items
+  walk_end found finder at position items lt sized finds w =
       let x = get_some found at lt in
       let own : slice_get finder at ≡ Some at = slice_get_read finder (length found) at at (sym sized) lt (sym (get_or_default finder at at 0 (omega (arith, lt, sized)) ∙ finds)) in
-      subst (IsFinderChain found finder place) (ap (λ z. z ∷ w.rest) (sym (get_or_from_slice_get found at x.0 x.0 x.1)) ∙ sym (w.is x.0))
+      subst (IsFinderChain found finder position) (ap (λ z. z ∷ w.rest) (sym (get_or_from_slice_get found at x.0 x.0 x.1)) ∙ sym (w.is x.0))
       (w.goes_on (x.0 ∷ []) (at_root at x.0 x.1 own))
 
   -- a chain begins with what is at its root
-  pub begins_at : (found : List X) (finder : List ℕ) (at place : ℕ) (items : List X) → at < length found → IsWalked found finder at place items
+  pub begins_at : (found : List X) (finder : List ℕ) (at position : ℕ) (items : List X) → at < length found → IsWalked found finder at position items
       → (x : X) → slice_get items 0 ≡ Some x → slice_get found at ≡ Some x
-  begins_at found finder at place items lt w x e =
+  begins_at found finder at position items lt w x e =
       let y = get_some found at lt in
       y.1 ∙ (ap Some (sym (get_or_from_slice_get found at y.0 x y.1)) ∙ (ap (λ z. slice_get z 0) (sym (w.is x)) ∙ e))

@@ -8,7 +8,7 @@ use Rattle.wc_gc.specs.Decoded.{DecodedModule, ItemIndex}
 use Rattle.wc_gc.specs.Entries.{refs_in}
 use Rattle.wc_gc.specs.Reached.{IsReachedFrom}
 use Rattle.wc_gc.specs.Private.Finders.{AreFound, IsOrdered, IsTree}
-use Rattle.wc_gc.specs.Private.Searches.{HasGrown, IsTied}
+use Rattle.wc_gc.specs.Private.Search.{HasGrown, IsTied}
 use Rattle.wc_gc.proofs.ReachLemmas.{IsAt, reached_at}
 use Rattle.wc_gc.proofs.SearchLemmas.{search_start}
 use Rattle.wc_gc.proofs.ShortestLemmas.{deeper, shortest_start, shortest_step}

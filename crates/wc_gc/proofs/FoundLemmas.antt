@@ -9,7 +9,7 @@ use Rattle.std.specs.Borrow.{Bor}
 use Rattle.std.proofs.lemmas.Option.{slice_get-map}
 use Rattle.std.proofs.lemmas.List.{length-map}
 use Rattle.wc_read.specs.Items.{DefValue, imported, local, func_value, global_value}
-use Rattle.wc_read.specs.Decoding.{body_in, init_in}
+use Rattle.wc_read.specs.BodyOperators.{body_in, init_in}
 use Rattle.wc_read.specs.declared.items.Item.{Item}
 use Rattle.wc_read.specs.declared.types.GlobalType.{GlobalType}
 use Rattle.wc_read.specs.declared.core_module.Module.{Module}

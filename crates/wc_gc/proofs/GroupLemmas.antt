@@ -1,5 +1,5 @@
 -- Sets that are filled index by index.
-use Rattle.std.proofs.Common.{◌≡◌, ℕ, ◌+◌, ◌≤◌, List, length, refl, sym, ◌∙◌, ap, Bool, true, false, ◌&&◌, ◌||◌, inl, inr, arith}
+use Rattle.std.proofs.Common.{◌≡◌, ℕ, ◌+◌, ◌≤◌, List, length, sym, ◌∙◌, ap, Bool, true, false, ◌&&◌, ◌||◌, inl, inr, arith}
 use Rattle.std.specs.Prelude.{nat_lt, nat_eq}
 use Rattle.std.proofs.lemmas.Bool.Decides.{eqb_tells, nat_tests}
 use Rattle.std.specs.Option.{option_map_or}
@@ -27,13 +27,6 @@ filled_more p i n h h' b e k s =
           let none = ap (λ z. b && z) other ∙ and-false b in
           e ∙ (ap (λ z. h || z) none ∙ (or-false h ∙ (k ∙ ap (λ z. z && p n) (sym same))))
     ]
-
-pub filled_end : (p : ℕ → Bool) (size n : ℕ) (h : Bool) → h ≡ (nat_lt n size && p n) → (size ≤ n → p n ≡ false) → h ≡ p n
-filled_end p size n h e past = by (nat_lt n size) refl
-  where
-    by : (b : Bool) → nat_lt n size ≡ b → h ≡ p n
-    by true k = e ∙ ap (λ z. z && p n) k
-    by false k = e ∙ (ap (λ z. z && p n) k ∙ sym (past (let s : size ≤ n = grind (arith, nat_tests, k) in s)))
 
 -- no function has an index past the last
 

@@ -1,10 +1,9 @@
 -- Each import is one item, and each item one import.
 use Rattle.std.proofs.Common.{◌≡◌, ◌≢◌, ℕ, zero, suc, ◌+◌, ◌<◌, ◌≤◌, List, [], ◌∷◌, ◌++◌, length, map, take, drop, get_or, refl, sym, ◌∙◌, ap, subst, Bool, true, false, cond, inl, inr, arith}
-use Rattle.std.proofs.Common.{Option, Some, None, set, append_assoc, append-nil}
+use Rattle.std.proofs.Common.{Option, Some, None, set, append-nil}
 use Rattle.std.specs.Prelude.{Contains, IfSome, MatchOption}
 use Rattle.std.specs.List.{slice_get}
 use Rattle.std.specs.Option.{option_map_or}
-use Rattle.std.proofs.Math.Seq.{drop-cons}
 use Rattle.std.proofs.lemmas.Bool.{true≢false}
 use Rattle.std.proofs.lemmas.Bool.Decides.{eqb_tells}
 use Rattle.std.proofs.lemmas.Bool.{cases_lt}
@@ -18,8 +17,8 @@ use Rattle.wc_read.specs.declared.types.ImportType.TheVariants.{Func, Table, Mem
 use Rattle.wc_read.specs.declared.operators.Space.{Space}
 use Rattle.wc_read.specs.declared.operators.Space.TheVariants.{Types, Funcs, Tables, Memories, Globals}
 use Rattle.wc_gc.specs.Decoded.{ItemIndex}
-use Rattle.wc_gc.specs.Restriction.{IsImportItem, is_in_space, positions_from}
-use Rattle.wc_gc.specs.Private.ImportSpaces.{AreBySpace, import_at}
+use Rattle.wc_gc.specs.RestrictionLaws.{IsImportItem, is_in_space, positions_from}
+use Rattle.wc_gc.specs.Private.ImportPositions.{AreBySpace, import_at}
 use Rattle.wc_gc.specs.declared.import_positions.ImportSpaces.{ImportSpaces}
 
 -- positions are of imports
@@ -107,22 +106,6 @@ import_once is k x y e f = let r = one_item is x.0 y.0 0 x.1 y.1 k e f in pair x
 
 -- a list of positions that grows
 
-pub position_step : (space : Space) (is : List Import) (k : ℕ) (d : Import) (b : Bool) → k < length is → b ≡ is_in_space space (get_or is k d).ty
-    → positions_from space k (map import_value (drop k is)) ≡ cond b (k ∷ positions_from space (k + 1) (map import_value (drop (k + 1) is))) (positions_from space (k + 1) (map import_value (drop (k + 1) is)))
-position_step space is k d b h e =
-    ap (λ z. positions_from space k (map import_value z)) (drop-cons is k d h ∙ ap (λ (n : ℕ). get_or is k d ∷ drop n is) (let s : suc k ≡ k + 1 = omega arith in s))
-    ∙ ap (λ z. cond z (k ∷ positions_from space (k + 1) (map import_value (drop (k + 1) is))) (positions_from space (k + 1) (map import_value (drop (k + 1) is)))) (sym e)
-
-pub position_put : (space : Space) (is : List Import) (k : ℕ) (d : Import) (b : Bool) (put put' all : List ℕ) → k < length is → b ≡ is_in_space space (get_or is k d).ty
-    → put' ≡ cond b (put ++ k ∷ []) put → put ++ positions_from space k (map import_value (drop k is)) ≡ all
-    → put' ++ positions_from space (k + 1) (map import_value (drop (k + 1) is)) ≡ all
-position_put space is k d true put put' all h e q w =
-    ap (λ z. z ++ positions_from space (k + 1) (map import_value (drop (k + 1) is))) q
-    ∙ (append_assoc put (k ∷ []) (positions_from space (k + 1) (map import_value (drop (k + 1) is))) ∙ (ap (λ z. put ++ z) (sym (position_step space is k d true h e)) ∙ w))
-position_put space is k d false put put' all h e q w =
-    ap (λ z. z ++ positions_from space (k + 1) (map import_value (drop (k + 1) is))) q
-    ∙ (ap (λ z. put ++ z) (sym (position_step space is k d false h e)) ∙ w)
-
 pub position_end : (space : Space) (is : List Import) (k : ℕ) (put all : List ℕ) → length is ≤ k → put ++ positions_from space k (map import_value (drop k is)) ≡ all → put ≡ all
 position_end space is k put all h w = sym (append-nil put) ∙ (ap (λ z. put ++ positions_from space k (map import_value z)) (sym (none is k h)) ∙ w)
   where
@@ -164,14 +147,6 @@ pub record ArePositions (is : List ImportValue) (order : List ItemIndex) (count 
   pub each : length positions ≡ length is
   pub at : (k : ℕ) (x : ItemIndex) (position : Option ℕ) → IsImportItem is k x → slice_get positions k ≡ Some position
       → MatchOption position (¬ (Contains (take count order) x)) (λ p. slice_get order p ≡ Some x)
-
-pub positions_start : (is : List ImportValue) (order : List ItemIndex) (positions : List (Option ℕ)) → length positions ≡ length is
-    → ((k : ℕ) (position : Option ℕ) → slice_get positions k ≡ Some position → position ≡ None) → ArePositions is order 0 positions
-positions_start is order positions e none = record {
-  each = e;
-  at = λ k x position i s.
-      subst (λ z. MatchOption z (¬ (Contains (take 0 order) x)) (λ p. slice_get order p ≡ Some x)) (sym (none k position s)) (λ c. let h = c.1 in omega (arith, h));
-}
 
 module _ (is : List ImportValue) (order : List ItemIndex) (count : ℕ) (positions : List (Option ℕ)) (x : ItemIndex) (there : slice_get order count ≡ Some x) where
   -- an item that is passed is no item of an import that it is not

@@ -7,7 +7,7 @@ use Rattle.std.proofs.lemmas.Bool.Decides.{nat_tests}
 use Rattle.std.proofs.lemmas.List.{length-append, length-map}
 use Rattle.std.proofs.lemmas.List.Elements.{recursion_from_All}
 use Rattle.std.proofs.lemmas.Option.{slice_get_within}
-use Rattle.wc_read.specs.Decoding.{body_in, init_in}
+use Rattle.wc_read.specs.BodyOperators.{body_in, init_in}
 use Rattle.wc_read.specs.Inits.{constant_byte, constant_of, end_value}
 use Rattle.wc_read.specs.InitTypes.{InitScope, class_of, is_non_null, class_named, given_by, integer_class, integers_class, LeavesOne, alone, joined, IsTyped, IsTypedDef, types_of}
 use Rattle.wc_read.specs.Items.{DefValue, imported, local, GlobalValue}

@@ -7,7 +7,7 @@ use Rattle.std.specs.Str.{bytes_eq}
 use Rattle.std.proofs.lemmas.Bool.Decides.{eqb_tells}
 use Rattle.std.proofs.lemmas.List.{get_or-map, get_or-take, get_or-set_same, get_or-set_other, length-take-le, length-set, length-map, get_or_default}
 use Rattle.wc_read.specs.Exports.{ExportValue}
-use Rattle.wc_gc.specs.KeptExports.{kept_exports, dropped_names, without}
+use Rattle.wc_gc.specs.Exports.{kept_exports, dropped_names, without}
 
 module _ {A : Type 0} (R : A → A → Type 0) (flip : (x y : A) → R x y → R y x) where
   module _ (xs : List A) (i : ℕ) (d : A) (pairs : AllPairs R xs) where

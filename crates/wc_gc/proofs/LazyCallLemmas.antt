@@ -9,7 +9,7 @@ use Rattle.wc_read.specs.Bodies.{BodyValue}
 use Rattle.wc_gc.specs.AddedCode.{stack_body}
 use Rattle.wc_gc.specs.Machine.{Store, with_global}
 use Rattle.wc_gc.specs.LazyCalls.{Event, begins, answers, traps, writes, Situation, start_of, after_run, after_event, after_events, WritesNoZero, WritesNothing, IsNoTrap}
-use Rattle.wc_gc.specs.AddedCodeRuns.{block_end, IsGlobal, IsThere, IsAllocated, allocated_store, stack_call, AllocatesOnce, AllocatesLazily, IsStackCode}
+use Rattle.wc_gc.specs.MachineLaws.{block_end, IsGlobal, IsThere, IsAllocated, allocated_store, stack_call, AllocatesOnce, AllocatesLazily, IsStackCode}
 use Rattle.wc_gc.proofs.MachineLemmas.{global_at, global_set, is_there, there_stays}
 use Rattle.wc_gc.proofs.AddedCodeRunLemmas.{once_rest, enter_once, enter_again, resume_there, is_allocated, allocates_stack}
 

@@ -15,15 +15,15 @@ use Rattle.wc_read.specs.declared.types.Import.{Import}
 use Rattle.wc_gc.specs.Decoded.{ItemIndex, decode, decoded_module, exported_item, is_in}
 use Rattle.wc_gc.specs.Entries.{refs_in}
 use Rattle.wc_gc.specs.InRange.{is_item_in_range}
-use Rattle.wc_gc.specs.KeptExports.{kept_exports}
+use Rattle.wc_gc.specs.Exports.{kept_exports}
 use Rattle.wc_gc.specs.LiveChains.{AreImportChains, IsChainTo, IsFirstName, items_named}
-use Rattle.wc_gc.specs.Liveness.{HasLiveBody, IsFaultOf, IsLive, IsReachFault, IsSupported}
+use Rattle.wc_gc.specs.LiveItems.{HasLiveBody, IsFaultOf, IsLive, IsReachFault, IsSupported}
 use Rattle.wc_gc.specs.Reached.{IsReachedFrom}
-use Rattle.wc_gc.specs.Restriction.{IsImportItem}
-use Rattle.wc_gc.specs.ShortestChains.{IsFinderChain}
+use Rattle.wc_gc.specs.RestrictionLaws.{IsImportItem}
+use Rattle.wc_gc.specs.ImportChains.{IsFinderChain}
 use Rattle.wc_gc.specs.Private.Finders.{AreFound}
 use Rattle.wc_gc.specs.Private.Roots.{HaveFirstNames}
-use Rattle.wc_gc.specs.Private.Searches.{HasGrown}
+use Rattle.wc_gc.specs.Private.Search.{HasGrown}
 use Rattle.wc_gc.specs.declared.fault.GcFault.{GcFault}
 use Rattle.wc_gc.specs.declared.import_chains.Chain.{Chain}
 use Rattle.wc_gc.specs.declared.import_chains.ImportChains.{ImportChains}
@@ -90,7 +90,7 @@ module _ (a : Module) (required : List (List ℕ)) (order : List ItemIndex) (has
     begin = λ k x is. named k x is (slice_get c.exports.items k) refl;
     imports = record {
       each = h.0 ∙ sym (length-map a.imports.items import_value);
-      at = λ k x position i s. placed x position (h.1 k x position i s);
+      at = λ k x position i s. positioned x position (h.1 k x position i s);
     };
   }
     where
@@ -102,10 +102,10 @@ module _ (a : Module) (required : List (List ℕ)) (order : List ItemIndex) (has
           let sized = n.sized in
           n.each k x name (sym (old_of order more k (omega (arith, within, sized))) ∙ (ap (λ z. slice_get z k) (sym e) ∙ is)) q
 
-      placed : (x : ItemIndex) (position : Option ℕ) → MatchOption position (¬ (Contains c.order.items x)) (λ p. slice_get c.order.items p ≡ Some x)
+      positioned : (x : ItemIndex) (position : Option ℕ) → MatchOption position (¬ (Contains c.order.items x)) (λ p. slice_get c.order.items p ≡ Some x)
           → MatchOption position (¬ (IsLive required (module_value a) x)) (λ p. slice_get c.order.items p ≡ Some x)
-      placed x None h = λ l. h ((reached x).1 ((live_reached x).1 l))
-      placed x (Some p) h = h
+      positioned x None h = λ l. h ((reached x).1 ((live_reached x).1 l))
+      positioned x (Some p) h = h
 
   -- its faults
 

@@ -10,7 +10,7 @@ use Rattle.wc_read.specs.Modules.{ModuleValue}
 use Rattle.wc_gc.specs.Causes.{DecidesLive}
 use Rattle.wc_gc.specs.Decoded.{DecodedModule, ItemIndex, decode, exported_item, is_in}
 use Rattle.wc_gc.specs.Entries.{entry_at, entry_refs, refs_in}
-use Rattle.wc_gc.specs.KeptExports.{kept_exports}
+use Rattle.wc_gc.specs.Exports.{kept_exports}
 use Rattle.wc_gc.specs.Reached.{IsReachedFrom}
 use Rattle.wc_gc.proofs.SearchLemmas.{longer}
 

@@ -5,7 +5,7 @@ use Rattle.std.specs.Prelude.{IsTrue, All, ◌↔◌, Err, IsErrOf, string_bytes
 use Rattle.std.proofs.lemmas.Bool.{lt-ltb, both_ways}
 use Rattle.std.proofs.lemmas.List.Elements.{All-map, All-weaker}
 use Rattle.std.proofs.lemmas.List.{length-map}
-use Rattle.wc_read.specs.Faults.{SpellsNothing}
+use Rattle.wc_read.specs.Fault.{SpellsNothing}
 use Rattle.wc_read.specs.Sections.{IsComponent}
 use Rattle.wc_read.specs.Exports.{ExportValue, export_value}
 use Rattle.wc_read.specs.Modules.{ModuleValue, module_value, IsModule, SpellsModule, count_of}
@@ -18,12 +18,12 @@ use Rattle.wc_read.specs.declared.fault.ReadFault.TheVariants.{Memory as read_me
 use Rattle.wc_read.proofs.ModulesLemmas.{modules_one}
 use Rattle.wc_gc.specs.Decoded.{ItemIndex, decode, decoded_module, exported_item, is_in, size_of, space_of}
 use Rattle.wc_gc.specs.Entries.{refs_in}
-use Rattle.wc_gc.specs.Faults.{of_read}
-use Rattle.wc_gc.specs.KeptExports.{kept_exports, missing_name}
+use Rattle.wc_gc.specs.Fault.{of_read}
+use Rattle.wc_gc.specs.Exports.{kept_exports, missing_name}
 use Rattle.wc_gc.specs.Reached.{IsReachedFrom}
 use Rattle.wc_gc.specs.InRange.{is_item_in_range}
-use Rattle.wc_gc.specs.Liveness.{IsCount, HasLiveBody, HasUnsupported, IsSupported, IsLive, IsLivenessOf, IsFaultOf, TrimInput, IsLivenessCause, IsFault}
-use Rattle.wc_gc.specs.Liveness.{order_of}
+use Rattle.wc_gc.specs.LiveItems.{IsCount, HasLiveBody, HasUnsupported, IsSupported, IsLive, IsLivenessOf, IsFaultOf, TrimInput, IsLivenessCause, IsFault}
+use Rattle.wc_gc.specs.LiveItems.{order_of}
 use Rattle.wc_gc.specs.declared.fault.GcFault.{GcFault}
 use Rattle.wc_gc.specs.declared.fault.GcFault.TheVariants.{Memory, Read, MissingExport, UnsupportedSection, LiveBody}
 use Rattle.wc_gc.proofs.ExportLemmas.{all_kept}

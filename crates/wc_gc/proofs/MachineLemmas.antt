@@ -5,7 +5,7 @@ use Rattle.std.proofs.Math.ListN.{length-set}
 use Rattle.std.proofs.lemmas.List.{get_or-set_same, get_or-set_other}
 use Rattle.std.proofs.lemmas.Option.{slice_get_within, slice_get-get_or, get_or_from_slice_get}
 use Rattle.wc_gc.specs.Machine.{Store, with_global}
-use Rattle.wc_gc.specs.AddedCodeRuns.{IsGlobal, IsThere}
+use Rattle.wc_gc.specs.MachineLaws.{IsGlobal, IsThere}
 
 pub global_at : (s : Store) (n : ℕ) → IsThere s n → IsGlobal s n (get_or s.globals n 0)
 global_at s n h = slice_get-get_or s.globals n 0 h

@@ -9,7 +9,7 @@ use Rattle.std.specs.Prelude.{string_bytes}
 use Rattle.std.specs.List.{list_any, filter}
 use Rattle.std.specs.Str.{bytes_eq}
 use Rattle.indexmap.specs.IndexSet.{insert_key}
-use Rattle.wc_gc.specs.Liveness.{names_of}
+use Rattle.wc_gc.specs.LiveItems.{names_of}
 use Rattle.wc_maps.specs.Names.{first_occurrences}
 
 abbrev pub same_text : String Global → String Global → Bool

@@ -9,7 +9,7 @@ use Rattle.wc_read.specs.Bodies.{BodyValue, local_types}
 use Rattle.wc_read.specs.Items.{DefValue, imported, local, GlobalValue, TableValue}
 use Rattle.wc_read.specs.Modules.{ModuleValue, IsModule}
 use Rattle.wc_read.specs.Operators.{InstrValue}
-use Rattle.wc_read.specs.Refs.{names_segment}
+use Rattle.wc_read.specs.References.{names_segment}
 use Rattle.wc_read.specs.Types.{FuncTypeValue, HasTypeIndex, HaveTypeIndices, type_index, type_indices}
 use Rattle.wc_read.specs.declared.types.ValType.{ValType}
 use Rattle.wc_gc.specs.Decoded.{DecodedModule, FuncCode, ItemIndex, decode, is_in}

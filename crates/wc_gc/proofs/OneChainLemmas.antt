@@ -2,7 +2,7 @@
 use Rattle.std.proofs.Common.{◌≡◌, List, [], ◌∷◌, length, refl, sym, ◌∙◌, ap, subst, inl, inr, arith}
 use Rattle.std.proofs.lemmas.Bool.{cases_lt}
 use Rattle.std.proofs.lemmas.List.{get_or_default}
-use Rattle.wc_gc.specs.ShortestChains.{IsBefore, IsNotAfter, IsShortestChain}
+use Rattle.wc_gc.specs.ImportChains.{IsBefore, IsNotAfter, IsShortestChain}
 
 module _ {X : Type 0} where
   one_before : (xs : List X) (x y : X) → IsBefore xs x y → IsBefore xs y x → ⊥

@@ -6,11 +6,11 @@ use Rattle.std.proofs.lemmas.Option.{slice_get_within}
 use Rattle.wc_read.specs.Types.{FuncTypeValue}
 use Rattle.wc_read.specs.declared.operators.Space.TheVariants.{Funcs}
 use Rattle.wc_gc.specs.Decoded.{DecodedModule, FuncCode}
-use Rattle.wc_gc.specs.Edited.{edit, edited_by, edited_func, edited_funcs, is_exported_func}
-use Rattle.wc_gc.specs.Found.{FoundValue, found_in, is_realloc, is_realloc_at}
-use Rattle.wc_gc.specs.Traces.{AddsNothing}
+use Rattle.wc_gc.specs.Edit.{edit, edited_by, edited_func, edited_funcs, is_exported_func}
+use Rattle.wc_gc.specs.Found.{FoundView, found_in, is_realloc, is_realloc_at}
+use Rattle.wc_gc.specs.TraceLaws.{AddsNothing}
 use Rattle.wc_gc.specs.Unfolding.{edited_module}
-use Rattle.wc_gc.specs.Untouched.{EditsNothing, Original, edited}
+use Rattle.wc_gc.specs.UntouchedLaws.{EditsNothing, Original, edited}
 use Rattle.wc_gc.specs.declared.parts.Parts.{Parts}
 use Rattle.wc_gc.proofs.TwiceImageLemmas.{def_same, func_with, no_parts, parts_none}
 use Rattle.wc_gc.proofs.TwiceListLemmas.{none_found}
@@ -27,7 +27,7 @@ module _ (a : Original) (none : AddsNothing a.settings (found_in a.value a.live)
   abbrev olds : List FuncCode
   olds = a.value.funcs
 
-  abbrev found : FoundValue
+  abbrev found : FoundView
   found = found_in a.value a.live
 
   no_realloc : (n : ℕ) (f : FuncCode) → slice_get olds n ≡ Some f → (a.live (Funcs, n) && is_realloc f.def) ≡ false

@@ -4,16 +4,13 @@ use Rattle.std.proofs.Common.{true, false, ◌&&◌, ◌||◌, nat_le, nat_eq, i
 use Rattle.std.proofs.lemmas.Bool.Decides.{eqb_tells, nat_tests}
 use Rattle.std.proofs.lemmas.List.{get_or_default}
 use Rattle.wc_gc.specs.Ranges.{is_within, in_ranges, AreRanges}
-use Rattle.wc_gc.specs.Private.Positions.{IsCut, joined_at}
-use Rattle.wc_gc.specs.LiveSets.{Inserts}
+use Rattle.wc_gc.specs.Private.RangeSet.{IsCut, joined_at}
+use Rattle.wc_gc.specs.Live.{Inserts}
 
 -- sorted ranges that neither overlap nor touch, from a number on
 abbrev pub AreFrom : ℕ → List (ℕ × ℕ) → Type 0
 AreFrom low [] = Unit {0}
 AreFrom low (r ∷ rs) = (low ≤ r.0) × ((r.0 ≤ r.1) × AreFrom (r.1 + 2) rs)
-
-abbrev Apart : ℕ × ℕ → ℕ × ℕ → Type 0
-Apart r s = r.1 + 1 < s.0
 
 pub from_ranges : (low : ℕ) (rs : List (ℕ × ℕ)) → ((d : ℕ × ℕ) → 0 < length rs → low ≤ (get_or rs 0 d).0) → AreRanges rs → AreFrom low rs
 from_ranges low [] h a = tt

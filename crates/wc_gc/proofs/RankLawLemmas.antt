@@ -9,7 +9,7 @@ use Rattle.wc_read.specs.declared.operators.Space.TheVariants.{Types, Funcs, Tab
 use Rattle.wc_write.specs.BuiltValues.{is_imported, is_defined}
 use Rattle.wc_gc.specs.Counts.{count_below}
 use Rattle.wc_gc.specs.Decoded.{FuncCode}
-use Rattle.wc_gc.specs.Edited.{EditedModule}
+use Rattle.wc_gc.specs.Edit.{EditedModule}
 use Rattle.wc_gc.specs.EditedImage.{count_defined, count_imports, edited_rank, func_rank, added_func_rank, is_kept_defined, is_kept_import}
 use Rattle.wc_gc.specs.RankLaws.{is_in_image, RanksKeepOrder, RanksDiffer}
 use Rattle.wc_gc.proofs.KeptItemLemmas.{get_some}

@@ -2,14 +2,14 @@
 use Rattle.std.proofs.Common.{◌≡◌, ℕ, ◌+◌, ◌-◌, ◌<◌, ◌≤◌, List, [], ◌∷◌, ◌++◌, map, take, length, get_or, subst, sym, ◌∙◌, ap, refl, Bool, true, false, ◌⊎◌}
 use Rattle.std.proofs.Common.{inl, inr, arith, ◌&&◌, Option, Some, None, append_assoc, append-nil}
 use Rattle.std.proofs.Common.{ltb-true}
-use Rattle.std.proofs.lemmas.Bool.{ltb-false, both_ways}
+use Rattle.std.proofs.lemmas.Bool.{ltb-false}
 use Rattle.std.specs.Prelude.{IsTrue, nat_lt, Contains, All, ◌↔◌, Result, Ok, Err, OnOk, ⊤}
 use Rattle.std.proofs.lemmas.List.{take_more, take_all, get_or_append_left, map-append}
 use Rattle.std.proofs.lemmas.List.Elements.{filter-append, filter_passes, All-contains, Contains-get_or}
 use Rattle.std.specs.List.{slice_get, cons_option, list_all}
 use Rattle.std.specs.Borrow.{Bor}
 use Rattle.std.proofs.lemmas.Option.{slice_get-map, slice_get_past}
-use Rattle.wc_read.specs.Decoding.{body_in, body_of, init_in}
+use Rattle.wc_read.specs.BodyOperators.{body_in, body_of, init_in}
 use Rattle.wc_read.specs.Items.{TableValue, func_value, global_value, table_value}
 use Rattle.wc_read.specs.declared.core_module.Module.{Module}
 use Rattle.wc_read.specs.declared.items.Item.{Item}
@@ -27,7 +27,7 @@ use Rattle.std.proofs.Math.Bool.{and-false}
 use Rattle.wc_read.specs.Operators.{InstrValue, instr_value, instr_values}
 use Rattle.wc_read.specs.Bodies.{BodyValue, local_types}
 use Rattle.wc_read.specs.declared.bodies.Locals.{Locals}
-use Rattle.wc_read.specs.Refs.{refs_of, type_reference, type_refs_of}
+use Rattle.wc_read.specs.References.{refs_of, type_reference, type_refs_of}
 use Rattle.wc_read.specs.Types.{FuncTypeValue, func_type_value, type_index, type_indices}
 use Rattle.wc_read.specs.Passing.{ArePassable, IsPassable, IsPassableCode, run_and_left}
 use Rattle.wc_read.specs.declared.operators.Refs.{Refs}
@@ -35,10 +35,10 @@ use Rattle.wc_read.specs.declared.operators.Instr.{Instr}
 use Rattle.wc_gc.specs.Decoded.{DecodedModule, FuncCode, GlobalCode, ItemIndex, decoded_module, func_code, is_in, size_of}
 use Rattle.wc_gc.specs.Entries.{no_entry, type_entry, func_entry, table_entry, global_entry, entry_in, refs_in, entry_refs, entry_at}
 use Rattle.wc_gc.specs.Reached.{IsPath, IsReachedFrom}
-use Rattle.wc_gc.specs.Private.Searches.{IsTied, HasGrown, IsGrown}
+use Rattle.wc_gc.specs.Private.Search.{IsTied, HasGrown, IsGrown}
 use Rattle.wc_gc.specs.InRange.{is_operator_in_range, is_code_in_range, is_body_in_range, is_item_in_range}
-use Rattle.wc_gc.specs.Liveness.{IsCount}
-use Rattle.wc_gc.specs.Private.Searches.{FindsItems, IsKnownCode, finds}
+use Rattle.wc_gc.specs.LiveItems.{IsCount}
+use Rattle.wc_gc.specs.Private.Search.{FindsItems, IsKnownCode, finds}
 use Rattle.wc_gc.specs.declared.search.Search.{Search}
 use Rattle.wc_gc.specs.Entries.{present, refs_list, type_items, val_type_refs, instr_refs, code_refs, body_refs}
 use Rattle.wc_gc.proofs.SearchLemmas.{IsSearched, grown_none, grown_old, items_decided, only_if_tied, search_start, search_step, search_end}
@@ -47,13 +47,6 @@ use Rattle.wc_gc.proofs.SearchLemmas.{IsSearched, grown_none, grown_old, items_d
 pub record IsAt (m : DecodedModule) (roots : List ItemIndex) (has : ItemIndex → Bool) (found : List ItemIndex) (next : ℕ) : Type 0 where
   pub searched : IsSearched (refs_in m) roots has found next
   pub in_range : (k : ℕ) (d : ItemIndex) → k < next → is_item_in_range m (get_or found k d) ≡ true
-
-pub tied_none : (has : ItemIndex → Bool) (found : List ItemIndex) → found ≡ [] → ((x : ItemIndex) → has x ≡ false) → IsTied has found
-tied_none has found e none = subst (IsTied has) (sym e) (record {
-  is_listed = λ x h. absurd (both_ways _ (none x) h);
-  is_in_set = λ x c. absurd (omega (arith, c.1));
-  distinct = λ i j d h k. absurd (omega arith);
-})
 
 pub roots_more : (has : ItemIndex → Bool) (found : List ItemIndex) (has' : ItemIndex → Bool) (found' : List ItemIndex) (has'' : ItemIndex → Bool)
     (found'' : List ItemIndex) (roots : List ItemIndex) (i : ℕ) (d : ItemIndex) → i < length roots
@@ -343,15 +336,6 @@ body_in_range has m body locals a b left s e =
     ap (is_body_in_range m) (whole_body has m body locals a b left s e)
     ∙ (ap (λ (z : Bool). z && is_code_in_range m s.before) s.there ∙ s.in_range)
 
--- no body is in range whose locals name a type that is not there
-pub locals_out_of_range : (m : DecodedModule) (body : Option BodyValue) (locals : List Locals) (left : Option (List InstrValue))
-    → body ≡ option_map (body_of locals) left → list_all (is_in m) (val_type_refs (local_types locals)) ≡ false → is_body_in_range m body ≡ false
-locals_out_of_range m body locals left e bad = ap (is_body_in_range m) e ∙ go left
-  where
-    go : (o : Option (List InstrValue)) → is_body_in_range m (option_map (body_of locals) o) ≡ false
-    go None = refl
-    go (Some is) = ap (λ (z : Bool). z && is_code_in_range m is) bad
-
 out_of_range_in : (m : DecodedModule) (before is : List InstrValue) (i : InstrValue) → is_operator_in_range m i ≡ false
     → is_code_in_range m (before ++ i ∷ is) ≡ false
 out_of_range_in m [] is i bad = ap (λ (z : Bool). z && is_code_in_range m is) bad
@@ -367,11 +351,6 @@ body_out_of_range has m body locals a b left after i s e bad =
     go : (o : Option (List InstrValue)) → is_body_in_range m (option_map (λ is. body_of locals (s.before ++ is)) (option_map (λ is. i ∷ is) o)) ≡ false
     go None = refl
     go (Some is) = ap (λ (z : Bool). z && is_code_in_range m (s.before ++ i ∷ is)) s.there ∙ out_of_range_in m s.before is i bad
-
-pub body_none : {L : Type 0} (has : L → ℕ → Bool) (m : DecodedModule) (body : Option BodyValue) (locals : List Locals) (a b : Search L)
-    (left : Option (List InstrValue))
-    → IsBodyFound has m body locals a b left → left ≡ None → is_body_in_range m body ≡ false
-body_none has m body locals a b left s e = ap (is_body_in_range m) (s.split ∙ ap (option_map (λ is. body_of locals (s.before ++ is))) e)
 
 -- one more of the operators of an initialiser
 pub code_more : (is : List Instr) (i : ℕ) (x : Instr) → i < length is → x ≡ get_or is i x → instr_values (take (i + 1) is) ≡ instr_values (take i is)

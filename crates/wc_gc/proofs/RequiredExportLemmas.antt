@@ -14,7 +14,7 @@ use Rattle.std.proofs.lemmas.List.Sums.{fails_before_first}
 use Rattle.std.proofs.lemmas.Map.Views.{Contains-from_any}
 use Rattle.std.proofs.lemmas.Slice.Eq.{bytes_eq-Decides}
 use Rattle.wc_read.specs.Exports.{ExportValue}
-use Rattle.wc_gc.specs.KeptExports.{dropped_names, export_names, is_required, kept_exports, without}
+use Rattle.wc_gc.specs.Exports.{dropped_names, export_names, is_required, kept_exports, without}
 use Rattle.wc_gc.proofs.ExportLemmas.{all_fold, all_kept}
 use Rattle.wc_gc.proofs.KeptExportLemmas.{pairs_without}
 use Rattle.wc_gc.proofs.LiveItemLemmas.{contains_mapped}

@@ -19,21 +19,21 @@ use Rattle.wc_read.specs.Renumbering.{Renumbering, renumber_func_type}
 use Rattle.wc_read.specs.declared.exports.ExportKind.{ExportKind}
 use Rattle.wc_read.specs.declared.exports.ExportKind.TheVariants as export
 use Rattle.wc_read.specs.declared.operators.Space.TheVariants.{Types, Funcs, Tables, Memories, Globals}
-use Rattle.wc_write.specs.BodyText.{body_text}
+use Rattle.wc_write.specs.Bodies.{body_text}
 use Rattle.wc_write.specs.BuiltValues.{item_seen, written_module}
-use Rattle.wc_write.specs.ModuleText.{BuiltValue, operators_text}
+use Rattle.wc_write.specs.Modules.{BuiltValue, operators_text}
 use Rattle.wc_write.specs.Values.{AreBytes}
 use Rattle.wc_gc.specs.Causes.{DecidesLive}
 use Rattle.wc_gc.specs.Counts.{count_below}
 use Rattle.wc_gc.specs.Decoded.{FuncCode, ItemIndex, decode, is_in, space_of}
-use Rattle.wc_gc.specs.Edited.{EditedModule, added_types}
+use Rattle.wc_gc.specs.Edit.{EditedModule, added_types}
 use Rattle.wc_gc.specs.EditedImage.{count_imports, is_kept_defined, is_kept_import}
 use Rattle.wc_gc.specs.Entries.{entry_refs}
-use Rattle.wc_gc.specs.Found.{FoundValue, found_in}
+use Rattle.wc_gc.specs.Found.{FoundView, found_in}
 use Rattle.wc_gc.specs.Image.{new_export, new_func, new_table, rank}
-use Rattle.wc_gc.specs.KeptExports.{dropped_names, export_names, is_required, kept_exports, without}
-use Rattle.wc_gc.specs.Parts.{SettingsValue, parts_of}
-use Rattle.wc_gc.specs.Restriction.{AreSameTypesButIndices, IsNewExport, IsOldExport, export_type, func_item, global_item, memory_item, table_item}
+use Rattle.wc_gc.specs.Exports.{dropped_names, export_names, is_required, kept_exports, without}
+use Rattle.wc_gc.specs.Parts.{SettingsView, parts_of}
+use Rattle.wc_gc.specs.RestrictionLaws.{AreSameTypesButIndices, IsNewExport, IsOldExport, export_type, func_item, global_item, memory_item, table_item}
 use Rattle.wc_gc.specs.declared.parts.Parts.{Parts}
 use Rattle.wc_gc.proofs.SameButIndicesLemmas.{same_under, func_item_under, item_under}
 use Rattle.wc_gc.proofs.BuiltImageLemmas.{func_at, kept_in}
@@ -114,11 +114,11 @@ required_there required es x c h =
     (filter_passes (λ n. not (is_required required n)) (export_names es))) c
 
 module _ (bytes : List ℕ) (required : List (List ℕ)) (v : ModuleValue) (live : ItemIndex → Bool) (all : AreBytes bytes) (s : SpellsModule bytes v)
-    (decides : DecidesLive required v live) (set : SettingsValue) where
+    (decides : DecidesLive required v live) (set : SettingsView) where
   abbrev pub exports : List ExportValue
   exports = kept_exports required v.exports
 
-  abbrev pub found : FoundValue
+  abbrev pub found : FoundView
   found = found_in (decode v) live
 
   abbrev pub parts : Parts

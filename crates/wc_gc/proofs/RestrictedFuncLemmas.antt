@@ -9,7 +9,7 @@ use Rattle.std.proofs.lemmas.List.Elements.{All-map, filter_map-append, recursio
 use Rattle.std.proofs.lemmas.Option.{slice_get-map}
 use Rattle.std.proofs.lemmas.Bool.{not-true, and_parts}
 use Rattle.wc_read.specs.Bodies.{BodyValue}
-use Rattle.wc_read.specs.Decoding.{body_in}
+use Rattle.wc_read.specs.BodyOperators.{body_in}
 use Rattle.wc_read.specs.Exports.{ExportValue}
 use Rattle.wc_read.specs.Imports.{ImportValue}
 use Rattle.wc_read.specs.Items.{DefValue, imported, local, ItemValue, FuncValue}
@@ -20,19 +20,19 @@ use Rattle.wc_read.specs.Types.{FuncTypeValue}
 use Rattle.wc_read.specs.declared.operators.Space.TheVariants.{Types, Funcs}
 use Rattle.wc_read.specs.declared.types.ImportType.TheVariants.{Func}
 use Rattle.wc_write.specs.BuiltValues.{def_seen, is_import, is_imported, is_defined, item_seen}
-use Rattle.wc_write.specs.ModuleText.{BuiltValue}
+use Rattle.wc_write.specs.Modules.{BuiltValue}
 use Rattle.wc_write.specs.Spaces.{import_by, imports_of}
 use Rattle.wc_write.specs.Values.{AreBytes}
 use Rattle.wc_gc.specs.AddedCode.{empty_type, realloc_type}
 use Rattle.wc_gc.specs.Causes.{DecidesLive}
 use Rattle.wc_gc.specs.Decoded.{FuncCode, ItemIndex, decode}
-use Rattle.wc_gc.specs.Edited.{EditedModule, added_types, edited_def, growing_code, growing_func, import_func, is_exported_func, lazy_func, only_if, replaced}
-use Rattle.wc_gc.specs.Edited.{start_func}
+use Rattle.wc_gc.specs.Edit.{EditedModule, added_types, edited_def, growing_code, growing_func, import_func, is_exported_func, lazy_func, only_if, replaced}
+use Rattle.wc_gc.specs.Edit.{start_func}
 use Rattle.wc_gc.specs.EditedImage.{is_kept_defined, is_kept_import}
-use Rattle.wc_gc.specs.Found.{FoundValue, is_empty, is_realloc, is_realloc_at, main_module}
+use Rattle.wc_gc.specs.Found.{FoundView, is_empty, is_realloc, is_realloc_at, main_module}
 use Rattle.wc_gc.specs.Image.{new_body, new_func}
-use Rattle.wc_gc.specs.Parts.{SettingsValue, is_any}
-use Rattle.wc_gc.specs.Restriction.{HasOrigin, IsMainImport, func_item, positions_from}
+use Rattle.wc_gc.specs.Parts.{SettingsView, is_any}
+use Rattle.wc_gc.specs.RestrictionLaws.{HasOrigin, IsMainImport, func_item, positions_from}
 use Rattle.wc_gc.specs.declared.parts.Parts.{Parts}
 use Rattle.wc_gc.proofs.SameButIndicesLemmas.{same_under, func_item_under}
 use Rattle.wc_gc.proofs.BuiltImageLemmas.{kept_in}
@@ -53,11 +53,11 @@ bodies_leave (imported a b) = refl
 bodies_leave (local x) = refl
 
 module _ (bytes : List ℕ) (required : List (List ℕ)) (v : ModuleValue) (live : ItemIndex → Bool) (all : AreBytes bytes) (s : SpellsModule bytes v)
-    (decides : DecidesLive required v live) (set : SettingsValue) where
+    (decides : DecidesLive required v live) (set : SettingsView) where
   abbrev exports : List ExportValue
   exports = restricted.exports bytes required v live all s decides set
 
-  abbrev found : FoundValue
+  abbrev found : FoundView
   found = restricted.found bytes required v live all s decides set
 
   abbrev parts : Parts

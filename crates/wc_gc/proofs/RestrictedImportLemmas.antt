@@ -17,8 +17,8 @@ use Rattle.wc_write.specs.Spaces.{import_by, imports_of}
 use Rattle.wc_write.specs.Values.{AreBytes}
 use Rattle.wc_gc.specs.Causes.{DecidesLive}
 use Rattle.wc_gc.specs.Decoded.{ItemIndex}
-use Rattle.wc_gc.specs.Parts.{SettingsValue}
-use Rattle.wc_gc.specs.Restriction.{AreSameTypesButIndices, HasOrigin, IsKeptImport, SameImport, import_type, is_in_space, is_realloc_item, positions_from}
+use Rattle.wc_gc.specs.Parts.{SettingsView}
+use Rattle.wc_gc.specs.RestrictionLaws.{AreSameTypesButIndices, HasOrigin, IsKeptImport, SameImport, import_type, is_in_space, is_realloc_item, positions_from}
 use Rattle.wc_gc.proofs.BuiltImageLemmas.{kept_in}
 use Rattle.wc_gc.proofs.ImportOriginLemmas.{HasSpace, IsFrom, from_at, imported_item_at, kept_pairs, kept_there, kept_zip, origins_of, rising}
 use Rattle.wc_gc.proofs.KeptItemLemmas.{kept_is}
@@ -137,7 +137,7 @@ have_spaces bytes v s =
       globals = record { others = map defined_global p.globals; cut = refl; defined = all_mapped (λ (g : GlobalValue). is_imported g ≡ false) defined_global p.globals (λ t. refl) };
     })
 
-module _ (bytes : List ℕ) (required : List (List ℕ)) (v : ModuleValue) (live : ItemIndex → Bool) (all : AreBytes bytes) (s : SpellsModule bytes v) (decides : DecidesLive required v live) (set : SettingsValue) where
+module _ (bytes : List ℕ) (required : List (List ℕ)) (v : ModuleValue) (live : ItemIndex → Bool) (all : AreBytes bytes) (s : SpellsModule bytes v) (decides : DecidesLive required v live) (set : SettingsView) where
   abbrev new_module : ModuleValue
   new_module = trimmed bytes required v live all s decides set
 

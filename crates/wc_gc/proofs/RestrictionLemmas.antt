@@ -5,7 +5,7 @@ use Rattle.std.specs.List.{AllZip, slice_get}
 use Rattle.std.specs.Option.{option_map_or}
 use Rattle.std.proofs.lemmas.Bool.{false≢true}
 use Rattle.std.proofs.lemmas.List.Elements.{All-append, All-contains, All-weaker, Contains-append_left, Contains-append_right}
-use Rattle.wc_read.specs.Decoding.{init_in}
+use Rattle.wc_read.specs.BodyOperators.{init_in}
 use Rattle.wc_read.specs.Imports.{ImportValue}
 use Rattle.wc_read.specs.Items.{DefValue, imported, local, GlobalValue, TableValue}
 use Rattle.wc_read.specs.Modules.{ModuleValue, SpellsModule}
@@ -16,16 +16,16 @@ use Rattle.wc_read.specs.declared.operators.Space.TheVariants.{Types, Funcs, Tab
 use Rattle.wc_read.specs.declared.types.ImportType.{ImportType}
 use Rattle.wc_read.specs.declared.types.ImportType.TheVariants.{Func, Table, Memory, Global}
 use Rattle.wc_write.specs.BuiltValues.{def_seen, written_module}
-use Rattle.wc_write.specs.ModuleText.{BuiltValue}
+use Rattle.wc_write.specs.Modules.{BuiltValue}
 use Rattle.wc_write.specs.Spaces.{import_by, imports_of}
 use Rattle.wc_write.specs.Values.{AreBytes}
 use Rattle.wc_gc.specs.Causes.{DecidesLive}
 use Rattle.wc_gc.specs.Decoded.{ItemIndex}
-use Rattle.wc_gc.specs.Edited.{only_if}
+use Rattle.wc_gc.specs.Edit.{only_if}
 use Rattle.wc_gc.specs.Image.{new_func, new_init, new_table}
-use Rattle.wc_gc.specs.Parts.{SettingsValue}
-use Rattle.wc_gc.specs.Restriction.{HasOrigin, IsKeptImport, IsRestriction, TrimmedIsRestriction, global_item, is_in_space, is_realloc_item}
-use Rattle.wc_gc.specs.Restriction.{positions_from, table_item}
+use Rattle.wc_gc.specs.Parts.{SettingsView}
+use Rattle.wc_gc.specs.RestrictionLaws.{HasOrigin, IsKeptImport, IsRestriction, TrimmedIsRestriction, global_item, is_in_space, is_realloc_item}
+use Rattle.wc_gc.specs.RestrictionLaws.{positions_from, table_item}
 use Rattle.wc_gc.proofs.SameButIndicesLemmas.{same_under}
 use Rattle.wc_gc.proofs.BuiltImageLemmas.{kept_in}
 use Rattle.wc_gc.proofs.BuiltPartLemmas.{global_written}
@@ -56,7 +56,7 @@ global_read : (def : DefValue (List ℕ)) (t : ImportType) (ranks : Renumbering)
 global_read (imported a b) t ranks = refl
 global_read (local x) t ranks = refl
 
-module _ (bytes : List ℕ) (required : List (List ℕ)) (v : ModuleValue) (live : ItemIndex → Bool) (all : AreBytes bytes) (s : SpellsModule bytes v) (decides : DecidesLive required v live) (set : SettingsValue) where
+module _ (bytes : List ℕ) (required : List (List ℕ)) (v : ModuleValue) (live : ItemIndex → Bool) (all : AreBytes bytes) (s : SpellsModule bytes v) (decides : DecidesLive required v live) (set : SettingsView) where
   abbrev image : BuiltValue
   image = restricted.image bytes required v live all s decides set
 

@@ -6,8 +6,8 @@ use Rattle.std.specs.Option.{option_map}
 use Rattle.std.proofs.lemmas.Grind.{flat_map-append}
 use Rattle.std.proofs.lemmas.List.{map-append}
 use Rattle.wc_read.specs.Operators.{InstrValue, ImmediatesValue, WithNone, WithBlock, WithIndex, WithIndices, WithLabels, WithValTypes, WithRefType, WithMemArg, WithMemArgLane, WithI32, WithI64, WithBytes, WithLane, index_of}
-use Rattle.wc_read.specs.Refs.{refs_of, one_ref, two_refs, reference, in_space, type_reference, type_refs_of}
-use Rattle.wc_read.specs.Reading.Operators.{instr_of}
+use Rattle.wc_read.specs.References.{refs_of, one_ref, two_refs, reference, in_space, type_reference, type_refs_of}
+use Rattle.wc_read.specs.Reading.Instructions.{instr_of}
 use Rattle.wc_read.specs.Reading.Bodies.{locals_of}
 use Rattle.wc_read.specs.Passing.{ArePassable, IsPassableCode, IsRunText, run_and_left}
 use Rattle.wc_read.specs.declared.operators.Space.{Space}
@@ -19,15 +19,15 @@ use Rattle.wc_read.specs.declared.operators.MemArg.{MemArg}
 use Rattle.wc_read.specs.declared.operators.Refs.{Refs}
 use Rattle.wc_read.specs.declared.operators.BlockType.TheVariants.{Empty, Value, FuncType}
 use Rattle.wc_read.specs.Bodies.{BodyValue, local_types}
-use Rattle.wc_read.specs.Decoding.{body_of}
+use Rattle.wc_read.specs.BodyOperators.{body_of}
 use Rattle.wc_read.specs.Renumbering.{Renumbering, renumber, renumber_index, renumber_mem_arg, renumber_immediates, renumber_instr, renumber_val_type}
 use Rattle.wc_read.specs.Types.{type_index, type_indices}
 use Rattle.wc_read.specs.declared.types.ValType.{ValType}
 use Rattle.wc_read.specs.declared.types.ValType.TheVariants.{I32, I64, F32, F64, V128, FuncRef, ExternRef, FuncRefNonNull, ExternRefNonNull, TypeRef}
 use Rattle.wc_read.specs.declared.bodies.Locals.{Locals}
 use Rattle.wc_write.specs.Text.{vector_text}
-use Rattle.wc_write.specs.OperatorText.{instr_text}
-use Rattle.wc_write.specs.BodyText.{locals_text, body_text}
+use Rattle.wc_write.specs.Operators.{instr_text}
+use Rattle.wc_write.specs.Bodies.{locals_text, body_text}
 use Rattle.wc_gc.specs.Image.{new_body, renumber_code, renumber_locals}
 use Rattle.wc_gc.specs.NewBodies.{calls_of, text_left}
 use Rattle.wc_gc.specs.NewIndices.{new_of}
@@ -37,9 +37,6 @@ use Rattle.wc_gc.specs.declared.new_indices.NewIndices.{NewIndices}
 pub record IsWritten (new : Renumbering) (old : List ℕ) (all : Option (List InstrValue)) (out : List ℕ) (left : Option (List InstrValue)) : Type 0 where
   pub some : is_some left ≡ true
   pub same : out ++ text_left new left ≡ old ++ text_left new all
-
-pub write_start : (new : Renumbering) (old : List ℕ) (all : Option (List InstrValue)) → is_some all ≡ true → IsWritten new old all old all
-write_start new old all some = record { some = some; same = refl }
 
 pub write_more : (new : Renumbering) (old : List ℕ) (all : Option (List InstrValue)) (out : List ℕ) (left : Option (List InstrValue)) (i : InstrValue) (after : Option (List InstrValue)) (out' : List ℕ)
     → IsWritten new old all out left → left ≡ option_map (λ is. i ∷ is) after → out' ≡ out ++ instr_text (renumber_instr new i) → IsWritten new old all out' after
@@ -220,10 +217,6 @@ passed_text_left new memory is bytes None zero p some = absurd cc
 passed_text_left new memory is bytes (Some others) zero p some =
     ap (λ (z : List ℕ). z ++ text_left new (Some others)) (p.0 ∙ ap (flat_map instr_text) (sym (same_code new memory is zero p.1)))
     ∙ sym (ap (flat_map instr_text) (map-append (renumber_instr new) is others) ∙ flat_map-append instr_text (renumber_code new is) (renumber_code new others))
-
-pub some_left : (is : List InstrValue) (left : Option (List InstrValue)) → is_some (run_and_left is left) ≡ true → is_some left ≡ true
-some_left is None some = absurd cc
-some_left is (Some others) some = refl
 
 pub next_is_written : (new : Renumbering) (memory : Bool) (old out : List ℕ) (is : List InstrValue) (bytes : List ℕ) (all mid : Option (List InstrValue)) → is_some all ≡ true → all ≡ run_and_left is mid → new Memories 0 ≡ 0 → IsRunText memory bytes is → out ≡ old ++ bytes
     → out ++ text_left new mid ≡ old ++ text_left new all

@@ -18,11 +18,11 @@ use Rattle.wc_read.specs.Modules.{IsModule, ModuleValue}
 use Rattle.wc_gc.specs.Bits.{bit_of}
 use Rattle.wc_gc.specs.Chains.{IsRequiredExport}
 use Rattle.wc_gc.specs.Decoded.{ItemIndex, exported_item}
-use Rattle.wc_gc.specs.KeptExports.{AreNamed, export_entries, kept_exports}
+use Rattle.wc_gc.specs.Exports.{AreNamed, export_entries, kept_exports}
 use Rattle.wc_gc.specs.LiveChains.{IsFirstName, item_named, items_named}
-use Rattle.wc_gc.specs.Private.Explained.{HasFound}
+use Rattle.wc_gc.specs.Private.TrimPlace.{HasFound}
 use Rattle.wc_gc.specs.Private.Roots.{AreNamedRoots, FindsRoot}
-use Rattle.wc_gc.specs.Private.Searches.{finds}
+use Rattle.wc_gc.specs.Private.Search.{finds}
 use Rattle.wc_gc.specs.declared.finders.Roots.{Roots}
 use Rattle.wc_gc.specs.declared.live.BitVec.{BitVec}
 use Rattle.wc_gc.proofs.ChainLemmas.{contains_unmapped, exports_required, same_names}
@@ -258,13 +258,13 @@ name_done exports done name old new h b = by (item_named exports name.now) refl 
 abbrev Pair : Type 0
 Pair = Bor (List ℕ) × Export
 
-found_value : (test : Bor (List ℕ) → Bool) (name : List ℕ) (es : List Pair) → ((k : Bor (List ℕ)) → test k ≡ bytes_eq name k.now)
+found_view : (test : Bor (List ℕ) → Bool) (name : List ℕ) (es : List Pair) → ((k : Bor (List ℕ)) → test k ≡ bytes_eq name k.now)
     → AllByRecursion (λ (e : Pair). e.0.now ≡ e.1.name.now) es → option_map export_value (lookup test es) ≡ find (λ (e : ExportValue). bytes_eq name e.name) (export_entries es)
-found_value test name [] h n = refl
-found_value test name (e ∷ es) h n =
+found_view test name [] h n = refl
+found_view test name (e ∷ es) h n =
     step (test e.0) (lookup test es)
     ∙ (ap (λ (b : Bool). cond b (Some (export_value e.1)) (option_map export_value (lookup test es))) (h e.0 ∙ ap (bytes_eq name) n.0)
-    ∙ ap (λ o. cond (bytes_eq name e.1.name.now) (Some (export_value e.1)) o) (found_value test name es h n.1))
+    ∙ ap (λ o. cond (bytes_eq name e.1.name.now) (Some (export_value e.1)) o) (found_view test name es h n.1))
   where
     step : (b : Bool) (o : Option Export) → option_map export_value (cond b (Some e.1) o) ≡ cond b (Some (export_value e.1)) (option_map export_value o)
     step true o = refl
@@ -274,7 +274,7 @@ pub item_looked_up : (test : Bor (List ℕ) → Bool) (name : List ℕ) (es : Li
     → (o : Option Export) → o ≡ lookup test es → option_map (λ (e : Export). exported_item (export_value e)) o ≡ item_named (export_entries es) name
 item_looked_up test name es h named o e =
     ap (option_map (λ (x : Export). exported_item (export_value x))) e
-    ∙ (twice (lookup test es) ∙ ap (option_map exported_item) (found_value test name es h (recursion_from_All (λ (e : Pair). e.0.now ≡ e.1.name.now) es named)))
+    ∙ (twice (lookup test es) ∙ ap (option_map exported_item) (found_view test name es h (recursion_from_All (λ (e : Pair). e.0.now ≡ e.1.name.now) es named)))
   where
     twice : (o : Option Export) → option_map (λ (x : Export). exported_item (export_value x)) o ≡ option_map exported_item (option_map export_value o)
     twice None = refl

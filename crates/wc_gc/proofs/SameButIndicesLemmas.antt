@@ -3,7 +3,7 @@ use Rattle.std.proofs.Common.{◌≡◌, refl, sym, ◌∙◌, ap, Option, Some,
 use Rattle.std.specs.Option.{option_map}
 use Rattle.wc_read.specs.Renumbering.{Renumbering, renumber_func_type, renumber_global_type, renumber_table_type}
 use Rattle.wc_read.specs.Types.{FuncTypeValue}
-use Rattle.wc_gc.specs.Restriction.{AreSameTypesButIndices, ItemType, func_item, global_item, memory_item, table_item, without_indices}
+use Rattle.wc_gc.specs.RestrictionLaws.{AreSameTypesButIndices, ItemType, func_item, global_item, memory_item, table_item, without_indices}
 use Rattle.wc_gc.proofs.UnfoldingLemmas.{func_type_twice, global_type_twice, table_type_twice}
 
 abbrev pub item_under : Renumbering → ItemType → ItemType

@@ -6,12 +6,12 @@ use Rattle.std.proofs.lemmas.List.{get_or_append_left, get_or-append_right, get_
 use Rattle.std.proofs.lemmas.List.Elements.{Contains-get_or}
 use Rattle.std.proofs.lemmas.Bool.{cases_lt, cases_order, cond_below, cond_above}
 use Rattle.std.specs.Prelude.{ltb}
-use Rattle.wc_gc.specs.Reached.{IsPath, IsReachedFrom}
-use Rattle.wc_gc.specs.ShortestChains.{AreFinders, IsBefore, IsNotAfter, IsShortestChain}
-use Rattle.wc_gc.specs.Private.Searches.{HasGrown}
+use Rattle.wc_gc.specs.Reached.{IsPath}
+use Rattle.wc_gc.specs.ImportChains.{AreFinders, IsBefore, IsNotAfter, IsShortestChain}
+use Rattle.wc_gc.specs.Private.Search.{HasGrown}
 use Rattle.wc_gc.specs.Private.Finders.{IsFoundWithin, IsNamedAt, IsTree, IsOrdered, AreFound}
 
--- how deep things are, once what stands from n on was found by the one at `next`
+-- how deep things are, once what is from n on was found by the one at `next`
 abbrev pub deeper : (ℕ → ℕ) → ℕ → ℕ → ℕ → ℕ
 deeper depth n next k = cond (ltb k n) (depth k) (depth next + 1)
 
@@ -152,37 +152,31 @@ module _ {X : Type 0} where
       let g = least names roots found finder depth s z path y (m + 1) (p.0, p.1, p.2, omega (arith, q, r)) w.1 in
       let t = g.3 in (g.0, g.1, g.2, omega (arith, t))
 
-  -- what no search found no root reaches
-  pub not_reached : (names : X → List X) (roots found : List X) (finder : List ℕ) → AreFound names roots found finder
-      → (y : X) → ¬ (Contains found y) → ¬ (IsReachedFrom names roots y)
-  not_reached names roots found finder a y n r =
-      let f = least names roots found finder a.0 a.1 r.0 r.2 y 0 (a.1.from r.0 r.1) r.3 in n (f.0, f.1, f.2)
-
   pub finders : (names : X → List X) (roots found : List X) (finder : List ℕ) → X → AreFound names roots found finder → AreFinders found finder
   finders names roots found finder d a = record {
     sized = a.1.sized;
     earlier = λ k h. elim (a.1.steps k d h) [ inl r ↦ let e = r.0 in omega (arith, e) | inr r ↦ let e = r.0 in omega (arith, e) ];
   }
 
-  -- the last things of a chain, from the one at a place on
-  pub record IsTail (names : X → List X) (found : List X) (depth : ℕ → ℕ) (at place : ℕ) (d : X) (items : List X) : Type 0 where
+  -- the last things of a chain, from the one at a position on
+  pub record IsTail (names : X → List X) (found : List X) (depth : ℕ → ℕ) (at position : ℕ) (d : X) (items : List X) : Type 0 where
     pub rest : List X
     pub is : items ≡ get_or found at d ∷ rest
-    pub leads : IsPath names (get_or found at d) rest (get_or found place d)
-    pub deep : length rest + depth at ≡ depth place
-    pub first : (j : ℕ) (other : List X) → j < length found → depth j ≤ depth at → IsPath names (get_or found j d) other (get_or found place d)
+    pub leads : IsPath names (get_or found at d) rest (get_or found position d)
+    pub deep : length rest + depth at ≡ depth position
+    pub first : (j : ℕ) (other : List X) → j < length found → depth j ≤ depth at → IsPath names (get_or found j d) other (get_or found position d)
         → length other ≡ length rest → (at ≤ j) × (at ≡ j → IsNotAfter names (names (get_or found at d)) rest other)
 
   -- the last things of the chains of whatever search has these finders
   abbrev pub AreTails : List X → List ℕ → ℕ → ℕ → X → List X → Type 0
-  AreTails found finder at place d items = (names : X → List X) (roots : List X) (depth : ℕ → ℕ)
+  AreTails found finder at position d items = (names : X → List X) (roots : List X) (depth : ℕ → ℕ)
       → IsTree names roots found finder depth (length found) → IsOrdered names roots found finder depth (length found)
-      → IsTail names found depth at place d items
+      → IsTail names found depth at position d items
 
-  -- one place has one thing
-  one_place : (found : List X) (j k : ℕ) (d y : X) → AllPairs (λ a b. a ≢ b) found → j < length found → k < length found → get_or found j y ≡ y
+  -- one position has one thing
+  one_position : (found : List X) (j k : ℕ) (d y : X) → AllPairs (λ a b. a ≢ b) found → j < length found → k < length found → get_or found j y ≡ y
       → get_or found k d ≡ y → j ≡ k
-  one_place found j k d y pairs jl kl je ke = elim (cases_order j k) [
+  one_position found j k d y pairs jl kl je ke = elim (cases_order j k) [
     | inl e ↦ e
     | inr o ↦ elim o [
       | inl lt ↦ absurd (pairs j k y lt kl (je ∙ sym (get_or_default found k y d kl ∙ ke)))
@@ -194,37 +188,37 @@ module _ {X : Type 0} where
   empty [] e = refl
   empty (x ∷ xs) e = absurd (omega (arith, e))
 
-  pub tails_start : (found : List X) (finder : List ℕ) (place : ℕ) (d : X) → place < length found
-      → AreTails found finder place place d (get_or found place d ∷ [])
-  tails_start found finder place d pl names roots depth s o = record {
+  pub tails_start : (found : List X) (finder : List ℕ) (position : ℕ) (d : X) → position < length found
+      → AreTails found finder position position d (get_or found position d ∷ [])
+  tails_start found finder position d pl names roots depth s o = record {
     rest = [];
     is = refl;
     leads = refl;
     deep = omega arith;
     first = λ j other l h w n.
-        let e : get_or found j d ≡ get_or found place d = subst (λ z. IsPath names (get_or found j d) z (get_or found place d)) (empty other n) w in
-        let p = one_place found j place d (get_or found place d) s.distinct l pl (get_or_default found j (get_or found place d) d l ∙ e) refl in
+        let e : get_or found j d ≡ get_or found position d = subst (λ z. IsPath names (get_or found j d) z (get_or found position d)) (empty other n) w in
+        let p = one_position found j position d (get_or found position d) s.distinct l pl (get_or_default found j (get_or found position d) d l ∙ e) refl in
         (omega (arith, p), λ same. tt);
   }
 
-  -- paths that begin at places of one depth: the one of the search is the first
+  -- paths that begin at positions of one depth: the one of the search is the first
   tails_first : (names : X → List X) (roots found : List X) (finder : List ℕ) (depth : ℕ → ℕ) → IsTree names roots found finder depth (length found)
       → IsOrdered names roots found finder depth (length found)
-      → (at place : ℕ) (d : X) (rest : List X) → at < length found → depth at ≡ depth (get_or finder at 0) + 1
-      → ((j : ℕ) (other : List X) → j < length found → depth j ≤ depth at → IsPath names (get_or found j d) other (get_or found place d)
+      → (at position : ℕ) (d : X) (rest : List X) → at < length found → depth at ≡ depth (get_or finder at 0) + 1
+      → ((j : ℕ) (other : List X) → j < length found → depth j ≤ depth at → IsPath names (get_or found j d) other (get_or found position d)
       → length other ≡ length rest → (at ≤ j) × (at ≡ j → IsNotAfter names (names (get_or found at d)) rest other))
-      → (j : ℕ) (other : List X) → j < length found → depth j ≤ depth (get_or finder at 0) → IsPath names (get_or found j d) other (get_or found place d)
+      → (j : ℕ) (other : List X) → j < length found → depth j ≤ depth (get_or finder at 0) → IsPath names (get_or found j d) other (get_or found position d)
       → length other ≡ suc (length rest)
       → (get_or finder at 0 ≤ j) × (get_or finder at 0 ≡ j
       → IsNotAfter names (names (get_or found (get_or finder at 0) d)) (get_or found at d ∷ rest) other)
-  tails_first names roots found finder depth s o at place d rest lt up t j [] l h w n = absurd (omega (arith, n))
-  tails_first names roots found finder depth s o at place d rest lt up t j (z ∷ other) l h w n =
+  tails_first names roots found finder depth s o at position d rest lt up t j [] l h w n = absurd (omega (arith, n))
+  tails_first names roots found finder depth s o at position d rest lt up t j (z ∷ other) l h w n =
       let p = s.passed j d z l w.0 in
       let i = p.0 in
       let il : i < length found = p.1 in
       let id : get_or found i d ≡ z = get_or_default found i d z il ∙ p.2 in
       let pd : depth i ≤ depth j + 1 = p.3 in
-      let u = t i other il (omega (arith, pd, h, up)) (subst (λ v. IsPath names v other (get_or found place d)) (sym id) w.1) (omega (arith, n)) in
+      let u = t i other il (omega (arith, pd, h, up)) (subst (λ v. IsPath names v other (get_or found position d)) (sym id) w.1) (omega (arith, n)) in
       let after : at ≤ i = u.0 in
       let sorted : depth at ≤ depth i = s.sorted at i after il in
       let inner : 0 < depth i = omega (arith, sorted, up) in
@@ -245,9 +239,9 @@ module _ {X : Type 0} where
         ],
       )
 
-  pub tails_step : (found : List X) (finder : List ℕ) (at place : ℕ) (d : X) (items : List X) → at < length found → get_or finder at 0 ≢ at
-      → AreTails found finder at place d items → AreTails found finder (get_or finder at 0) place d (get_or found (get_or finder at 0) d ∷ items)
-  tails_step found finder at place d items lt other t names roots depth s o =
+  pub tails_step : (found : List X) (finder : List ℕ) (at position : ℕ) (d : X) (items : List X) → at < length found → get_or finder at 0 ≢ at
+      → AreTails found finder at position d items → AreTails found finder (get_or finder at 0) position d (get_or found (get_or finder at 0) d ∷ items)
+  tails_step found finder at position d items lt other t names roots depth s o =
       let u = t names roots depth s o in
       elim (s.steps at d lt) [
         | inl r ↦ absurd (other r.0)
@@ -256,14 +250,14 @@ module _ {X : Type 0} where
           is = ap (λ z. get_or found (get_or finder at 0) d ∷ z) u.is;
           leads = (r.1, u.leads);
           deep = let e = u.deep in let q = r.2 in omega (arith, e, q);
-          first = tails_first names roots found finder depth s o at place d u.rest lt r.2 u.first;
+          first = tails_first names roots found finder depth s o at position d u.rest lt r.2 u.first;
         }
       ]
 
-  pub tails_end : (found : List X) (finder : List ℕ) (at place : ℕ) (d : X) (items : List X) → at < length found → place < length found
-      → get_or finder at 0 ≡ at → AreTails found finder at place d items → (names : X → List X) (roots : List X) → AreFound names roots found finder
-      → IsShortestChain names roots (get_or found place d) items
-  tails_end found finder at place d items lt pl own t names roots a =
+  pub tails_end : (found : List X) (finder : List ℕ) (at position : ℕ) (d : X) (items : List X) → at < length found → position < length found
+      → get_or finder at 0 ≡ at → AreTails found finder at position d items → (names : X → List X) (roots : List X) → AreFound names roots found finder
+      → IsShortestChain names roots (get_or found position d) items
+  tails_end found finder at position d items lt pl own t names roots a =
       let u = t names roots a.0 a.1 a.2 in
       elim (a.1.steps at d lt) [
         | inl r ↦ record {
@@ -273,8 +267,8 @@ module _ {X : Type 0} where
           from = r.1;
           leads = u.leads;
           shortest = λ x other c w.
-              let f = least names roots found finder a.0 a.1 x other (get_or found place d) 0 (a.1.from x c) w in
-              let e = ap a.0 (one_place found f.0 place d (get_or found place d) a.1.distinct f.1 pl f.2 refl) in
+              let f = least names roots found finder a.0 a.1 x other (get_or found position d) 0 (a.1.from x c) w in
+              let e = ap a.0 (one_position found f.0 position d (get_or found position d) a.1.distinct f.1 pl f.2 refl) in
               let q = f.3 in let deep = u.deep in let z = r.2 in omega (arith, e, q, deep, z);
           first = λ x other c w n.
               let p = a.1.from x c in
@@ -282,7 +276,7 @@ module _ {X : Type 0} where
               let jl : j < length found = p.1 in
               let jd : get_or found j d ≡ x = get_or_default found j d x jl ∙ p.2 in
               let zero_deep : a.0 j ≤ 0 = p.3 in
-              let v = u.first j other jl (omega (arith, zero_deep)) (subst (λ z. IsPath names z other (get_or found place d)) (sym jd) w) n in
+              let v = u.first j other jl (omega (arith, zero_deep)) (subst (λ z. IsPath names z other (get_or found position d)) (sym jd) w) n in
               let after : at ≤ j = v.0 in
               elim (cases_lt at j) [
                 | inl before ↦ inr (subst (IsBefore roots (get_or found at d)) jd (a.2.roots_ordered at j d before jl (omega (arith, zero_deep))))

@@ -5,7 +5,7 @@ use Rattle.std.proofs.lemmas.Bool.{cases_lt, false≢true}
 use Rattle.std.proofs.lemmas.Bool.Decides.{eqb_tells, nat_tests}
 use Rattle.std.proofs.lemmas.List.{get_or_append_left, get_or_default, get_or_past, length-append}
 use Rattle.wc_gc.specs.Ranges.{AreRanges, in_ranges}
-use Rattle.wc_gc.specs.Private.Positions.{AreStarts, IsCut, IsCutAt}
+use Rattle.wc_gc.specs.Private.RangeSet.{AreStarts, IsCut, IsCutAt}
 use Rattle.wc_gc.proofs.RangeLemmas.{are_from, cut_at, cut_before, ends_after, ends_grow, in_at, in_none}
 use Rattle.wc_gc.proofs.RangeRankLemmas.{last_is}
 

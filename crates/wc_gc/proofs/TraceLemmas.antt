@@ -6,19 +6,19 @@ use Rattle.std.proofs.lemmas.List.Elements.{All-contains_itself, recursion_from_
 use Rattle.wc_read.specs.Exports.{ExportValue}
 use Rattle.wc_read.specs.Modules.{ModuleValue, SpellsModule}
 use Rattle.wc_read.proofs.ModulesLemmas.{modules_one}
-use Rattle.wc_write.specs.ModuleText.{built_text}
+use Rattle.wc_write.specs.Modules.{built_text}
 use Rattle.wc_write.specs.Values.{AreBytes}
 use Rattle.wc_write.proofs.WritableModuleLemmas.{spelled_writable}
 use Rattle.wc_gc.specs.Causes.{DecidesLive}
 use Rattle.wc_gc.specs.Decoded.{DecodedModule, ItemIndex, decode, exported_item, size_of}
-use Rattle.wc_gc.specs.Edited.{edit}
+use Rattle.wc_gc.specs.Edit.{edit}
 use Rattle.wc_gc.specs.EditedImage.{edited_image}
 use Rattle.wc_gc.specs.Entries.{entry_at, entry_refs}
-use Rattle.wc_gc.specs.KeptExports.{kept_exports}
-use Rattle.wc_gc.specs.Liveness.{HasLiveBody, TrimInput}
-use Rattle.wc_gc.specs.Parts.{SettingsValue}
-use Rattle.wc_gc.specs.Traces.{AreClosed, AreTrimmedToTheSame, HasCut, HasLiveness, NoTrace, all_items}
-use Rattle.wc_gc.specs.Trimming.{IsImageText, IsLaterCause, IsTrimCause, IsTrimFault}
+use Rattle.wc_gc.specs.Exports.{kept_exports}
+use Rattle.wc_gc.specs.LiveItems.{HasLiveBody, TrimInput}
+use Rattle.wc_gc.specs.Parts.{SettingsView}
+use Rattle.wc_gc.specs.TraceLaws.{AreClosed, AreTrimmedToTheSame, HasCut, HasLiveness, NoTrace, all_items}
+use Rattle.wc_gc.specs.Trim.{IsImageText, IsLaterCause, IsTrimCause, IsTrimFault}
 use Rattle.wc_gc.specs.declared.fault.GcFault.{GcFault}
 use Rattle.wc_gc.specs.declared.fault.GcFault.TheVariants.{LiveBody}
 use Rattle.wc_gc.proofs.BuiltPartLemmas.{each_weaker}
@@ -47,7 +47,7 @@ live_closed required bytes m live all s decides in_range =
       exported = each_in (λ e. IsTrue (live (exported_item e))) (kept_exports required m.exports) (live_root required m live decides);
     }
 
-module _ (s : SettingsValue) (w : TrimInput) (c : DecodedModule) (all : AreBytes w.bytes) (no_cause : HasLiveness w) (h : HasCut w c) where
+module _ (s : SettingsView) (w : TrimInput) (c : DecodedModule) (all : AreBytes w.bytes) (no_cause : HasLiveness w) (h : HasCut w c) where
   abbrev exports : List ExportValue
   exports = kept_exports w.required h.value.exports
 
@@ -91,7 +91,7 @@ module _ (s : SettingsValue) (w : TrimInput) (c : DecodedModule) (all : AreBytes
 
 -- from one adapter to the other
 
-module _ (s : SettingsValue) (c : DecodedModule) where
+module _ (s : SettingsView) (c : DecodedModule) where
   record Given (w : TrimInput) : Type 0 where
     bytes : AreBytes w.bytes
     no_cause : HasLiveness w

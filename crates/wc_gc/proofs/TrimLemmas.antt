@@ -20,21 +20,21 @@ use Rattle.wc_write.proofs.WritableModuleLemmas.{all_bytes, content_bytes}
 use Rattle.wc_gc.specs.Causes.{IsFoundCause, DecidesLive}
 use Rattle.wc_gc.specs.Decoded.{DecodedModule, ItemIndex, decode, decoded_module}
 use Rattle.wc_gc.specs.Private.ItemCounts.{ItemCountsFitU32}
-use Rattle.wc_gc.specs.Found.{FoundValue, found_in}
-use Rattle.wc_gc.specs.Edited.{edit}
+use Rattle.wc_gc.specs.Found.{FoundView, found_in}
+use Rattle.wc_gc.specs.Edit.{edit}
 use Rattle.wc_gc.specs.EditedImage.{FitsBits, edited_image}
-use Rattle.wc_gc.specs.Parts.{SettingsValue}
-use Rattle.wc_gc.specs.KeptExports.{kept_exports}
-use Rattle.wc_gc.specs.Liveness.{IsLivenessCause, IsFault, IsLivenessOf, TrimInput, order_of}
+use Rattle.wc_gc.specs.Parts.{SettingsView}
+use Rattle.wc_gc.specs.Exports.{kept_exports}
+use Rattle.wc_gc.specs.LiveItems.{IsLivenessCause, IsFault, IsLivenessOf, TrimInput, order_of}
 use Rattle.wc_gc.specs.InRange.{is_item_in_range}
-use Rattle.wc_gc.specs.Trimming.{IsLaterCause, IsLaterCauseIn, IsLaterFault, IsTrimFault}
+use Rattle.wc_gc.specs.Trim.{IsLaterCause, IsLaterCauseIn, IsLaterFault, IsTrimFault}
 use Rattle.wc_gc.specs.declared.fault.GcFault.{GcFault}
 use Rattle.wc_gc.specs.declared.fault.GcFault.TheVariants.{Memory, Read, MissingExport, UnsupportedSection, LiveBody, SeveralNamed, LiveTable, SeveralMemories}
 use Rattle.wc_gc.specs.declared.fault.GcFault.TheVariants.{LocalMemory, ReallocType, ReallocMemory, TooLarge}
 
 -- causes of what is found, and the one after them
 
-found_small : (s : SettingsValue) (m : DecodedModule) (x : FoundValue) (f : GcFault) → IsFoundCause s m x f → order_of f < 11
+found_small : (s : SettingsView) (m : DecodedModule) (x : FoundView) (f : GcFault) → IsFoundCause s m x f → order_of f < 11
 found_small s m x SeveralNamed c = omega arith
 found_small s m x LiveTable c = omega arith
 found_small s m x SeveralMemories c = omega arith
@@ -43,7 +43,7 @@ found_small s m x ReallocType c = omega arith
 found_small s m x ReallocMemory c = omega arith
 found_small s m x f c = absurd c
 
-module _ (s : SettingsValue) (m : DecodedModule) (exports : List ExportValue) (live : ItemIndex → Bool) where
+module _ (s : SettingsView) (m : DecodedModule) (exports : List ExportValue) (live : ItemIndex → Bool) where
   found_later : (f : GcFault) → order_of f < 11 → IsFoundCause s m (found_in m live) f → IsLaterCause s m exports live f
   found_later TooLarge h c = absurd (omega arith)
   found_later f h c = c
@@ -54,33 +54,33 @@ module _ (s : SettingsValue) (m : DecodedModule) (exports : List ExportValue) (l
 
   -- of what was found
 
-  pub found_fault : (x : FoundValue) → x ≡ found_in m live → (f : GcFault) → IsFoundCause s m x f × ((g : GcFault) → order_of g < order_of f
+  pub found_fault : (x : FoundView) → x ≡ found_in m live → (f : GcFault) → IsFoundCause s m x f × ((g : GcFault) → order_of g < order_of f
       → ¬ (IsFoundCause s m x g)) → IsLaterFault s m exports live f
   found_fault x is f c =
       let small = found_small s m x f c.0 in (
-        found_later f small (subst (λ (z : FoundValue). IsFoundCause s m z f) is c.0),
-        λ g h k. c.1 g h (subst (λ (z : FoundValue). IsFoundCause s m z g) (sym is) (later_found g (omega arith) k)),
+        found_later f small (subst (λ (z : FoundView). IsFoundCause s m z f) is c.0),
+        λ g h k. c.1 g h (subst (λ (z : FoundView). IsFoundCause s m z g) (sym is) (later_found g (omega arith) k)),
       )
 
-  large_fault : (x : FoundValue) → x ≡ found_in m live → ((f : GcFault) → ¬ (IsFoundCause s m x f))
+  large_fault : (x : FoundView) → x ≡ found_in m live → ((f : GcFault) → ¬ (IsFoundCause s m x f))
       → ¬ (FitsBits (edited_image (edit s m exports live))) → IsLaterFault s m exports live TooLarge
-  large_fault x is none large = (large, λ g small k. none g (subst (λ (z : FoundValue). IsFoundCause s m z g) (sym is) (later_found g small k)))
+  large_fault x is none large = (large, λ g small k. none g (subst (λ (z : FoundView). IsFoundCause s m z g) (sym is) (later_found g small k)))
 
-  one_large : (x : FoundValue) → x ≡ found_in m live → ((f : GcFault) → ¬ (IsFoundCause s m x f)) → (f : GcFault)
+  one_large : (x : FoundView) → x ≡ found_in m live → ((f : GcFault) → ¬ (IsFoundCause s m x f)) → (f : GcFault)
       → (f ≡ Memory) ⊎ ((f ≡ TooLarge) × ¬ (FitsBits (edited_image (edit s m exports live)))) → (f ≡ Memory) ⊎ IsLaterFault s m exports live f
   one_large x is none f (inl e) = inl e
   one_large x is none f (inr k) = inr (subst (IsLaterFault s m exports live) (sym k.0) (large_fault x is none k.1))
 
-  pub text_fault : {T : Type 0} (x : FoundValue) → x ≡ found_in m live → ((f : GcFault) → ¬ (IsFoundCause s m x f)) → (r : Result T GcFault)
+  pub text_fault : {T : Type 0} (x : FoundView) → x ≡ found_in m live → ((f : GcFault) → ¬ (IsFoundCause s m x f)) → (r : Result T GcFault)
       → IfErr r (λ f. (f ≡ Memory) ⊎ ((f ≡ TooLarge) × ¬ (FitsBits (edited_image (edit s m exports live)))))
       → IfErr r (λ f. (f ≡ Memory) ⊎ IsLaterFault s m exports live f)
   text_fault x is none (Ok v) h = h
   text_fault x is none (Err f) h = one_large x is none f h
 
-  pub none_later : (x : FoundValue) → x ≡ found_in m live → ((f : GcFault) → ¬ (IsFoundCause s m x f))
+  pub none_later : (x : FoundView) → x ≡ found_in m live → ((f : GcFault) → ¬ (IsFoundCause s m x f))
       → FitsBits (edited_image (edit s m exports live)) → (f : GcFault) → ¬ (IsLaterCause s m exports live f)
   none_later x is none fits TooLarge c = c fits
-  none_later x is none fits f c = none f (subst (λ (z : FoundValue). IsFoundCause s m z f) (sym is) c)
+  none_later x is none fits f c = none f (subst (λ (z : FoundView). IsFoundCause s m z f) (sym is) c)
 
   pub later_large : (f : GcFault) → IsLaterCause s m exports live f → 5 ≤ order_of f
   later_large SeveralNamed c = omega arith
@@ -113,7 +113,7 @@ cause_small w UnsupportedSection c = omega arith
 cause_small w LiveBody c = omega arith
 cause_small w f c = absurd c.2
 
-pub fault_trims : (s : SettingsValue) (w : TrimInput) (f : GcFault) → IsFault w f → IsTrimFault s w f
+pub fault_trims : (s : SettingsView) (w : TrimInput) (f : GcFault) → IsFault w f → IsTrimFault s w f
 fault_trims s w f (inl e) = inl e
 fault_trims s w f (inr c) =
     let small = cause_small w f c.0 in
@@ -136,7 +136,7 @@ bools false false f g = refl
 pub tests_one : (required : List (List ℕ)) (m : ModuleValue) (a b : ItemIndex → Bool) → DecidesLive required m a → DecidesLive required m b → a ≡ b
 tests_one required m a b ta tb = fun_ext (λ x. bools (a x) (b x) (λ h. (tb x).1 ((ta x).0 h)) (λ h. (ta x).1 ((tb x).0 h)))
 
-module _ (settings : SettingsValue) (w : TrimInput) (m : ModuleValue) (s : SpellsModule w.bytes m) where
+module _ (settings : SettingsView) (w : TrimInput) (m : ModuleValue) (s : SpellsModule w.bytes m) where
   pub same_later : (live : ItemIndex → Bool) → DecidesLive w.required m live → (f : GcFault) → IsLaterCauseIn settings w f
       → IsLaterCause settings (decode m) (kept_exports w.required m.exports) live f
   same_later live decides f (m', live', s', decides', c) =

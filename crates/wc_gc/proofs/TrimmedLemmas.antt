@@ -3,17 +3,17 @@ use Rattle.std.proofs.Common.{◌≡◌, ℕ, List, refl, Bool, Result, Ok, Err,
 use Rattle.std.specs.Prelude.{IfOk, IfErr, IsOk}
 use Rattle.wc_read.specs.Modules.{ModuleValue, SpellsModule, module_value}
 use Rattle.wc_read.specs.declared.core_module.Module.{Module}
-use Rattle.wc_write.specs.ModuleText.{built_text}
+use Rattle.wc_write.specs.Modules.{built_text}
 use Rattle.wc_write.specs.Values.{AreBytes}
 use Rattle.wc_gc.specs.Decoded.{ItemIndex, decoded_module}
-use Rattle.wc_gc.specs.Edited.{edit}
+use Rattle.wc_gc.specs.Edit.{edit}
 use Rattle.wc_gc.specs.EditedImage.{edited_image}
-use Rattle.wc_gc.specs.KeptExports.{kept_exports}
+use Rattle.wc_gc.specs.Exports.{kept_exports}
 use Rattle.wc_gc.specs.Laws.{AreSettings}
-use Rattle.wc_gc.specs.Liveness.{IsLivenessOf, TrimInput, order_of}
-use Rattle.wc_gc.specs.Parts.{SettingsValue}
+use Rattle.wc_gc.specs.LiveItems.{IsLivenessOf, TrimInput, order_of}
+use Rattle.wc_gc.specs.Parts.{SettingsView}
 use Rattle.wc_gc.specs.TrimmedText.{IsTrimmed}
-use Rattle.wc_gc.specs.Trimming.{IsImageText, IsLaterCause, IsLaterFault, IsTrimCause, IsTrimFault}
+use Rattle.wc_gc.specs.Trim.{IsImageText, IsLaterCause, IsLaterFault, IsTrimCause, IsTrimFault}
 use Rattle.wc_gc.specs.declared.fault.GcFault.{GcFault}
 use Rattle.wc_gc.specs.declared.fault.GcFault.TheVariants.{Memory}
 use Rattle.wc_gc.proofs.ClosedImageLemmas.{trimmed_unfolds}
@@ -22,7 +22,7 @@ use Rattle.wc_gc.proofs.TrimLemmas.{same_later}
 use Rattle.wc_gc.proofs.TrimmedTextLemmas.{trimmed_text_read}
 
 -- the text of an image is read back and unfolds, where no fault has a cause
-pub trimmed : (s : SettingsValue) (w : TrimInput) (text : List ℕ) → AreSettings s → AreBytes w.bytes → IsImageText s w text
+pub trimmed : (s : SettingsView) (w : TrimInput) (text : List ℕ) → AreSettings s → AreBytes w.bytes → IsImageText s w text
     → ((f : GcFault) → ¬ (IsTrimCause s w f)) → IsTrimmed s w text
 trimmed s w text are all t none = record {
   image = t;
@@ -32,7 +32,7 @@ trimmed s w text are all t none = record {
 }
 
 -- the answer, by what is live in the module
-module _ (s : SettingsValue) (a : Module) (required : List (List ℕ)) (live : ItemIndex → Bool) (turns : ℕ)
+module _ (s : SettingsView) (a : Module) (required : List (List ℕ)) (live : ItemIndex → Bool) (turns : ℕ)
     (l : IsLivenessOf required (module_value a) live turns) where
   abbrev input : List ℕ → TrimInput
   input bytes = record { bytes = bytes; required = required }

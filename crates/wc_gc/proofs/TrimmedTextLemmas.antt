@@ -5,7 +5,7 @@ use Rattle.std.proofs.lemmas.Bool.{cases_lt}
 use Rattle.std.proofs.lemmas.List.{length-append, length-map}
 use Rattle.std.proofs.lemmas.List.Elements.{All-append, All-from_recursion, All-nil}
 use Rattle.std.specs.Option.{option_map}
-use Rattle.wc_read.specs.Decoding.{init_in}
+use Rattle.wc_read.specs.BodyOperators.{init_in}
 use Rattle.wc_read.specs.Exports.{ExportValue}
 use Rattle.wc_read.specs.Modules.{ModuleValue, SpellsModule, count_of}
 use Rattle.wc_read.specs.Renumbering.{renumber_func_type}
@@ -14,23 +14,23 @@ use Rattle.wc_read.specs.declared.types.ValType.{ValType}
 use Rattle.wc_read.specs.declared.types.ValType.TheVariants.{I32}
 use Rattle.wc_read.specs.declared.operators.Space.TheVariants.{Types, Funcs, Globals}
 use Rattle.wc_write.specs.Values.{AreBytes, IsFuncType, IsValType}
-use Rattle.wc_write.specs.ModuleText.{BuiltValue, SizeFits, SizesFit}
+use Rattle.wc_write.specs.Modules.{BuiltValue, SizeFits, SizesFit}
 use Rattle.wc_write.specs.BuiltValues.{item_seen, IsExport, IsRead}
 use Rattle.wc_write.proofs.ModuleTextLemmas.{module_read}
 use Rattle.wc_write.proofs.WritableModuleLemmas.{spelled_writable}
 use Rattle.wc_gc.specs.Causes.{DecidesLive}
 use Rattle.wc_gc.specs.Decoded.{ItemIndex, decode}
 use Rattle.wc_gc.specs.AddedCode.{empty_type, realloc_type}
-use Rattle.wc_gc.specs.Edited.{added_types, edit, only_if, start_of, types_added}
+use Rattle.wc_gc.specs.Edit.{added_types, edit, only_if, start_of, types_added}
 use Rattle.wc_gc.specs.EditedImage.{FitsBits, edited_image}
 use Rattle.wc_gc.specs.Found.{found_in, is_empty}
 use Rattle.wc_gc.specs.Image.{new_global}
 use Rattle.wc_gc.specs.Laws.{AreSettings}
-use Rattle.wc_gc.specs.Parts.{SettingsValue, parts_of}
-use Rattle.wc_gc.specs.KeptExports.{kept_exports}
-use Rattle.wc_gc.specs.Liveness.{HasLiveBody, TrimInput}
+use Rattle.wc_gc.specs.Parts.{SettingsView, parts_of}
+use Rattle.wc_gc.specs.Exports.{kept_exports}
+use Rattle.wc_gc.specs.LiveItems.{HasLiveBody, TrimInput}
 use Rattle.wc_gc.specs.InRange.{is_item_in_range}
-use Rattle.wc_gc.specs.Trimming.{IsImageText, IsTrimCause}
+use Rattle.wc_gc.specs.Trim.{IsImageText, IsTrimCause}
 use Rattle.wc_gc.specs.declared.fault.GcFault.{GcFault}
 use Rattle.wc_gc.specs.declared.parts.Parts.{Parts}
 use Rattle.wc_gc.specs.declared.fault.GcFault.TheVariants.{LiveBody, TooLarge}
@@ -87,7 +87,7 @@ module _ (bytes : List ℕ) (required : List (List ℕ)) (m : ModuleValue) (live
       by false e = absurd (none ((Funcs, n), (decides (Funcs, n)).0 h, e))
 
   -- the image of the edited adapter
-  abbrev pub edited_value : SettingsValue → BuiltValue
+  abbrev pub edited_value : SettingsView → BuiltValue
   edited_value set =
       let p = parts_of set (found_in (decode m) live) in
       let f = found_in (decode m) live in
@@ -95,7 +95,7 @@ module _ (bytes : List ℕ) (required : List (List ℕ)) (m : ModuleValue) (live
       image_with m exports live r (types_written m live r ++ added_types p f) (funcs_written set m exports live p f)
       (option_map (r Funcs) (start_of (length (decode m).funcs) p))
 
-  pub edited_value_is : (set : SettingsValue) → edited_image (edit set (decode m) exports live) ≡ edited_value set
+  pub edited_value_is : (set : SettingsView) → edited_image (edit set (decode m) exports live) ≡ edited_value set
   unfolding edited_image edit
   edited_value_is set =
       let p = parts_of set (found_in (decode m) live) in
@@ -107,7 +107,7 @@ module _ (bytes : List ℕ) (required : List (List ℕ)) (m : ModuleValue) (live
       rw (kept_seen (new_global r) (item_seen init_in) (λ n. live (Globals, n)) m.globals) refl in
       same ∙ ap by (added_types_stay r p f)
 
-  pub edited_text_read : (set : SettingsValue) → AreSettings set → ¬ (HasLiveBody required m) → FitsBits (edited_image (edit set (decode m) exports live)) → IsRead (edited_image (edit set (decode m) exports live))
+  pub edited_text_read : (set : SettingsView) → AreSettings set → ¬ (HasLiveBody required m) → FitsBits (edited_image (edit set (decode m) exports live)) → IsRead (edited_image (edit set (decode m) exports live))
   edited_text_read set are in_range fits =
       let is = edited_value_is set in
       let fit = subst FitsBits is fits in
@@ -155,7 +155,7 @@ bits_fit b h = record {
   sizes = sizes_fit b (λ none. h (λ all. none all.sizes));
 }
 
-pub trimmed_text_read : (s : SettingsValue) (w : TrimInput) (text : List ℕ) → AreSettings s → AreBytes w.bytes → (t : IsImageText s w text) → ((f : GcFault) → ¬ (IsTrimCause s w f))
+pub trimmed_text_read : (s : SettingsView) (w : TrimInput) (text : List ℕ) → AreSettings s → AreBytes w.bytes → (t : IsImageText s w text) → ((f : GcFault) → ¬ (IsTrimCause s w f))
     → IsRead (edited_image (edit s (decode t.value) (kept_exports w.required t.value.exports) t.live))
 trimmed_text_read s w text are all t none =
     edited_text_read w.bytes w.required t.value t.live all t.spelled t.decides s are (λ h. none LiveBody (inl (t.value, t.spelled, h)))

@@ -14,16 +14,16 @@ use Rattle.wc_read.specs.Renumbering.{Renumbering, renumber_func_type}
 use Rattle.wc_read.specs.Types.{FuncTypeValue}
 use Rattle.wc_read.specs.declared.operators.Space.TheVariants.{Types, Funcs, Tables, Memories, Globals}
 use Rattle.wc_write.specs.BuiltValues.{HasImportsFirst, def_seen, is_defined, is_imported, item_seen}
-use Rattle.wc_write.specs.ModuleText.{BuiltValue}
+use Rattle.wc_write.specs.Modules.{BuiltValue}
 use Rattle.wc_gc.specs.Decoded.{DecodedModule, FuncCode, GlobalCode, ItemIndex, exported_item}
-use Rattle.wc_gc.specs.Edited.{EditedModule, added_types, edited_by, edited_def, edited_func, is_exported_func, replaced}
+use Rattle.wc_gc.specs.Edit.{EditedModule, added_types, edited_by, edited_def, edited_func, is_exported_func, replaced}
 use Rattle.wc_gc.specs.EditedImage.{added_func_rank, edited_image, edited_rank, func_rank}
 use Rattle.wc_gc.specs.Entries.{body_refs, def_refs, entry_refs, func_entry, func_refs, func_type_refs, global_entry, global_refs, no_entry}
 use Rattle.wc_gc.specs.Entries.{table_entry, type_entry, val_type_refs}
-use Rattle.wc_gc.specs.Found.{FoundValue, is_realloc}
+use Rattle.wc_gc.specs.Found.{FoundView, is_realloc}
 use Rattle.wc_gc.specs.Image.{kept_items, kept_of, new_body, new_export, new_func, new_global, new_table, rank, renumber_body}
-use Rattle.wc_gc.specs.Parts.{SettingsValue, parts_of}
-use Rattle.wc_gc.specs.Traces.{AddsNothing, AreClosed, all_items}
+use Rattle.wc_gc.specs.Parts.{SettingsView, parts_of}
+use Rattle.wc_gc.specs.TraceLaws.{AddsNothing, AreClosed, all_items}
 use Rattle.wc_gc.specs.Unfolding.{built_module, renumber_func, renumber_global}
 use Rattle.wc_gc.specs.Decoded.{is_code}
 use Rattle.wc_gc.specs.declared.parts.Parts.{Parts}
@@ -46,7 +46,7 @@ no_parts = record { import_realloc = false; lazy = false; growing = false; start
 abbrev parts_from : Bool → Bool → Bool → Bool → Parts
 parts_from a b c d = record { import_realloc = a; lazy = b; growing = c; start = d }
 
-pub parts_none : (s : SettingsValue) (f : FoundValue) → AddsNothing s f → parts_of s f ≡ no_parts
+pub parts_none : (s : SettingsView) (f : FoundView) → AddsNothing s f → parts_of s f ≡ no_parts
 parts_none s f n =
     ap (λ b. parts_from b (parts_of s f).lazy (parts_of s f).growing (parts_of s f).start) n.import_realloc
     ∙ (ap (λ b. parts_from false b (parts_of s f).growing (parts_of s f).start) n.lazy
@@ -58,7 +58,7 @@ mapped_each P f (x ∷ xs) h = (h.0, mapped_each P f xs h.1)
 
 -- without parts an edit changes only imported reallocs that are reached
 
-pub def_same : (funcs : ℕ) (s : SettingsValue) (f : FoundValue) (reached exported : Bool) (d : DefValue (Option BodyValue))
+pub def_same : (funcs : ℕ) (s : SettingsView) (f : FoundView) (reached exported : Bool) (d : DefValue (Option BodyValue))
     → (reached && is_realloc d) ≡ false → edited_def funcs s no_parts f reached exported d ≡ d
 def_same funcs s f reached exported (imported m n) h = ap (λ b. cond b (replaced s f) (imported m n)) h
 def_same funcs s f reached exported (local b) h = refl
@@ -75,8 +75,8 @@ pub record IsPlain (m : DecodedModule) (exports : List ExportValue) (live : Item
   pub global_code : (n : ℕ) (x : GlobalCode) → live (Globals, n) ≡ true → slice_get m.globals n ≡ Some x → IsTrue (is_code x.def)
   pub first : HasImportsFirst (cut m exports live).funcs
 
-module _ (s : SettingsValue) (m : DecodedModule) (exports : List ExportValue) (live : ItemIndex → Bool) (i : IsPlain m exports live)
-    (g : FoundValue) where
+module _ (s : SettingsView) (m : DecodedModule) (exports : List ExportValue) (live : ItemIndex → Bool) (i : IsPlain m exports live)
+    (g : FoundView) where
   abbrev C : DecodedModule
   C = cut m exports live
 
@@ -103,10 +103,6 @@ module _ (s : SettingsValue) (m : DecodedModule) (exports : List ExportValue) (l
   pub each_func : (P : FuncCode → Type 0) → ((n : ℕ) (x : FuncCode) → live (Funcs, n) ≡ true → slice_get m.funcs n ≡ Some x → P x)
       → AllByRecursion P kept_funcs
   each_func P h = recursion_from_All P kept_funcs (all_kept P (λ n. live (Funcs, n)) m.funcs h (length m.funcs))
-
-  pub each_global : (P : GlobalCode → Type 0) → ((n : ℕ) (x : GlobalCode) → live (Globals, n) ≡ true → slice_get m.globals n ≡ Some x → P x)
-      → AllByRecursion P kept_globals
-  each_global P h = recursion_from_All P kept_globals (all_kept P (λ n. live (Globals, n)) m.globals h (length m.globals))
 
   -- the edit changes no function
 

@@ -9,7 +9,7 @@ use Rattle.std.proofs.lemmas.Bool.{false≢true, lt-ltb, not-true, and_parts}
 use Rattle.std.proofs.lemmas.List.{length-map}
 use Rattle.std.proofs.lemmas.Option.{slice_get-map, slice_get_within}
 use Rattle.wc_read.specs.Bodies.{BodyValue}
-use Rattle.wc_read.specs.Decoding.{body_in, init_in}
+use Rattle.wc_read.specs.BodyOperators.{body_in, init_in}
 use Rattle.wc_read.specs.Exports.{ExportValue}
 use Rattle.wc_read.specs.Items.{DefValue, imported, local, TableValue}
 use Rattle.wc_read.specs.Modules.{IsModule, ModuleValue, SpellsModule}
@@ -18,26 +18,26 @@ use Rattle.wc_read.specs.declared.operators.Space.TheVariants.{Types, Funcs, Tab
 use Rattle.wc_read.proofs.ModulesLemmas.{modules_one}
 use Rattle.wc_read.proofs.OptionsLemmas.{some_same}
 use Rattle.wc_write.specs.BuiltValues.{HasImportsFirst, IsRead, IsWritable, def_seen, item_seen, written_module}
-use Rattle.wc_write.specs.ModuleText.{BuiltValue, built_text}
+use Rattle.wc_write.specs.Modules.{BuiltValue, built_text}
 use Rattle.wc_write.specs.Values.{AreBytes}
 use Rattle.wc_write.proofs.WritableModuleLemmas.{spelled_writable}
 use Rattle.wc_gc.specs.Causes.{DecidesLive, IsFoundCause, called_reallocs, grows_memory, has_page_size_at, has_realloc_type}
 use Rattle.wc_gc.specs.Cut.{cut_of, ranks_named, part_names}
 use Rattle.wc_gc.specs.Decoded.{DecodedModule, FuncCode, GlobalCode, ItemIndex, decode, exported_item, is_in, size_of}
-use Rattle.wc_gc.specs.Edited.{edit, edited_by}
+use Rattle.wc_gc.specs.Edit.{edit, edited_by}
 use Rattle.wc_gc.specs.EditedImage.{FitsBits, edited_image}
 use Rattle.wc_gc.specs.Entries.{body_refs, def_refs, func_entry, func_refs, no_entry, global_refs, func_type_refs, val_type_refs}
-use Rattle.wc_gc.specs.Found.{FoundValue, allocation_state, found_in, is_mutable_i32_at, is_own_memory_at, is_realloc, is_realloc_at, stack_pointer}
+use Rattle.wc_gc.specs.Found.{FoundView, allocation_state, found_in, is_mutable_i32_at, is_own_memory_at, is_realloc, is_realloc_at, stack_pointer}
 use Rattle.wc_gc.specs.Image.{kept_of, new_export, rank, renumber_body, kept_items, new_table}
-use Rattle.wc_gc.specs.KeptExports.{export_names, is_exported, is_required, kept_exports, missing_name}
+use Rattle.wc_gc.specs.Exports.{export_names, is_exported, is_required, kept_exports, missing_name}
 use Rattle.wc_gc.specs.Laws.{AreSettings}
-use Rattle.wc_gc.specs.Liveness.{HasLiveBody, HasUnsupported, IsLivenessCause, TrimInput, with_bytes}
-use Rattle.wc_gc.specs.Parts.{SettingsValue, is_any, is_lazy, last_of, parts_of}
+use Rattle.wc_gc.specs.LiveItems.{HasLiveBody, HasUnsupported, IsLivenessCause, TrimInput, with_bytes}
+use Rattle.wc_gc.specs.Parts.{SettingsView, is_any, is_lazy, last_of, parts_of}
 use Rattle.wc_gc.specs.Reached.{IsReached}
 use Rattle.wc_gc.specs.InRange.{is_item_in_range, is_def_in_range, is_entry_in_range}
-use Rattle.wc_gc.specs.Traces.{AddsNothing, AreClosed, TrimTwice, all_items}
+use Rattle.wc_gc.specs.TraceLaws.{AddsNothing, AreClosed, TrimTwice, all_items}
 use Rattle.wc_gc.specs.TrimmedText.{IsTrimmed}
-use Rattle.wc_gc.specs.Trimming.{IsImageText, IsLaterCause, IsTrimCause}
+use Rattle.wc_gc.specs.Trim.{IsImageText, IsLaterCause, IsTrimCause}
 use Rattle.wc_gc.specs.Unfolding.{built_module, renumber_func, renumber_global}
 use Rattle.wc_gc.specs.Decoded.{is_code}
 use Rattle.wc_gc.specs.declared.fault.GcFault.{GcFault}
@@ -68,7 +68,7 @@ use Rattle.wc_read.specs.Types.{FuncTypeValue}
 use Rattle.wc_read.specs.declared.operators.Space.{Space}
 use Rattle.wc_gc.proofs.TwiceTextLemmas.{all_exports_kept, and_and_false, built_read, find_same, func_of, required_there, rest_false}
 
-module _ (s : SettingsValue) (w : TrimInput) (text : List ℕ) (are : AreSettings s) (all : AreBytes w.bytes) (bytes : AreBytes text)
+module _ (s : SettingsView) (w : TrimInput) (text : List ℕ) (are : AreSettings s) (all : AreBytes w.bytes) (bytes : AreBytes text)
     (t : IsTrimmed s w text) (none : AddsNothing s (found_in (decode t.image.value) t.image.live)) where
   abbrev m : ModuleValue
   m = t.image.value
@@ -85,10 +85,10 @@ module _ (s : SettingsValue) (w : TrimInput) (text : List ℕ) (are : AreSetting
   abbrev C : DecodedModule
   C = cut D ex live
 
-  abbrev f : FoundValue
+  abbrev f : FoundView
   f = found_in D live
 
-  abbrev g : FoundValue
+  abbrev g : FoundView
   g = found_in C all_items
 
   writable : IsWritable m
@@ -334,7 +334,7 @@ module _ (s : SettingsValue) (w : TrimInput) (text : List ℕ) (are : AreSetting
 
   -- its image
 
-  abbrev G : FoundValue
+  abbrev G : FoundView
   G = found_in U all_items
 
   parts_again : parts_of s G ≡ no_parts

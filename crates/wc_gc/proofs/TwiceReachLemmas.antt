@@ -12,7 +12,7 @@ use Rattle.wc_read.specs.Exports.{ExportValue}
 use Rattle.wc_read.specs.Items.{DefValue, imported, local}
 use Rattle.wc_read.specs.Names.{GlobalNameValue}
 use Rattle.wc_read.specs.Operators.{InstrValue}
-use Rattle.wc_read.specs.Refs.{names_segment}
+use Rattle.wc_read.specs.References.{names_segment}
 use Rattle.wc_read.specs.Renumbering.{Renumbering, renumber_func_type, renumber_immediates, renumber_instr, renumber_item}
 use Rattle.wc_read.specs.declared.operators.Space.{Space}
 use Rattle.wc_read.specs.declared.operators.Space.TheVariants.{Types, Funcs, Tables, Memories, Globals}
@@ -26,7 +26,7 @@ use Rattle.wc_gc.specs.Entries.{memory_entry, no_entry, refs_in, table_entry, ty
 use Rattle.wc_gc.specs.Image.{kept_items, new_export, new_table, rank, renumber_body, renumber_code}
 use Rattle.wc_gc.specs.Reached.{IsPath, IsReached}
 use Rattle.wc_gc.specs.InRange.{is_operator_in_range, is_item_in_range, is_code_in_range, is_code_body_in_range, is_def_in_range, is_entry_in_range}
-use Rattle.wc_gc.specs.Traces.{AreClosed, CutIsReached}
+use Rattle.wc_gc.specs.TraceLaws.{AreClosed, CutIsReached}
 use Rattle.wc_gc.specs.Unfolding.{renumber_entry, renumber_func, renumber_global}
 use Rattle.wc_gc.proofs.BuiltPartLemmas.{each_weaker}
 use Rattle.wc_gc.proofs.ChainLemmas.{contains_unmapped, in_all, in_filter}

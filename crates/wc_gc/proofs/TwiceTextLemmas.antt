@@ -8,18 +8,18 @@ use Rattle.std.proofs.lemmas.Bool.{false≢true, true≢false}
 use Rattle.std.proofs.lemmas.List.Elements.{recursion_from_All}
 use Rattle.std.proofs.lemmas.Slice.Eq.{bytes_eq-Decides}
 use Rattle.wc_read.specs.Bodies.{BodyValue}
-use Rattle.wc_read.specs.Decoding.{body_in, init_in}
+use Rattle.wc_read.specs.BodyOperators.{body_in, init_in}
 use Rattle.wc_read.specs.Exports.{ExportValue}
 use Rattle.wc_read.specs.Items.{DefValue, ItemValue, imported, local}
 use Rattle.wc_read.specs.Operators.{InstrValue}
 use Rattle.wc_read.specs.declared.types.GlobalType.{GlobalType}
 use Rattle.wc_read.proofs.DecodingLemmas.{body_found, init_found}
-use Rattle.wc_write.specs.BodyText.{body_text}
+use Rattle.wc_write.specs.Bodies.{body_text}
 use Rattle.wc_write.specs.BuiltValues.{IsRead, IsReadBody, IsReadInit, def_seen, item_seen, written_module}
-use Rattle.wc_write.specs.ModuleText.{BuiltValue, operators_text}
+use Rattle.wc_write.specs.Modules.{BuiltValue, operators_text}
 use Rattle.wc_write.specs.Spaces.{DefinedValue, defined, defined_by, defined_contents}
 use Rattle.wc_gc.specs.Decoded.{FuncCode, GlobalCode, decode}
-use Rattle.wc_gc.specs.KeptExports.{export_names, is_required, kept_exports, without}
+use Rattle.wc_gc.specs.Exports.{export_names, is_required, kept_exports, without}
 use Rattle.wc_gc.specs.Unfolding.{built_module}
 use Rattle.wc_gc.proofs.BuiltPartLemmas.{each_weaker}
 use Rattle.wc_gc.proofs.ChainLemmas.{any_fails, in_all}

@@ -9,8 +9,8 @@ use Rattle.wc_read.specs.declared.types.GlobalType.{GlobalType}
 use Rattle.wc_read.specs.declared.types.ValType.{ValType}
 use Rattle.wc_read.specs.declared.types.ValType.TheVariants.{I32, I64, F32, F64, V128, FuncRef, ExternRef, FuncRefNonNull, ExternRefNonNull, TypeRef}
 use Rattle.wc_gc.specs.AddedCode.{empty_type, realloc_type}
-use Rattle.wc_gc.specs.Edited.{added_types, only_if, types_added}
-use Rattle.wc_gc.specs.Found.{FoundValue, are_i32, is_empty, is_empty_type, is_i32, is_mutable_i32, is_realloc_type}
+use Rattle.wc_gc.specs.Edit.{added_types, only_if, types_added}
+use Rattle.wc_gc.specs.Found.{FoundView, are_i32, is_empty, is_empty_type, is_i32, is_mutable_i32, is_realloc_type}
 use Rattle.wc_gc.specs.declared.parts.Parts.{Parts}
 
 module _ (new : Renumbering) where
@@ -68,5 +68,5 @@ module _ (new : Renumbering) where
       only_stays p.import_realloc realloc_type _ refl
       (only_stays p.lazy empty_type _ refl (only_stays p.growing realloc_type _ refl (last_stays (p.start && no_empty))))
 
-  pub added_types_stay : (p : Parts) (f : FoundValue) → map (renumber_func_type new) (added_types p f) ≡ added_types p f
+  pub added_types_stay : (p : Parts) (f : FoundView) → map (renumber_func_type new) (added_types p f) ≡ added_types p f
   added_types_stay p f = types_stay p (is_empty f.empties)

@@ -14,14 +14,14 @@ use Rattle.wc_read.specs.Items.{DefValue, imported, local}
 use Rattle.wc_read.specs.declared.operators.Space.TheVariants.{Types, Funcs, Tables, Memories, Globals}
 use Rattle.wc_write.specs.BuiltValues.{is_defined, is_import}
 use Rattle.wc_gc.specs.Decoded.{FuncCode, ItemIndex}
-use Rattle.wc_gc.specs.Edited.{added_funcs, added_imports, edit, edited_def, edited_func, edited_funcs, import_func, is_exported_func, lazy_func, lazy_position}
-use Rattle.wc_gc.specs.Edited.{one_if, only_if, replaced, with_call}
+use Rattle.wc_gc.specs.Edit.{added_funcs, added_imports, edit, edited_def, edited_func, edited_funcs, import_func, is_exported_func, lazy_func, lazy_position}
+use Rattle.wc_gc.specs.Edit.{one_if, only_if, replaced, with_call}
 use Rattle.wc_gc.specs.Entries.{Entry, no_entry, type_entry, func_entry, entry_at, entry_refs}
-use Rattle.wc_gc.specs.Found.{FoundValue, found_in, is_realloc, is_realloc_at}
-use Rattle.wc_gc.specs.Parts.{SettingsValue}
+use Rattle.wc_gc.specs.Found.{FoundView, found_in, is_realloc, is_realloc_at}
+use Rattle.wc_gc.specs.Parts.{SettingsView}
 use Rattle.wc_gc.specs.Unfolding.{Tree, blank, unfolding_of}
-use Rattle.wc_gc.specs.Untouched.{Original, parts, edited, begins_with_call, is_edited, IsUnedited, UntouchedUnfold, NamesUnedited, UneditedUnfold, lazy_index}
-use Rattle.wc_gc.specs.Untouched.{KeepsCode, CallsKeepCode}
+use Rattle.wc_gc.specs.UntouchedLaws.{Original, parts, edited, begins_with_call, is_edited, IsUnedited, UntouchedUnfold, NamesUnedited, UneditedUnfold, lazy_index}
+use Rattle.wc_gc.specs.UntouchedLaws.{KeepsCode, CallsKeepCode}
 use Rattle.wc_gc.specs.declared.parts.Parts.{Parts}
 use Rattle.wc_gc.proofs.BuiltPartLemmas.{each_weaker}
 use Rattle.wc_gc.proofs.ImageLemmas.{enumerated_read}
@@ -35,7 +35,7 @@ drop_true true true = refl
 drop_true true false = refl
 drop_true false y = refl
 
-def_same : (funcs : ℕ) (s : SettingsValue) (p : Parts) (f : FoundValue) (reached exported : Bool) (d : DefValue (Option BodyValue))
+def_same : (funcs : ℕ) (s : SettingsView) (p : Parts) (f : FoundView) (reached exported : Bool) (d : DefValue (Option BodyValue))
     → (reached && is_realloc d) ≡ false → (p.lazy && (exported && not (is_import d))) ≡ false
     → edited_def funcs s p f reached exported d ≡ d
 def_same funcs s p f reached exported (imported m n) h k = ap (λ b. cond b (replaced s f) (imported m n)) h
@@ -43,7 +43,7 @@ def_same funcs s p f reached exported (local b) h k =
     ap (λ c. local (cond c (option_map (with_call (funcs + lazy_position p)) b) b)) (sym (drop_true p.lazy exported) ∙ k)
 
 -- one that begins with a call
-def_called : (funcs : ℕ) (s : SettingsValue) (p : Parts) (f : FoundValue) (reached exported : Bool) (b : BodyValue)
+def_called : (funcs : ℕ) (s : SettingsView) (p : Parts) (f : FoundView) (reached exported : Bool) (b : BodyValue)
     → (p.lazy && (exported && true)) ≡ true
     → edited_def funcs s p f reached exported (local (Some b)) ≡ local (Some (with_call (funcs + lazy_position p) b))
 def_called funcs s p f reached exported b h =
@@ -56,7 +56,7 @@ module _ (a : Original) where
   abbrev olds : List FuncCode
   olds = a.value.funcs
 
-  abbrev found : FoundValue
+  abbrev found : FoundView
   found = found_in a.value a.live
 
   abbrev added : List FuncCode

@@ -5,7 +5,7 @@ use Rattle.std.specs.List.{All, AllByRecursion, slice_get}
 use Rattle.std.specs.Option.{option_map, option_map_or}
 use Rattle.std.proofs.lemmas.List.Elements.{All-contains, All-from_recursion, All-map, All-weaker, recursion_from_All}
 use Rattle.std.proofs.lemmas.Option.{slice_get-map}
-use Rattle.wc_read.specs.Decoding.{body_in, init_in}
+use Rattle.wc_read.specs.BodyOperators.{body_in, init_in}
 use Rattle.wc_read.specs.Exports.{ExportValue}
 use Rattle.wc_read.specs.Items.{FuncValue, GlobalValue, MemoryValue}
 use Rattle.wc_read.specs.Modules.{IsModule, ModuleValue, count_of}
@@ -14,11 +14,11 @@ use Rattle.wc_write.specs.BuiltValues.{IsWritable, item_seen}
 use Rattle.wc_write.proofs.WritableModuleLemmas.{spelled_writable}
 use Rattle.wc_gc.specs.Decoded.{DecodedModule, ItemIndex, decode, exported_item, is_in}
 use Rattle.wc_gc.specs.Entries.{entry_at, entry_refs, func_entry, global_entry, memory_entry, no_entry, refs_in}
-use Rattle.wc_gc.specs.KeptExports.{kept_exports}
-use Rattle.wc_gc.specs.Liveness.{HasLiveBody, IsLive}
+use Rattle.wc_gc.specs.Exports.{kept_exports}
+use Rattle.wc_gc.specs.LiveItems.{HasLiveBody, IsLive}
 use Rattle.wc_gc.specs.Reached.{IsPath}
 use Rattle.wc_gc.specs.InRange.{is_item_in_range, is_entry_in_range}
-use Rattle.wc_gc.specs.Untouched.{IsUnedited, LiveUnfold, is_edited, original_of}
+use Rattle.wc_gc.specs.UntouchedLaws.{IsUnedited, LiveUnfold, is_edited, original_of}
 use Rattle.wc_gc.proofs.BuiltPartLemmas.{all_at}
 use Rattle.wc_gc.proofs.ExportLemmas.{all_kept}
 use Rattle.wc_gc.proofs.InitRefLemmas.{global_names_there}

@@ -7,14 +7,14 @@ use Rattle.wc_read.specs.Items.{DefValue, imported, local}
 use Rattle.wc_read.specs.Operators.{InstrValue}
 use Rattle.wc_read.specs.Inits.{end_value}
 use Rattle.wc_read.specs.InitTypes.{InitScope, IsTyped, IsTypedDef}
-use Rattle.wc_read.specs.Decoding.{init_in}
+use Rattle.wc_read.specs.BodyOperators.{init_in}
 use Rattle.wc_read.specs.Renumbering.{Renumbering, renumber_instr, renumber_val_type}
 use Rattle.wc_read.specs.declared.types.ValType.{ValType}
 use Rattle.wc_read.proofs.DecodingLemmas.{init_found}
 use Rattle.wc_read.proofs.OptionsLemmas.{some_same}
 use Rattle.wc_write.specs.Text.{FitsSize}
 use Rattle.wc_write.specs.Values.{IsInstr}
-use Rattle.wc_write.specs.ModuleText.{operators_text}
+use Rattle.wc_write.specs.Modules.{operators_text}
 use Rattle.wc_write.specs.BuiltValues.{def_seen, IsInitialiser, HasInitialiser}
 use Rattle.wc_write.proofs.ContentLemmas.{init_spelled}
 use Rattle.wc_gc.specs.Decoded.{ItemIndex}

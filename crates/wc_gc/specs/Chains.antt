@@ -4,8 +4,8 @@ use Rattle.wc_read.specs.Exports.{ExportValue}
 use Rattle.wc_read.specs.Modules.{IsModule, ModuleValue}
 use Rattle.wc_gc.specs.Decoded.{ItemIndex, decode, exported_item}
 use Rattle.wc_gc.specs.Entries.{refs_in}
-use Rattle.wc_gc.specs.KeptExports.{is_required, kept_exports}
-use Rattle.wc_gc.specs.Liveness.{IsLive}
+use Rattle.wc_gc.specs.Exports.{is_required, kept_exports}
+use Rattle.wc_gc.specs.LiveItems.{IsLive}
 use Rattle.wc_gc.specs.Reached.{IsPath}
 
 -- an export of the module whose name is required

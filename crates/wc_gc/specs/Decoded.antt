@@ -5,7 +5,7 @@ use Rattle.wc_read.specs.Types.{FuncTypeValue}
 use Rattle.wc_read.specs.Exports.{ExportValue}
 use Rattle.wc_read.specs.Operators.{InstrValue}
 use Rattle.wc_read.specs.Bodies.{BodyValue}
-use Rattle.wc_read.specs.Decoding.{body_in, init_in}
+use Rattle.wc_read.specs.BodyOperators.{body_in, init_in}
 use Rattle.wc_read.specs.Names.{GlobalNameValue}
 use Rattle.wc_read.specs.Items.{DefValue, imported, local, ItemValue, TableValue, MemoryValue, func_value, global_value}
 use Rattle.wc_read.specs.declared.items.Item.{Item}

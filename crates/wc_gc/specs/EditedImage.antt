@@ -6,10 +6,10 @@ use Rattle.std.specs.Option.{option_map, option_map_or}
 use Rattle.wc_read.specs.Renumbering.{Renumbering, renumber_func_type}
 use Rattle.wc_read.specs.declared.operators.Space.TheVariants.{Types, Funcs, Tables, Memories, Globals}
 use Rattle.wc_write.specs.BuiltValues.{is_imported, is_defined}
-use Rattle.wc_write.specs.ModuleText.{BuiltValue, SizesFit}
+use Rattle.wc_write.specs.Modules.{BuiltValue, SizesFit}
 use Rattle.wc_gc.specs.Counts.{count_below}
 use Rattle.wc_gc.specs.Decoded.{FuncCode}
-use Rattle.wc_gc.specs.Edited.{EditedModule}
+use Rattle.wc_gc.specs.Edit.{EditedModule}
 use Rattle.wc_gc.specs.declared.fault.GcFault.{GcFault}
 use Rattle.wc_gc.specs.declared.fault.GcFault.TheVariants.{Memory, TooLarge}
 use Rattle.wc_gc.specs.Image.{rank, kept_items, kept_of, new_func, new_table, new_global, new_export}

@@ -5,7 +5,7 @@ use Rattle.std.specs.Option.{option_map_or, option_to_list}
 use Rattle.wc_read.specs.Types.{FuncTypeValue, type_indices}
 use Rattle.wc_read.specs.Operators.{InstrValue}
 use Rattle.wc_read.specs.Bodies.{BodyValue, local_types}
-use Rattle.wc_read.specs.Refs.{refs_of, type_refs_of}
+use Rattle.wc_read.specs.References.{refs_of, type_refs_of}
 use Rattle.wc_read.specs.Items.{DefValue, imported, local, TableValue, MemoryValue}
 use Rattle.wc_read.specs.declared.operators.Space.{Space}
 use Rattle.wc_read.specs.declared.operators.Space.TheVariants.{Types, Funcs, Tables, Memories, Globals}

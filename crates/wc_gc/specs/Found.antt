@@ -83,7 +83,7 @@ indices_where m space test = filter test (range_with_len 0 (size_of m space))
 
 -- of kept items: the stack pointers, the states of an allocation, the reallocs, the tables, the memories, and the types
 -- without parameters and results
-pub record FoundValue : Type 0 where
+pub record FoundView : Type 0 where
   pub stacks : List ℕ
   pub states : List ℕ
   pub reallocs : List ℕ
@@ -91,7 +91,7 @@ pub record FoundValue : Type 0 where
   pub memories : List ℕ
   pub empties : List ℕ
 
-unfoldable pub found_in : DecodedModule → (ItemIndex → Bool) → FoundValue
+unfoldable pub found_in : DecodedModule → (ItemIndex → Bool) → FoundView
 found_in m kept = record {
   stacks = indices_where m Globals (λ n. kept (Globals, n) && is_named_at m stack_pointer n);
   states = indices_where m Globals (λ n. kept (Globals, n) && is_named_at m allocation_state n);
@@ -101,8 +101,8 @@ found_in m kept = record {
   empties = indices_where m Types (λ n. kept (Types, n) && is_empty_type_at m n);
 }
 
-abbrev pub found_value : Found → FoundValue
-found_value f = record {
+abbrev pub found_view : Found → FoundView
+found_view f = record {
   stacks = f.stacks.items;
   states = f.states.items;
   reallocs = f.reallocs.items;

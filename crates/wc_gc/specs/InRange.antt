@@ -4,7 +4,7 @@ use Rattle.std.specs.List.{list_all}
 use Rattle.std.specs.Option.{option_map_or}
 use Rattle.wc_read.specs.Operators.{InstrValue}
 use Rattle.wc_read.specs.Bodies.{BodyValue, local_types}
-use Rattle.wc_read.specs.Refs.{names_segment}
+use Rattle.wc_read.specs.References.{names_segment}
 use Rattle.wc_read.specs.Items.{DefValue, imported, local}
 use Rattle.wc_gc.specs.Decoded.{DecodedModule, ItemIndex, is_in}
 use Rattle.wc_gc.specs.Entries.{Entry, no_entry, type_entry, func_entry, table_entry, memory_entry, global_entry, entry_at, instr_refs, val_type_refs}

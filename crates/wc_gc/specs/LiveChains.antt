@@ -6,14 +6,14 @@ use Rattle.std.specs.Str.{bytes_eq}
 use Rattle.wc_read.specs.Exports.{ExportValue}
 use Rattle.wc_read.specs.Modules.{ModuleValue, SpellsModule}
 use Rattle.wc_gc.specs.Decoded.{ItemIndex, decode, exported_item}
-use Rattle.wc_gc.specs.Edited.{edit}
+use Rattle.wc_gc.specs.Edit.{edit}
 use Rattle.wc_gc.specs.Entries.{refs_in}
-use Rattle.wc_gc.specs.KeptExports.{kept_exports}
-use Rattle.wc_gc.specs.Liveness.{IsLive, TrimInput}
-use Rattle.wc_gc.specs.Parts.{SettingsValue}
-use Rattle.wc_gc.specs.Restriction.{IsImportItem}
-use Rattle.wc_gc.specs.ShortestChains.{IsFinderChain, IsShortestChain}
-use Rattle.wc_gc.specs.Trimming.{IsImageText}
+use Rattle.wc_gc.specs.Exports.{kept_exports}
+use Rattle.wc_gc.specs.LiveItems.{IsLive, TrimInput}
+use Rattle.wc_gc.specs.Parts.{SettingsView}
+use Rattle.wc_gc.specs.RestrictionLaws.{IsImportItem}
+use Rattle.wc_gc.specs.ImportChains.{IsFinderChain, IsShortestChain}
+use Rattle.wc_gc.specs.Trim.{IsImageText}
 use Rattle.wc_gc.specs.declared.import_chains.Chain.{Chain}
 use Rattle.wc_gc.specs.declared.import_chains.ImportChains.{ImportChains}
 
@@ -82,5 +82,5 @@ ChainsUnique = (names : ItemIndex → List ItemIndex) (roots : List ItemIndex) (
 
 -- what is kept of an adapter that is trimmed is what is live: nothing is kept for the code alone that is added
 abbrev pub KeptIsLive : Type 0
-KeptIsLive = (s : SettingsValue) (w : TrimInput) (text : List ℕ) (t : IsImageText s w text) (x : ItemIndex) →
+KeptIsLive = (s : SettingsView) (w : TrimInput) (text : List ℕ) (t : IsImageText s w text) (x : ItemIndex) →
     IsTrue ((edit s (decode t.value) (kept_exports w.required t.value.exports) t.live).kept x) ↔ IsLive w.required t.value x

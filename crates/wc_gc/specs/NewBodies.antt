@@ -4,12 +4,12 @@ use Rattle.std.specs.List.{flat_map}
 use Rattle.std.specs.Option.{option_map, option_to_list}
 use Rattle.wc_read.specs.Operators.{InstrValue}
 use Rattle.wc_read.specs.Bodies.{BodyValue}
-use Rattle.wc_read.specs.Decoding.{body_in}
+use Rattle.wc_read.specs.BodyOperators.{body_in}
 use Rattle.wc_read.specs.Renumbering.{Renumbering}
 use Rattle.wc_read.specs.declared.operators.Space.TheVariants.{Funcs}
-use Rattle.wc_write.specs.OperatorText.{instr_text}
+use Rattle.wc_write.specs.Operators.{instr_text}
 use Rattle.wc_gc.specs.AddedCode.{call, growing_body, stack_body}
-use Rattle.wc_gc.specs.Edited.{lazy_position}
+use Rattle.wc_gc.specs.Edit.{lazy_position}
 use Rattle.wc_gc.specs.Image.{new_body, renumber_code}
 use Rattle.wc_gc.specs.NewIndices.{new_of}
 use Rattle.wc_gc.specs.declared.parts.Parts.{Parts}

@@ -1,14 +1,14 @@
 -- Words of contracts of private functions. No contract of a public function cites these, directly or through others.
-pub mod Edits
-pub mod Explained
+pub mod Edit
+pub mod TrimPlace
 pub mod Finders
 pub mod FuncGroups
-pub mod ImportSpaces
+pub mod ImportPositions
 pub mod ItemCounts
 pub mod MachineOperators
 pub mod Merging
-pub mod Places
-pub mod Positions
-pub mod Rewriting
+pub mod KeptOrder
+pub mod RangeSet
+pub mod Rewrite
 pub mod Roots
-pub mod Searches
+pub mod Search

@@ -2,7 +2,7 @@
 use Rattle.std.specs.Prelude.{◌≡◌, ℕ, ◌+◌, ◌<◌, Bool, true, cond, nat_lt, length}
 use Rattle.wc_read.specs.declared.operators.Space.{Space}
 use Rattle.wc_read.specs.declared.operators.Space.TheVariants.{Types, Funcs, Tables, Memories, Globals}
-use Rattle.wc_gc.specs.Edited.{EditedModule}
+use Rattle.wc_gc.specs.Edit.{EditedModule}
 use Rattle.wc_gc.specs.EditedImage.{edited_rank, is_kept_import, is_kept_defined}
 
 -- whether the image has an item: one that is kept, or one that is added

@@ -2,12 +2,12 @@
 
 ghost use Rattle.std.specs.Prelude.{◌≡◌, ◌++◌, ◌≤◌, ◌<◌, ◌^◌, IfOk, IfSome, OnOk};
 ghost use Rattle.std.specs.List.{flat_map};
-ghost use Rattle.wc_write.specs.BodyText.{body_text};
+ghost use Rattle.wc_write.specs.Bodies.{body_text};
 ghost use Rattle.wc_write.specs.Values.{IsU32};
 ghost use Rattle.wc_gc.specs.AddedCode.{allocation, allocation_once, growing_body, growth, shifted, stack_body, stack_code, trap_unless};
-ghost use Rattle.wc_gc.specs.AddedCodeRuns.{IsGrowingRealloc, IsStackCode, SpellsOnly};
+ghost use Rattle.wc_gc.specs.MachineLaws.{IsGrowingRealloc, IsStackCode, SpellsOnly};
 ghost use Rattle.wc_gc.specs.Private.MachineOperators.{operator_text};
-ghost use Rattle.wc_write.specs.ModuleText.{operators_text};
+ghost use Rattle.wc_write.specs.Modules.{operators_text};
 
 use crate::machine_laws::{added_bodies_are_spellable, growing_body_grows, stack_body_allocates};
 use crate::machine_operators::MachineOperator::{

@@ -5,9 +5,9 @@ ghost use Rattle.std.specs.List.{list_all, list_any};
 ghost use Rattle.wc_read.specs.Types.{func_type_value};
 ghost use Rattle.wc_gc.specs.Causes.{IsFoundCause, called_reallocs, grows_memory, has_page_size, has_page_size_at, has_realloc_type, is_realloc_type_at};
 ghost use Rattle.wc_gc.specs.Decoded.{decoded_module};
-ghost use Rattle.wc_gc.specs.Found.{are_i32, found_value, is_i32, is_own_memory_at, is_realloc_type};
-ghost use Rattle.wc_gc.specs.Liveness.{IsFirstCause};
-ghost use Rattle.wc_gc.specs.Parts.{settings_value};
+ghost use Rattle.wc_gc.specs.Found.{are_i32, found_view, is_i32, is_own_memory_at, is_realloc_type};
+ghost use Rattle.wc_gc.specs.LiveItems.{IsFirstCause};
+ghost use Rattle.wc_gc.specs.Parts.{settings_view};
 
 use crate::fault::GcFault;
 use crate::found::Found;
@@ -19,15 +19,15 @@ use wc_read::{Def, FuncType, MemoryType, Module, ValType};
 const USUAL_PAGE_SIZE_LOG2: u32 = 16;
 
 /// Checks what was found.
-pub fn check_parts(
+pub fn check_found(
     adapter: &Module<'_>,
     settings: Settings<'_>,
     found: &Found,
 ) -> Result<(), GcFault>
     ensures fault { IfErr result (IsFirstCause (IsFoundCause
-        (settings_value settings.entry) (decoded_module adapter.now) (found_value found.now))) }
+        (settings_view settings.entry) (decoded_module adapter.now) (found_view found.now))) }
     ensures none { IsOk result → (f : GcFault) → ¬ (IsFoundCause
-        (settings_value settings.entry) (decoded_module adapter.now) (found_value found.now) f) }
+        (settings_view settings.entry) (decoded_module adapter.now) (found_view found.now) f) }
 {
     if found.stacks.len() > 1 || found.states.len() > 1 {
         return Err(GcFault::SeveralNamed);
@@ -74,7 +74,7 @@ fn is_own_memory(adapter: &Module<'_>, index: u32) -> bool
 /// where lazy code calls it.
 fn called_reallocs<'a>(settings: Settings<'_>, found: &'a Found) -> &'a [u32]
     ensures { result.now
-        ≡ called_reallocs (settings_value settings.entry) (found_value found.now) }
+        ≡ called_reallocs (settings_view settings.entry) (found_view found.now) }
 {
     let reallocs = found.reallocs.as_slice();
     if settings.realloc.is_none() {
@@ -139,7 +139,7 @@ fn is_i32(ty: ValType) -> bool
 
 /// Whether a realloc that grows memory is in the output.
 fn grows_memory(settings: Settings<'_>, found: &Found) -> bool
-    ensures { result ≡ grows_memory (settings_value settings.entry) (found_value found.now) }
+    ensures { result ≡ grows_memory (settings_view settings.entry) (found_view found.now) }
 {
     Parts::of(settings, found).growing
         || (!settings.realloc.is_some() && !found.reallocs.is_empty())
@@ -148,7 +148,7 @@ fn grows_memory(settings: Settings<'_>, found: &Found) -> bool
 /// Whether a live memory is of 32 bits and has pages of the required size.
 fn has_memory_to_grow(adapter: &Module<'_>, settings: Settings<'_>, found: &Found) -> bool
     ensures { result ≡ list_any (has_page_size_at (decoded_module adapter.now)
-        settings.entry.page_size_log2) (found_value found.now).memories }
+        settings.entry.page_size_log2) (found_view found.now).memories }
 {
     found.memories.iter().any(|memory| has_page_size_at(adapter, *memory, settings.page_size_log2))
 }

@@ -2,14 +2,14 @@
 
 ghost use Rattle.std.specs.Prelude.{◌≡◌, ◌+◌, ◌++◌, true, Some, length, OnOk, is_some};
 ghost use Rattle.std.specs.Option.{option_map};
-ghost use Rattle.wc_read.specs.Decoding.{body_in};
+ghost use Rattle.wc_read.specs.BodyOperators.{body_in};
 ghost use Rattle.wc_read.specs.Items.{def_value, item_value};
 ghost use Rattle.wc_read.specs.declared.operators.Space.TheVariants.{Funcs, Globals, Memories, Types};
 ghost use Rattle.wc_write.specs.BuiltValues.{def_seen};
 ghost use Rattle.wc_gc.specs.AddedCode.{growing_body, stack_body};
 ghost use Rattle.wc_gc.specs.Decoded.{func_code, is_code};
-ghost use Rattle.wc_gc.specs.Edited.{added_types, called_realloc, edited_body, memory_of, one_if, only_if, replaced, stack_of, start_of, start_type, state_of};
-ghost use Rattle.wc_gc.specs.Found.{found_value};
+ghost use Rattle.wc_gc.specs.Edit.{added_types, called_realloc, edited_body, memory_of, one_if, only_if, replaced, stack_of, start_of, start_type, state_of};
+ghost use Rattle.wc_gc.specs.Found.{found_view};
 ghost use Rattle.wc_gc.specs.Image.{new_body};
 ghost use Rattle.wc_gc.specs.NewBodies.{body_written, call_added};
 ghost use Rattle.wc_gc.specs.NewIndices.{new_of};
@@ -42,15 +42,15 @@ pub struct Edit<'a, 'n> {
     pub found: &'n Found,
     pub new: &'n NewIndices,
     ghost types: { new.now.counts.added_types
-        ≡ length (added_types parts (found_value found.now)) },
+        ≡ length (added_types parts (found_view found.now)) },
     ghost imports: { new.now.counts.added_imports ≡ one_if parts.import_realloc },
     ghost funcs: { new.now.counts.added_funcs
         ≡ one_if parts.lazy + (one_if parts.growing + one_if parts.start) },
-    ghost memory: { new_of new.now Memories (memory_of (found_value found.now)) ≡ 0 },
+    ghost memory: { new_of new.now Memories (memory_of (found_view found.now)) ≡ 0 },
 }
 
 impl<'a, 'n> Edit<'a, 'n> {
-    ghost use Rattle.wc_gc.specs.Private.Edits.{found_of, funcs_added, funcs_of, growing_of, imports_added, lazy_of, new_edited, new_funcs, new_indices, settings_of, start_func_of, types_of, written_funcs};
+    ghost use Rattle.wc_gc.specs.Private.Edit.{found_of, funcs_added, funcs_of, growing_of, imports_added, lazy_of, new_edited, new_funcs, new_indices, settings_of, start_func_of, types_of, written_funcs};
 
     /// A function of the adapter.
     pub fn edited_func(self, func: &Func<'a>, exported: bool) -> NewFunc<'a, 'n>

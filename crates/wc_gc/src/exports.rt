@@ -4,12 +4,12 @@ ghost use Rattle.std.specs.Prelude.{◌≡◌, ◌≢◌, ◌<◌, ℕ, map, len
 ghost use Rattle.std.specs.List.{range_with_len, swap_remove};
 ghost use Rattle.std.specs.Option.{option_map};
 ghost use Rattle.wc_read.specs.Exports.{export_value};
-ghost use Rattle.wc_gc.specs.KeptExports.{AreNamed, IsMissingFault, by_name, export_entries, export_names, kept_exports, missing_name};
-ghost use Rattle.wc_gc.specs.Liveness.{names_of};
-ghost use Rattle.wc_gc.specs.Private.Places.{IsPlaced};
+ghost use Rattle.wc_gc.specs.Exports.{AreNamed, IsMissingFault, by_name, export_entries, export_names, kept_exports, missing_name};
+ghost use Rattle.wc_gc.specs.LiveItems.{names_of};
+ghost use Rattle.wc_gc.specs.Private.KeptOrder.{HasPosition};
 
 use crate::fault::GcFault;
-use crate::places::Places;
+use crate::kept_order::KeptOrder;
 use std::alloc::{AllocError, Global};
 use wc_maps::{Map, Seed, Set};
 use wc_read::Export;
@@ -44,40 +44,40 @@ fn kept_exports<'a>(
         ≡ kept_exports (names_of required.now.keys) (map export_value exports.now)) }
 {
     let mut kept = Vec::from_slice(alloc, exports)?;
-    let mut places = Places::of_all(alloc, exports.len())?;
-    drop_exports(&mut kept, &mut places, exports, required);
+    let mut positions = KeptOrder::of_all(alloc, exports.len())?;
+    drop_exports(&mut kept, &mut positions, exports, required);
     Ok(kept)
 }
 
-/// Takes out each export that is not required. `places`: the place of each export by its index.
+/// Takes out each export that is not required. `positions`: the position of each export by its index.
 fn drop_exports<'a>(
     kept: &mut Vec<Export<'a>>,
-    places: &mut Places,
+    positions: &mut KeptOrder,
     exports: &[Export<'a>],
     required: &Set<String>,
 )
     requires distinct { AllPairs (λ x y. x ≢ y) (export_names (map export_value exports.now)) }
     requires all { kept.old.items ≡ exports.now }
-    requires order { places.old.order.items ≡ range_with_len 0 (length exports.now) }
-    requires placed { (n : ℕ) → n < length exports.now → IsPlaced places.old n }
+    requires order { positions.old.order.items ≡ range_with_len 0 (length exports.now) }
+    requires noted { (n : ℕ) → n < length exports.now → HasPosition positions.old n }
     ensures { map export_value kept.new.items
         ≡ kept_exports (names_of required.now.keys) (map export_value exports.now) }
 {
     let mut index = 0;
     for export in exports {
         if !required.contains(export.name) {
-            remove_at(kept, places.take_out(index));
+            remove_at(kept, positions.take_out(index));
         }
         index += 1;
     }
 }
 
-/// Takes out the export at a place. The last one takes it.
-fn remove_at<'a>(kept: &mut Vec<Export<'a>>, place: usize) -> Export<'a>
-    requires { place < length kept.old.items }
-    ensures { kept.new.items ≡ swap_remove kept.old.items place result }
+/// Takes out the export at a position. The last one takes it.
+fn remove_at<'a>(kept: &mut Vec<Export<'a>>, position: usize) -> Export<'a>
+    requires { position < length kept.old.items }
+    ensures { kept.new.items ≡ swap_remove kept.old.items position result }
 {
-    kept.swap_remove(place)
+    kept.swap_remove(position)
 }
 
 /// Says which of the names is not exported, the first of them. `kept`: the exports whose names are required.

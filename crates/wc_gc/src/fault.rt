@@ -67,7 +67,7 @@ impl<T: Drop> From<AllocFailed<T>> for GcFault {
 }
 
 impl From<ReadFault> for GcFault {
-    ghost use Rattle.wc_gc.specs.Faults.{of_read};
+    ghost use Rattle.wc_gc.specs.Fault.{of_read};
 
     ghost from_gives = { λ f e. e ≡ of_read f };
 
@@ -80,7 +80,7 @@ impl From<ReadFault> for GcFault {
 }
 
 impl From<WriteFault> for GcFault {
-    ghost use Rattle.wc_gc.specs.Faults.{of_write};
+    ghost use Rattle.wc_gc.specs.Fault.{of_write};
 
     ghost from_gives = { λ f e. e ≡ of_write f };
 

@@ -5,14 +5,14 @@ ghost use Rattle.wc_gc.specs.Bits.{bit_of};
 ghost use Rattle.wc_gc.specs.Decoded.{ItemIndex, decoded_module, is_in};
 ghost use Rattle.wc_gc.specs.Entries.{refs_in};
 ghost use Rattle.wc_gc.specs.InRange.{is_item_in_range};
-ghost use Rattle.wc_gc.specs.KeptExports.{AreNamed, export_entries};
+ghost use Rattle.wc_gc.specs.Exports.{AreNamed, export_entries};
 ghost use Rattle.wc_gc.specs.LiveChains.{item_named, items_named};
-ghost use Rattle.wc_gc.specs.Liveness.{IsReachFault, names_of};
+ghost use Rattle.wc_gc.specs.LiveItems.{IsReachFault, names_of};
 ghost use Rattle.wc_gc.specs.Reached.{IsReachedFrom};
-ghost use Rattle.wc_gc.specs.Private.Explained.{HasFound};
+ghost use Rattle.wc_gc.specs.Private.TrimPlace.{HasFound};
 ghost use Rattle.wc_gc.specs.Private.Finders.{AreFound};
 ghost use Rattle.wc_gc.specs.Private.Roots.{AreNamedRoots, FindsRoot};
-ghost use Rattle.wc_gc.specs.Private.Searches.{IsConsistent};
+ghost use Rattle.wc_gc.specs.Private.Search.{IsConsistent};
 
 use crate::fault::GcFault;
 use crate::live::BitVec;

@@ -3,8 +3,8 @@
 ghost use Rattle.std.specs.Prelude.{◌≡◌, ◌&&◌, ◌<◌, ◌^◌, length, filter, IfOk};
 ghost use Rattle.std.specs.List.{range_with_len};
 ghost use Rattle.wc_gc.specs.Decoded.{decoded_module};
-ghost use Rattle.wc_gc.specs.Found.{allocation_state, found_in, found_value, has_name, is_empty_type, is_empty_type_at, is_mutable_i32, is_mutable_i32_at, is_named_at, is_realloc, is_realloc_at, is_realloc_name};
-ghost use Rattle.wc_gc.specs.LiveSets.{has_item};
+ghost use Rattle.wc_gc.specs.Found.{allocation_state, found_in, found_view, has_name, is_empty_type, is_empty_type_at, is_mutable_i32, is_mutable_i32_at, is_named_at, is_realloc, is_realloc_at, is_realloc_name};
+ghost use Rattle.wc_gc.specs.Live.{has_item};
 ghost use Rattle.wc_gc.specs.Private.ItemCounts.{ItemCountsFitU32};
 ghost use Rattle.wc_read.specs.Items.{def_value};
 ghost use Rattle.wc_read.specs.Types.{func_type_value};
@@ -41,24 +41,26 @@ pub struct Found {
     pub empties: Vec<u32>,
 }
 
-/// The live items that trimming goes by.
-pub fn find_parts<L: LiveSet>(
-    alloc: Global,
-    adapter: &Module<'_>,
-    live: &LiveSets<L>,
-) -> Result<Found, AllocError>
-    requires { ItemCountsFitU32 adapter.now }
-    ensures { IfOk result (λ f. found_value f
-        ≡ found_in (decoded_module adapter.now) (has_item L.has live.now)) }
-{
-    Ok(Found {
-        stacks: live_named(alloc, adapter, &live.globals, STACK_POINTER)?,
-        states: live_named(alloc, adapter, &live.globals, ALLOCATION_STATE)?,
-        reallocs: live_reallocs(alloc, adapter, &live.funcs)?,
-        tables: live_indices(alloc, &live.tables, adapter.tables.len())?,
-        memories: live_indices(alloc, &live.memories, adapter.memories.len())?,
-        empties: live_empties(alloc, adapter, &live.types)?,
-    })
+impl Found {
+    /// The live items that trimming goes by.
+    pub fn of<L: LiveSet>(
+        alloc: Global,
+        adapter: &Module<'_>,
+        live: &LiveSets<L>,
+    ) -> Result<Found, AllocError>
+        requires { ItemCountsFitU32 adapter.now }
+        ensures { IfOk result (λ f. found_view f
+            ≡ found_in (decoded_module adapter.now) (has_item L.has live.now)) }
+    {
+        Ok(Found {
+            stacks: live_named(alloc, adapter, &live.globals, STACK_POINTER)?,
+            states: live_named(alloc, adapter, &live.globals, ALLOCATION_STATE)?,
+            reallocs: live_reallocs(alloc, adapter, &live.funcs)?,
+            tables: live_indices(alloc, &live.tables, adapter.tables.len())?,
+            memories: live_indices(alloc, &live.memories, adapter.memories.len())?,
+            empties: live_empties(alloc, adapter, &live.types)?,
+        })
+    }
 }
 
 /// The numbers of a set that are below a bound, in their order.

@@ -5,9 +5,9 @@ ghost use Rattle.std.specs.List.{list_any};
 ghost use Rattle.wc_read.specs.Exports.{export_value};
 ghost use Rattle.wc_gc.specs.Bits.{bit_of};
 ghost use Rattle.wc_gc.specs.Decoded.{func_code};
-ghost use Rattle.wc_gc.specs.Edited.{is_exported_func, is_func};
+ghost use Rattle.wc_gc.specs.Edit.{is_exported_func, is_func};
 ghost use Rattle.wc_gc.specs.Private.FuncGroups.{AreGroups, has_func, is_import_after, is_in_group};
-ghost use Rattle.wc_gc.specs.Parts.{settings_value};
+ghost use Rattle.wc_gc.specs.Parts.{settings_view};
 
 use crate::found::imports_realloc;
 use crate::live::{BitVec, LiveSet, insert_if};
@@ -36,7 +36,7 @@ impl<L: LiveSet> FuncGroups<L> {
         settings: Settings<'_>,
     ) -> Result<FuncGroups<L>, AllocError>
         requires { length funcs.now < 2 ^ 32 }
-        ensures { IfOk result (AreGroups L.has (settings_value settings.entry)
+        ensures { IfOk result (AreGroups L.has (settings_view settings.entry)
             funcs.now (L.has live.now) (map export_value exports.now)) }
     {
         let live = live.numbers_below(alloc, funcs.len() as u32)?;
@@ -57,7 +57,7 @@ fn group<L: LiveSet>(
     imported: bool,
 ) -> Result<L, AllocError>
     ensures { IfOk result (λ r. (n : ℕ) → L.has r n ≡ (list_any (nat_eq n) indices.now
-        && has_func (is_in_group (settings_value settings.entry) imported) funcs.now n)) }
+        && has_func (is_in_group (settings_view settings.entry) imported) funcs.now n)) }
 {
     let mut set = L::new(alloc);
     for index in indices {
@@ -70,7 +70,7 @@ fn group<L: LiveSet>(
 /// Whether the function of an index is imported after the edit, or whether it is not.
 fn has_func_in_group(funcs: &[Func<'_>], index: u32, settings: Settings<'_>, imported: bool) -> bool
     ensures { result
-        ≡ has_func (is_in_group (settings_value settings.entry) imported) funcs.now index }
+        ≡ has_func (is_in_group (settings_view settings.entry) imported) funcs.now index }
 {
     match funcs.get(index as usize) {
         Some(func) => is_in_group(func, settings, imported),
@@ -99,7 +99,7 @@ fn is_func(kind: ExportKind) -> bool
 /// Whether a function is imported after the edit, or whether it is not.
 fn is_in_group(func: &Func<'_>, settings: Settings<'_>, imported: bool) -> bool
     ensures { result
-        ≡ is_in_group (settings_value settings.entry) imported (func_code func.now) }
+        ≡ is_in_group (settings_view settings.entry) imported (func_code func.now) }
 {
     if imported {
         stays_imported(func, settings)
@@ -110,7 +110,7 @@ fn is_in_group(func: &Func<'_>, settings: Settings<'_>, imported: bool) -> bool
 
 /// Whether a function is imported after the edit.
 fn stays_imported(func: &Func<'_>, settings: Settings<'_>) -> bool
-    ensures { result ≡ is_import_after (settings_value settings.entry) (func_code func.now) }
+    ensures { result ≡ is_import_after (settings_view settings.entry) (func_code func.now) }
 {
     match func.def {
         Def::Import(_, _) => settings.realloc.is_some() || !imports_realloc(func.def),

@@ -3,8 +3,8 @@
 ghost use Rattle.std.specs.Prelude.{◌≡◌, ◌<◌, length, slice_set, IfOk, IfSome, Some};
 ghost use Rattle.std.specs.Option.{option_map_or};
 ghost use Rattle.wc_read.specs.Imports.{import_values};
-ghost use Rattle.wc_gc.specs.Restriction.{is_in_space, positions_from};
-ghost use Rattle.wc_gc.specs.Private.ImportSpaces.{AreBySpace, ArePositionsIn, import_at};
+ghost use Rattle.wc_gc.specs.RestrictionLaws.{is_in_space, positions_from};
+ghost use Rattle.wc_gc.specs.Private.ImportPositions.{AreBySpace, ArePositionsIn, import_at};
 
 use std::alloc::{AllocError, Global};
 use wc_read::{Import, ImportType, Space};

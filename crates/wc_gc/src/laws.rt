@@ -4,7 +4,7 @@ ghost use Rattle.wc_gc.specs.Laws.{BodiesStaySpellable, InitialisersStaySpellabl
 ghost use Rattle.std.specs.Prelude.{Bool};
 ghost use Rattle.wc_gc.specs.Decoded.{ItemIndex};
 ghost use Rattle.wc_gc.specs.Image.{rank};
-ghost use Rattle.wc_gc.specs.Edited.{EditedModule};
+ghost use Rattle.wc_gc.specs.Edit.{EditedModule};
 ghost use Rattle.wc_gc.specs.Unfolding.{ImageUnfolds, RenumberedUnfolds, TrimmedIsClosed, TrimmedUnfolds};
 ghost use Rattle.wc_gc.specs.RankLaws.{RanksDiffer, RanksKeepOrder};
 

@@ -6,7 +6,7 @@ ghost use Rattle.std.specs.List.{range_with_len};
 ghost use Rattle.wc_gc.specs.Decoded.{ItemIndex};
 ghost use Rattle.wc_gc.specs.Bits.{bit_of};
 ghost use Rattle.wc_gc.specs.Counts.{count_below};
-ghost use Rattle.wc_gc.specs.LiveSets.{Inserts, has_item};
+ghost use Rattle.wc_gc.specs.Live.{Inserts, has_item};
 ghost use Rattle.wc_gc.specs.Ranks.{has_number, rank_of};
 
 use crate::range_set::RangeSet;

@@ -3,9 +3,9 @@
 ghost use Rattle.std.specs.Prelude.{◌≡◌, Contains, IsOk, IfOk, IfErr, IfSome, IfNone, Some};
 ghost use Rattle.std.specs.List.{slice_get};
 ghost use Rattle.wc_read.specs.Modules.{IsModule, module_value};
-ghost use Rattle.wc_gc.specs.Liveness.{HasLiveBody, IsFault, IsFaultOf, IsLivenessCause, IsSupported, names_of, trim_input};
+ghost use Rattle.wc_gc.specs.LiveItems.{HasLiveBody, IsFault, IsFaultOf, IsLivenessCause, IsSupported, names_of, trim_input};
 ghost use Rattle.wc_gc.specs.LiveChains.{AreImportChains, AreWhyImports, ChainsUnique, IsWhy, KeptIsLive, items_named};
-ghost use Rattle.wc_gc.specs.Private.Explained.{HasFound};
+ghost use Rattle.wc_gc.specs.Private.TrimPlace.{HasFound};
 ghost use Rattle.wc_gc.specs.Private.Roots.{AreNamedRoots};
 
 use crate::exports::{check_named, exports_by_name};

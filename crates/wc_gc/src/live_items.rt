@@ -4,9 +4,9 @@ ghost use Rattle.std.specs.Prelude.{◌≡◌, map, IsTrue, IsOk, IfOk, IfErr, �
 ghost use Rattle.wc_read.specs.Exports.{export_value};
 ghost use Rattle.wc_read.specs.Modules.{IsModule, module_value};
 ghost use Rattle.wc_gc.specs.Decoded.{exported_item};
-ghost use Rattle.wc_gc.specs.KeptExports.{kept_exports};
-ghost use Rattle.wc_gc.specs.LiveSets.{has_item};
-ghost use Rattle.wc_gc.specs.Liveness.{HasUnsupported, IsLivenessCause, IsFault, IsFaultOf, IsLiveness, IsLivenessOf, IsSupported, names_of, trim_input};
+ghost use Rattle.wc_gc.specs.Exports.{kept_exports};
+ghost use Rattle.wc_gc.specs.Live.{has_item};
+ghost use Rattle.wc_gc.specs.LiveItems.{HasUnsupported, IsLivenessCause, IsFault, IsFaultOf, IsLiveness, IsLivenessOf, IsSupported, names_of, trim_input};
 
 use crate::exports::required_exports;
 use crate::fault::GcFault;

@@ -4,7 +4,7 @@
 ghost use Rattle.std.specs.Prelude.{ℕ, ◌≤◌, Option, IfSome};
 ghost use Rattle.wc_write.specs.Values.{IsU32};
 ghost use Rattle.wc_gc.specs.AddedCode.{growing_body, stack_body};
-ghost use Rattle.wc_gc.specs.AddedCodeRuns.{IsGrowingRealloc, IsSpellable, IsStackCode};
+ghost use Rattle.wc_gc.specs.MachineLaws.{IsGrowingRealloc, IsSpellable, IsStackCode};
 
 /// The bodies of `realloc_via_memory_grow` and `allocate_stack_via_realloc` can be spelled, as
 /// `wc_write::laws::body_text_read` asks. So the bytes that these answer spell them, and no other bodies.

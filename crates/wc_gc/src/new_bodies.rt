@@ -1,7 +1,7 @@
 //! Bodies of functions that are to be written.
 
 ghost use Rattle.std.specs.Prelude.{◌≡◌, ◌≤◌, is_some, true};
-ghost use Rattle.wc_read.specs.Decoding.{body_in};
+ghost use Rattle.wc_read.specs.BodyOperators.{body_in};
 
 use crate::added_code::{append_growing_body, append_stack_body};
 use crate::new_indices::NewIndices;

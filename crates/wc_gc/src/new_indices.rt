@@ -5,7 +5,7 @@ ghost use Rattle.wc_read.specs.Operators.{immediates_value, instr_value};
 ghost use Rattle.wc_read.specs.Renumbering.{renumber_block, renumber_func_type, renumber_global_type, renumber_immediates, renumber_index, renumber_instr, renumber_mem_arg, renumber_table_type, renumber_val_type};
 ghost use Rattle.wc_read.specs.Types.{func_type_value};
 ghost use Rattle.wc_gc.specs.Image.{renumber_locals};
-ghost use Rattle.wc_gc.specs.LiveSets.{has_item};
+ghost use Rattle.wc_gc.specs.Live.{has_item};
 ghost use Rattle.wc_read.specs.declared.operators.Space.TheVariants.{Funcs, Types};
 ghost use Rattle.wc_gc.specs.Counts.{AreDisjoint};
 ghost use Rattle.wc_gc.specs.Ranks.{has_number, rank_of};

@@ -1,9 +1,9 @@
 //! Which parts are added to an adapter.
 
 ghost use Rattle.std.specs.Prelude.{◌≡◌};
-ghost use Rattle.wc_gc.specs.Edited.{growing_position, lazy_position, start_position};
-ghost use Rattle.wc_gc.specs.Found.{found_value};
-ghost use Rattle.wc_gc.specs.Parts.{is_lazy, parts_of, settings_value};
+ghost use Rattle.wc_gc.specs.Edit.{growing_position, lazy_position, start_position};
+ghost use Rattle.wc_gc.specs.Found.{found_view};
+ghost use Rattle.wc_gc.specs.Parts.{is_lazy, parts_of, settings_view};
 
 use crate::found::Found;
 use crate::settings::Settings;
@@ -24,7 +24,7 @@ pub struct Parts {
 impl Parts {
     /// The parts for what is found among live items.
     pub fn of(settings: Settings<'_>, found: &Found) -> Parts
-        ensures { result ≡ parts_of (settings_value settings.entry) (found_value found.now) }
+        ensures { result ≡ parts_of (settings_view settings.entry) (found_view found.now) }
     {
         let lazy = is_lazy(settings, found);
         let start = !found.stacks.is_empty() && !found.memories.is_empty() && !lazy;
@@ -67,7 +67,7 @@ impl Parts {
 /// Whether the first call of an export allocates a stack: there is a global for its state, and the main module has a
 /// realloc.
 pub fn is_lazy(settings: Settings<'_>, found: &Found) -> bool
-    ensures { result ≡ is_lazy (settings_value settings.entry) (found_value found.now) }
+    ensures { result ≡ is_lazy (settings_view settings.entry) (found_view found.now) }
 {
     !found.stacks.is_empty() && !found.states.is_empty() && settings.realloc.is_some()
 }

@@ -3,7 +3,7 @@
 ghost use Rattle.std.specs.Prelude.{◌≡◌, ◌≤◌, ◌<◌, ◌+◌, ◌-◌, ◌*◌, ◌/◌, ◌^◌, ℕ, All, false, true, length, slice_index, slice_index_or, IsSome, IsTrue, IfOk, IfSome, OnOk};
 ghost use Rattle.wc_gc.specs.Ranges.{AreRanges, in_ranges};
 ghost use Rattle.wc_gc.specs.Counts.{count_below};
-ghost use Rattle.wc_gc.specs.Private.Positions.{AreStarts, IsCut};
+ghost use Rattle.wc_gc.specs.Private.RangeSet.{AreStarts, IsCut};
 
 use crate::range_set::{has_at, range_from};
 use std::alloc::{AllocError, Global};
@@ -95,7 +95,7 @@ impl Ranks {
         ensures most { (digits : ℕ) → length self.now.ranges.items < 2 ^ digits
             → result.1 ≤ NEAR + 1 + digits }
     {
-        let (index, probes) = self.place(self.start(x), x);
+        let (index, probes) = self.position(self.start(x), x);
         match self.rank_at(index, x) {
             Some(rank) => (rank, probes + 1),
             None => {
@@ -108,7 +108,7 @@ impl Ranks {
     /// From the start of its block on the index of the first range that does not end before a number, if it is one of the
     /// next, and with how many ranges the number was compared.
     #[inline(always)]
-    fn place(&self, start: usize, x: u32) -> (usize, u32)
+    fn position(&self, start: usize, x: u32) -> (usize, u32)
         requires { IsCut (x / self.now.block * self.now.block) self.now.ranges.items start }
         ensures near { (i : ℕ) → IsCut x self.now.ranges.items i → i < start + NEAR
             → (result.0 ≡ i) × (result.1 ≡ i - start + 1) }

@@ -1,6 +1,6 @@
 //! A law of what a trimmed adapter imports and exports, beside the adapter itself.
 
-ghost use Rattle.wc_gc.specs.Restriction.{TrimmedIsRestriction};
+ghost use Rattle.wc_gc.specs.RestrictionLaws.{TrimmedIsRestriction};
 
 /// Of the module that the bytes of a trimmed adapter spell, each import is an import of the adapter, of the same module,
 /// name and type, or else a function that the main module exports as its realloc. No two are the same import of the

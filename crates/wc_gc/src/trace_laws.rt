@@ -1,7 +1,7 @@
 //! Laws of what leaves no trace in a trimmed adapter, over the definitions of trimming: what its required exports do
 //! not reach, and an earlier trimming.
 
-ghost use Rattle.wc_gc.specs.Traces.{CausesAreOfCut, CutIsReached, ImageIsOfCut, NoTrace, TrimTwice};
+ghost use Rattle.wc_gc.specs.TraceLaws.{CausesAreOfCut, CutIsReached, ImageIsOfCut, NoTrace, TrimTwice};
 
 /// An adapter and its cut, edited in the same way, have one image: a cut has the kept exports and the items that they
 /// reach, each index replaced by the number of reached items of its space before it.

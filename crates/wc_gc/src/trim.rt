@@ -4,25 +4,25 @@ ghost use Rattle.std.specs.Prelude.{◌≡◌, ◌≢◌, ◌≤◌, ◌⊎◌, 
 ghost use Rattle.wc_read.specs.Exports.{export_value};
 ghost use Rattle.wc_read.specs.Modules.{IsModule, SpellsModule, module_value};
 ghost use Rattle.wc_read.specs.declared.operators.Space.TheVariants.{Funcs};
-ghost use Rattle.wc_write.specs.ModuleText.{built_text};
+ghost use Rattle.wc_write.specs.Modules.{built_text};
 ghost use Rattle.wc_write.specs.Values.{AreBytes};
 ghost use Rattle.wc_gc.specs.Decoded.{decoded_module};
 ghost use Rattle.wc_gc.specs.Private.ItemCounts.{ItemCountsFitU32};
-ghost use Rattle.wc_gc.specs.Edited.{edit};
+ghost use Rattle.wc_gc.specs.Edit.{edit};
 ghost use Rattle.wc_gc.specs.EditedImage.{edited_image};
 ghost use Rattle.wc_gc.specs.Laws.{AreSettings};
-ghost use Rattle.wc_gc.specs.Liveness.{trim_input};
-ghost use Rattle.wc_gc.specs.LiveSets.{has_item};
-ghost use Rattle.wc_gc.specs.Parts.{settings, settings_value};
+ghost use Rattle.wc_gc.specs.LiveItems.{trim_input};
+ghost use Rattle.wc_gc.specs.Live.{has_item};
+ghost use Rattle.wc_gc.specs.Parts.{settings, settings_view};
 ghost use Rattle.wc_gc.specs.InRange.{is_item_in_range};
 ghost use Rattle.wc_gc.specs.TrimmedText.{IsTrimmed};
-ghost use Rattle.wc_gc.specs.Trimming.{IsLaterCause, IsLaterFault, IsTrimFault};
+ghost use Rattle.wc_gc.specs.Trim.{IsLaterCause, IsLaterFault, IsTrimFault};
 
-use crate::causes::check_parts;
+use crate::causes::check_found;
 use crate::edit::EditSource;
-use crate::edited_text::edited_text;
+use crate::edited_image::edited_text;
 use crate::fault::GcFault;
-use crate::found::find_parts;
+use crate::found::Found;
 use crate::live::{LiveSet, LiveSets};
 use crate::live_items::find_live_in;
 use crate::range_set::RangeSet;
@@ -105,10 +105,10 @@ fn trim<L: LiveSet>(
     required: &Set<String>,
     settings: Settings<'_>,
 ) -> Result<Vec<u8>, GcFault>
-    ensures trimmed { IfOk result (λ v. IsTrimmed (settings_value settings.entry)
+    ensures trimmed { IfOk result (λ v. IsTrimmed (settings_view settings.entry)
         (trim_input wasm.now required.now.keys) v.items) }
     ensures fault { IfErr result
-        (IsTrimFault (settings_value settings.entry) (trim_input wasm.now required.now.keys)) }
+        (IsTrimFault (settings_view settings.entry) (trim_input wasm.now required.now.keys)) }
 {
     // So a vector has fewer than 2^32 items.
     slices_are_bytes(wasm);
@@ -127,10 +127,10 @@ fn trim_module<L: LiveSet>(
     requires bounded { ItemCountsFitU32 adapter.now }
     ensures trimmed { IfOk result (λ v. (bytes : List ℕ) → AreBytes bytes
         → SpellsModule bytes (module_value adapter.now) → IsTrimmed
-        (settings_value settings.entry) (trim_input bytes required.now.keys) v.items) }
+        (settings_view settings.entry) (trim_input bytes required.now.keys) v.items) }
     ensures fault { IfErr result (λ f. (bytes : List ℕ)
         → SpellsModule bytes (module_value adapter.now) → IsTrimFault
-        (settings_value settings.entry) (trim_input bytes required.now.keys) f) }
+        (settings_view settings.entry) (trim_input bytes required.now.keys) f) }
 {
     settings_are_valid(settings);
     let (exports, found) = find_live_in::<L>(alloc, adapter, required)?;
@@ -151,20 +151,20 @@ fn image_text<L: LiveSet>(
         → is_item_in_range (decoded_module adapter.now) (Funcs, n) ≡ true }
     ensures written { IfOk result (λ v. v.items
         ≡ built_text (edited_image (edit
-        (settings_value settings.entry) (decoded_module adapter.now)
+        (settings_view settings.entry) (decoded_module adapter.now)
         (map export_value exports.now)
         (has_item L.has live.now)))) }
     ensures none { IsOk result → (f : GcFault) →
-        ¬ (IsLaterCause (settings_value settings.entry) (decoded_module adapter.now)
+        ¬ (IsLaterCause (settings_view settings.entry) (decoded_module adapter.now)
         (map export_value exports.now)
         (has_item L.has live.now) f) }
     ensures fault { IfErr result (λ f. (f ≡ GcFault.Memory)
-        ⊎ IsLaterFault (settings_value settings.entry) (decoded_module adapter.now)
+        ⊎ IsLaterFault (settings_view settings.entry) (decoded_module adapter.now)
         (map export_value exports.now)
         (has_item L.has live.now) f) }
 {
-    let found = find_parts(alloc, adapter, live)?;
-    check_parts(adapter, settings, &found)?;
+    let found = Found::of(alloc, adapter, live)?;
+    check_found(adapter, settings, &found)?;
     let source = EditSource {
         adapter,
         exports,
@@ -175,5 +175,5 @@ fn image_text<L: LiveSet>(
 
 /// A realloc's name is text, and pages have 2^16 bytes at most. A call does nothing when it runs.
 fn settings_are_valid(settings: Settings<'_>)
-    ensures { AreSettings (settings_value settings.entry) }
+    ensures { AreSettings (settings_view settings.entry) }
 {}

@@ -3,11 +3,11 @@
 ghost use Rattle.std.specs.Prelude.{◌≡◌, ◌↔◌, map, slice_get, IfOk, IfSome, IsSome, None, Some};
 ghost use Rattle.wc_read.specs.Exports.{export_value};
 ghost use Rattle.wc_read.specs.Modules.{IsModule, module_value};
-ghost use Rattle.wc_gc.specs.KeptExports.{kept_exports, missing_name};
-ghost use Rattle.wc_gc.specs.Liveness.{TrimInput, names_of, trim_input};
-ghost use Rattle.wc_gc.specs.Parts.{SettingsValue};
-ghost use Rattle.wc_gc.specs.Trimming.{IsTrimFault};
-ghost use Rattle.wc_gc.specs.TrimPlaces.{IsExplained, IsExplainedIn, IsPlace, unsupported_ids};
+ghost use Rattle.wc_gc.specs.Exports.{kept_exports, missing_name};
+ghost use Rattle.wc_gc.specs.LiveItems.{TrimInput, names_of, trim_input};
+ghost use Rattle.wc_gc.specs.Parts.{SettingsView};
+ghost use Rattle.wc_gc.specs.Trim.{IsTrimFault};
+ghost use Rattle.wc_gc.specs.TrimPlace.{IsExplained, IsExplainedIn, IsPlace, unsupported_ids};
 
 mod bodies;
 
@@ -43,7 +43,7 @@ pub enum TrimPlace {
 }
 
 impl fmt::Display for TrimPlace {
-    ghost use Rattle.wc_gc.specs.TrimPlaces.{place_text};
+    ghost use Rattle.wc_gc.specs.TrimPlace.{place_text};
 
     ghost output = { λ place. Some (place_text place) };
 
@@ -193,6 +193,6 @@ fn first_unsupported(adapter: &Module<'_>) -> Option<u8>
 /// Where an adapter has a place for a fault, `run` refuses it with this fault: the fault's cause is there, and the cause
 /// of none that is named before it.
 pub fn places_are_of_faults()
-    ensures { (s : SettingsValue) (w : TrimInput) (f : GcFault) (p : TrimPlace) →
+    ensures { (s : SettingsView) (w : TrimInput) (f : GcFault) (p : TrimPlace) →
         IsPlace w f p → IsTrimFault s w f }
 {}

@@ -1,7 +1,7 @@
 //! Laws of what trimming keeps, and of what it leaves as it was, over its definitions.
 
 ghost use Rattle.wc_gc.specs.Chains.{KeptExportsAreRequired, KeptItemsHaveChains};
-ghost use Rattle.wc_gc.specs.Untouched.{CallsKeepCode, EditsNothing, LiveUnfold, UneditedUnfold, UntouchedUnfold};
+ghost use Rattle.wc_gc.specs.UntouchedLaws.{CallsKeepCode, EditsNothing, LiveUnfold, UneditedUnfold, UntouchedUnfold};
 
 /// The exports that are kept are those whose names are required; and an item is kept exactly where a chain leads to it
 /// from the item of such an export: a list of items each of which the one before names.

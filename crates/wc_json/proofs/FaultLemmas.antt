@@ -1,6 +1,6 @@
 -- Faults that are passed on.
 use Rattle.std.proofs.Common.{◌≡◌, Ok, Err}
-use Rattle.wc_json.specs.Faults.{IsFault, IsFaultOf, Reading, fault_here, refusal, ◌>>=◌}
+use Rattle.wc_json.specs.Fault.{IsFault, IsFaultOf, Reading, fault_here, refusal, ◌>>=◌}
 use Rattle.wc_json.specs.declared.fault.Problem.{Problem}
 use Rattle.wc_json.specs.declared.fault.JsonFault.{JsonFault}
 use Rattle.wc_json.specs.declared.fault.JsonFault.TheVariants.{Memory, NotJson, RepeatedMember, Wrong}

@@ -6,7 +6,7 @@ use Rattle.std.specs.Str.Parse.{AllDigits, IsNumeral, ParsesUnsigned, digits_val
 use Rattle.std.proofs.lemmas.Bool.{ltb-true, lt-ltb, and_parts}
 use Rattle.json.specs.Json.{Json, null, boolean, number, string, array, object}
 use Rattle.json.specs.Find.{as_number}
-use Rattle.wc_json.specs.Faults.{Reading, refusal}
+use Rattle.wc_json.specs.Fault.{Reading, refusal}
 use Rattle.wc_json.specs.Ids.{all_digits, index, index_of_digits, is_numeral}
 use Rattle.wc_json.specs.declared.fault.Problem.TheVariants.{NotAnIndex}
 

@@ -9,7 +9,7 @@ use Rattle.std.proofs.Math.Seq.{take-append_seam}
 use Rattle.std.proofs.lemmas.Bool.{cond-true, lt-ltb}
 use Rattle.std.proofs.lemmas.List.{take-append-drop}
 use Rattle.std.proofs.lemmas.Slice.Eq.{bytes_eq-Decides}
-use Rattle.wc_json.specs.Faults.{refusal}
+use Rattle.wc_json.specs.Fault.{refusal}
 use Rattle.wc_json.specs.Ids.{index_of_digits}
 use Rattle.wc_json.specs.Keys.{canonical_index, index_written_as, rest_after}
 use Rattle.wc_json.specs.declared.fault.Problem.TheVariants.{NotAnIndex}

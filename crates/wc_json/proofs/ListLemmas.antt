@@ -5,7 +5,7 @@ use Rattle.json.specs.Json.{Json, array}
 use Rattle.json.specs.Value.{value_view, items_view}
 use Rattle.json.proofs.Trees.{view-Array}
 use Rattle.json.specs.declared.value.Value.{Value, Array}
-use Rattle.wc_json.specs.Faults.{IsFaultOf, Reading, ◌>>=◌}
+use Rattle.wc_json.specs.Fault.{IsFaultOf, Reading, ◌>>=◌}
 use Rattle.wc_json.specs.FromJson.{HasItems, items_from, list}
 use Rattle.wc_json.specs.Paths.{at_step, index_step}
 use Rattle.wc_json.specs.declared.fault.JsonFault.{JsonFault}
@@ -15,10 +15,6 @@ use Rattle.wc_json.proofs.FaultLemmas.{IsFaultOf_bind}
 -- what is read, after the items before it
 abbrev pub after : {A : Type 0} → List A → Reading (List A) → Reading (List A)
 after before reading = reading >>= (λ rest. Ok (before ++ rest))
-
-pub after-nil : {A : Type 0} (reading : Reading (List A)) → after [] reading ≡ reading
-after-nil (Ok xs) = refl
-after-nil (Err f) = refl
 
 -- an item more before
 after-push : {A : Type 0} (before : List A) (a : A) (reading : Reading (List A))

@@ -6,7 +6,7 @@ use Rattle.json.specs.Json.{Json}
 use Rattle.json.specs.Value.{value_view, members_view}
 use Rattle.json.specs.declared.value.Value.{Value, Object}
 use Rattle.json.proofs.Trees.{view-Object}
-use Rattle.wc_json.specs.Faults.{IsFaultOf, Reading}
+use Rattle.wc_json.specs.Fault.{IsFaultOf, Reading}
 use Rattle.wc_json.specs.Maps.{entries, entries_after}
 use Rattle.wc_json.specs.Paths.{at_step, key_step}
 use Rattle.wc_json.specs.declared.fault.JsonFault.{JsonFault}

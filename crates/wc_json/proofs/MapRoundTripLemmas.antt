@@ -9,7 +9,7 @@ use Rattle.std.proofs.lemmas.Map.Made.{IsDistinct-from_AllPairs}
 use Rattle.std.proofs.lemmas.Slice.Eq.{bytes_eq-Decides}
 use Rattle.indexmap.specs.IndexMap.{insert_entry}
 use Rattle.json.specs.Json.{Json}
-use Rattle.wc_json.specs.Faults.{Reading}
+use Rattle.wc_json.specs.Fault.{Reading}
 use Rattle.wc_json.specs.Fits.{FunctionEntryFits, HasDistinctKeys, IdEntryFits, InterfaceFits}
 use Rattle.wc_json.specs.Functions.{function}
 use Rattle.wc_json.specs.Ids.{index}

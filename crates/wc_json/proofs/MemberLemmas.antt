@@ -4,7 +4,7 @@ use Rattle.std.specs.Borrow.{Bor}
 use Rattle.json.specs.Value.{value_view, members_view}
 use Rattle.json.specs.declared.value.Value.{Value, Object}
 use Rattle.json.proofs.Trees.{view-Object}
-use Rattle.wc_json.specs.Faults.{refusal}
+use Rattle.wc_json.specs.Fault.{refusal}
 use Rattle.wc_json.specs.Members.{name_and_value, only_member}
 use Rattle.wc_json.specs.declared.fault.Problem.TheVariants.{NotOneMember}
 

@@ -1,6 +1,6 @@
 -- Memory that runs out only while the path of a fault is made.
-use Rattle.std.proofs.Common.{◌≡◌, ◌≢◌, ℕ, List, [], ◌∷◌, ◌++◌, Bool, true, false, cond, if◌then◌else◌, Result, Ok, Err, IfErr, IsErr, refl, sym, subst}
-use Rattle.wc_json.specs.Faults.{IsFaultBelow, NeedsMemoryForPaths, NeedsNoMemory, Reading, Reads, ◌>>=◌}
+use Rattle.std.proofs.Common.{◌≡◌, ◌≢◌, ℕ, List, [], ◌∷◌, ◌++◌, Bool, true, false, cond, if◌then◌else◌, Result, Ok, Err, refl, sym, subst}
+use Rattle.wc_json.specs.Fault.{IsFaultBelow, NeedsMemoryForPaths, NeedsNoMemory, Reading, Reads, ◌>>=◌}
 use Rattle.wc_json.specs.Paths.{IsReadAt, at_step, is_word, join, key_step, variant_step}
 use Rattle.wc_json.specs.declared.fault.JsonFault.{JsonFault}
 use Rattle.wc_json.specs.declared.fault.JsonFault.TheVariants.{Memory, NotJson, RepeatedMember, Wrong}
@@ -44,17 +44,6 @@ read_at view step (Err Memory) (Err f) (Ok b) some e h no_memory = absurd (no_me
 read_at view step (Err NotJson) (Err f) (Ok b) some e h no_memory = absurd h
 read_at view step (Err RepeatedMember) (Err f) (Ok b) some e h no_memory = absurd h
 read_at view step (Err (Wrong p a)) (Err f) (Ok b) some e h no_memory = absurd h
-
--- and only where what is read there is wrong
-pub read_at_wrong : {A B : Type 0} (view : A → B) (step : List ℕ) (read result : Result A JsonFault) (reading : Reading B) → IsReadAt step read result
-    → Reads view read reading → NeedsNoMemory read → IfErr result (λ f. f ≡ Memory → IsErr (at_step step reading))
-read_at_wrong view step read (Ok y) reading e h no_memory = tt
-read_at_wrong view step (Ok x) (Err f) reading e h no_memory = absurd e
-read_at_wrong view step (Err g) (Err f) (Err fault) e h no_memory = λ _. refl
-read_at_wrong view step (Err Memory) (Err f) (Ok b) e h no_memory = absurd (no_memory refl)
-read_at_wrong view step (Err NotJson) (Err f) (Ok b) e h no_memory = absurd h
-read_at_wrong view step (Err RepeatedMember) (Err f) (Ok b) e h no_memory = absurd h
-read_at_wrong view step (Err (Wrong p a)) (Err f) (Ok b) e h no_memory = absurd h
 
 pub read_at_variant : {A B : Type 0} (view : A → B) (name : List ℕ) (read result : Result A JsonFault) (whole reading : Reading B)
     → whole ≡ at_step (variant_step name) reading → IsReadAt (variant_step name) read result → Reads view read reading → NeedsNoMemory read

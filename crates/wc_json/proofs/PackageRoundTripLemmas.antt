@@ -9,7 +9,7 @@ use Rattle.semver.specs.Identifiers.{parts_text}
 use Rattle.semver.specs.Parse.{Parts}
 use Rattle.semver.proofs.Grammar.{version_parts-complete}
 use Rattle.wc_resolve.specs.Views.{PackageNameView, PackageView}
-use Rattle.wc_json.specs.Faults.{◌>>=◌}
+use Rattle.wc_json.specs.Fault.{◌>>=◌}
 use Rattle.wc_json.specs.Fits.{PackageFits, PackageNameFits}
 use Rattle.wc_json.specs.Packages.{name_from_parts, name_in_namespace, package_and_worlds, package_name, parts_or_refusal, split_once}
 use Rattle.wc_json.specs.ToJson.{package_json, package_name_text, version_suffix}

@@ -1,6 +1,6 @@
 -- Faults with a step before their paths.
 use Rattle.std.proofs.Common.{ℕ, List, Result, Ok, Err, sym, ap, ◌∙◌}
-use Rattle.wc_json.specs.Faults.{IsFaultOf, Reading, Reads}
+use Rattle.wc_json.specs.Fault.{IsFaultOf, Reading, Reads}
 use Rattle.wc_json.specs.Paths.{IsFaultAt, IsReadAt, at_step, join}
 use Rattle.wc_json.specs.declared.fault.JsonFault.{JsonFault}
 use Rattle.wc_json.specs.declared.fault.JsonFault.TheVariants.{Memory, NotJson, RepeatedMember, Wrong}

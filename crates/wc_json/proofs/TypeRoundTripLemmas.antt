@@ -16,7 +16,7 @@ use Rattle.wc_resolve.specs.declared.types.TypeOwner.{TypeOwner}
 use Rattle.wc_resolve.specs.declared.types.TypeOwner.TheVariants.{World, Interface, None as no_owner}
 use Rattle.wc_resolve.specs.declared.types.WitType.{WitType}
 use Rattle.wc_resolve.specs.declared.types.WitType.TheVariants.{Bool, U8, U16, U32, U64, S8, S16, S32, S64, F32, F64, Char, String, ErrorContext, Id}
-use Rattle.wc_json.specs.Faults.{Reading, ◌>>=◌}
+use Rattle.wc_json.specs.Fault.{Reading, ◌>>=◌}
 use Rattle.wc_json.specs.Fits.{CaseFits, DefinedTypeFits, FunctionFits, FunctionKindFits, HandleFits, KindFits, NamedTypeFits, OwnerFits, TypeFits}
 use Rattle.wc_json.specs.FromJson.{items_from, nullable, some, text}
 use Rattle.wc_json.specs.Functions.{function, function_kind, kind_of_resource, kind_with_resource}

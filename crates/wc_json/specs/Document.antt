@@ -2,10 +2,10 @@
 use Rattle.std.specs.Prelude.{ℕ, List, map, Option, Ok, codes}
 use Rattle.std.specs.Option.{option_map}
 use Rattle.json.specs.Json.{Json}
-use Rattle.wc_resolve.specs.World.{ResolveView}
+use Rattle.wc_resolve.specs.Kinds.{ResolveView}
 use Rattle.wc_resolve.specs.ResolveParts.{parts_view}
 use Rattle.wc_resolve.specs.declared.ids.PackageId.{PackageId}
-use Rattle.wc_json.specs.Faults.{Reading, ◌>>=◌}
+use Rattle.wc_json.specs.Fault.{Reading, ◌>>=◌}
 use Rattle.wc_json.specs.FromJson.{IsCauseOf, IsReadFrom, list}
 use Rattle.wc_json.specs.Interfaces.{interface}
 use Rattle.wc_json.specs.Members.{required_member}

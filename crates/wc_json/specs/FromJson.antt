@@ -2,7 +2,7 @@
 use Rattle.std.specs.Prelude.{◌≡◌, ℕ, ◌+◌, Bool, List, [], ◌∷◌, Option, Some, None, Ok, ⊤, IsSomeAnd}
 use Rattle.json.specs.Json.{Json, null, boolean, string, array, object, Items, no_items, item}
 use Rattle.json.specs.Strict.{HasUniqueKeys}
-use Rattle.wc_json.specs.Faults.{HasFault, Reading, refusal, ◌>>=◌}
+use Rattle.wc_json.specs.Fault.{HasFault, Reading, refusal, ◌>>=◌}
 use Rattle.wc_json.specs.Paths.{at_step, index_step}
 use Rattle.wc_json.specs.declared.fault.JsonFault.{JsonFault}
 use Rattle.wc_json.specs.declared.fault.JsonFault.TheVariants.{Memory, NotJson, RepeatedMember, Wrong}

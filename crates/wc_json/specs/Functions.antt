@@ -5,7 +5,7 @@ use Rattle.json.specs.Json.{Json, string}
 use Rattle.wc_resolve.specs.Views.{FunctionView}
 use Rattle.wc_resolve.specs.declared.functions.FunctionKind.{FunctionKind}
 use Rattle.wc_resolve.specs.declared.functions.FunctionKind.TheVariants.{Freestanding, AsyncFreestanding, Method, AsyncMethod, Static, AsyncStatic, Constructor}
-use Rattle.wc_json.specs.Faults.{Reading, refusal, ◌>>=◌}
+use Rattle.wc_json.specs.Fault.{Reading, refusal, ◌>>=◌}
 use Rattle.wc_json.specs.FromJson.{text, list}
 use Rattle.wc_json.specs.Ids.{index}
 use Rattle.wc_json.specs.Members.{only_member, required_member, optional_member, absent_member}

@@ -3,7 +3,7 @@ use Rattle.std.specs.Prelude.{ℕ, ◌^◌, List, [], ◌∷◌, Bool, true, fal
 use Rattle.std.specs.Char.{digit_value}
 use Rattle.std.specs.Str.Parse.{digits_value, without_leading_plus}
 use Rattle.json.specs.Json.{Json, number}
-use Rattle.wc_json.specs.Faults.{Reading, refusal}
+use Rattle.wc_json.specs.Fault.{Reading, refusal}
 use Rattle.wc_json.specs.declared.fault.Problem.TheVariants.{NotAnIndex}
 
 abbrev pub all_digits : List ℕ → Bool

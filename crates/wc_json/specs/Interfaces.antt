@@ -2,7 +2,7 @@
 use Rattle.std.specs.Prelude.{Ok, codes}
 use Rattle.json.specs.Json.{Json}
 use Rattle.wc_resolve.specs.Views.{InterfaceView}
-use Rattle.wc_json.specs.Faults.{Reading, ◌>>=◌}
+use Rattle.wc_json.specs.Fault.{Reading, ◌>>=◌}
 use Rattle.wc_json.specs.FromJson.{text}
 use Rattle.wc_json.specs.Functions.{function}
 use Rattle.wc_json.specs.Ids.{index}

@@ -4,7 +4,7 @@ use Rattle.std.specs.Str.{bytes_eq}
 use Rattle.std.specs.Str.Parse.{without_leading_plus}
 use Rattle.wc_resolve.specs.Views.{ItemView, interface_item, function_item, type_item, KeyView, plain_key, interface_key}
 use Rattle.json.specs.Json.{Json, string}
-use Rattle.wc_json.specs.Faults.{Reading, refusal}
+use Rattle.wc_json.specs.Fault.{Reading, refusal}
 use Rattle.wc_json.specs.Ids.{index_of_digits}
 use Rattle.wc_json.specs.declared.fault.Problem.TheVariants.{NotAText}
 

@@ -5,7 +5,7 @@ use Rattle.json.specs.Json.{Json, string}
 use Rattle.wc_resolve.specs.Views.{KindView, record_kind, resource_kind, handle_kind, flags_kind, tuple_kind, variant_kind, enum_kind, option_kind, result_kind, list_kind, future_kind, stream_kind, alias_kind}
 use Rattle.wc_resolve.specs.declared.types.Handle.{Handle}
 use Rattle.wc_resolve.specs.declared.types.Handle.TheVariants.{Own, Borrow}
-use Rattle.wc_json.specs.Faults.{Reading, refusal, ◌>>=◌}
+use Rattle.wc_json.specs.Fault.{Reading, refusal, ◌>>=◌}
 use Rattle.wc_json.specs.FromJson.{text, list, nullable}
 use Rattle.wc_json.specs.Ids.{index}
 use Rattle.wc_json.specs.Members.{only_member, required_member, optional_member}

@@ -1,5 +1,5 @@
 pub mod Escape
-pub mod Faults
+pub mod Fault
 pub mod Paths
 pub mod FromJson
 pub mod Members

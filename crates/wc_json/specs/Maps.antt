@@ -4,7 +4,7 @@ use Rattle.std.specs.Prelude.{ℕ, List, [], Bool, Ok}
 use Rattle.std.specs.Str.{bytes_eq}
 use Rattle.indexmap.specs.IndexMap.{insert_entry}
 use Rattle.json.specs.Json.{Json, Members, no_members, member}
-use Rattle.wc_json.specs.Faults.{Reading, ◌>>=◌}
+use Rattle.wc_json.specs.Fault.{Reading, ◌>>=◌}
 use Rattle.wc_json.specs.Members.{members}
 use Rattle.wc_json.specs.Paths.{at_step, key_step}
 

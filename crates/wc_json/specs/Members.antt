@@ -2,7 +2,7 @@
 use Rattle.std.specs.Prelude.{ℕ, List, Option, Some, None, Ok, ⊤}
 use Rattle.json.specs.Json.{Json, object, Members, no_members, member}
 use Rattle.json.specs.Find.{get_member}
-use Rattle.wc_json.specs.Faults.{Reading, refusal, ◌>>=◌}
+use Rattle.wc_json.specs.Fault.{Reading, refusal, ◌>>=◌}
 use Rattle.wc_json.specs.FromJson.{nullable}
 use Rattle.wc_json.specs.Paths.{at_step}
 use Rattle.wc_json.specs.declared.fault.Problem.TheVariants.{Missing, NotAnObject, NotOneMember, Outdated}

@@ -6,7 +6,7 @@ use Rattle.json.specs.Json.{Json, null, string}
 use Rattle.wc_adapters.specs.Adapters.{LibraryView, library_view}
 use Rattle.wc_resolve.specs.Views.{KeyView, key_view}
 use Rattle.wc_json.specs.Document.{DocumentView, document_of, document_view}
-use Rattle.wc_json.specs.Faults.{Reading, ◌>>=◌}
+use Rattle.wc_json.specs.Fault.{Reading, ◌>>=◌}
 use Rattle.wc_json.specs.FromJson.{list, text, truth}
 use Rattle.wc_json.specs.Ids.{index}
 use Rattle.wc_json.specs.Keys.{key}

@@ -8,7 +8,7 @@ use Rattle.semver.specs.Parse.{Parts, version_parts}
 use Rattle.semver.specs.declared.error.Error.{Error}
 use Rattle.wc_resolve.specs.Views.{PackageNameView, PackageView}
 use Rattle.wc_resolve.specs.declared.ids.WorldId.{WorldId}
-use Rattle.wc_json.specs.Faults.{Reading, refusal, ◌>>=◌}
+use Rattle.wc_json.specs.Fault.{Reading, refusal, ◌>>=◌}
 use Rattle.wc_json.specs.Ids.{index}
 use Rattle.wc_json.specs.Maps.{name_map}
 use Rattle.wc_json.specs.Members.{required_member}

@@ -6,7 +6,7 @@ use Rattle.json.specs.Json.{Json}
 use Rattle.wc_resolve.specs.Views.{TypeView}
 use Rattle.wc_resolve.specs.declared.types.TypeOwner.{TypeOwner}
 use Rattle.wc_resolve.specs.declared.types.TypeOwner.TheVariants.{World, Interface, None as no_owner}
-use Rattle.wc_json.specs.Faults.{Reading, refusal, ◌>>=◌}
+use Rattle.wc_json.specs.Fault.{Reading, refusal, ◌>>=◌}
 use Rattle.wc_json.specs.FromJson.{text}
 use Rattle.wc_json.specs.Ids.{index}
 use Rattle.wc_json.specs.Kinds.{kind}

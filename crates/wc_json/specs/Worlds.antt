@@ -7,7 +7,7 @@ use Rattle.wc_resolve.specs.Views.{KeyView, ItemView, interface_item, function_i
 use Rattle.wc_resolve.specs.declared.ids.PackageId.{PackageId}
 use Rattle.wc_resolve.specs.declared.worlds.World.{World}
 use Rattle.wc_resolve.proofs.KeyLemmas.{key_view_eq}
-use Rattle.wc_json.specs.Faults.{Reading, refusal, ◌>>=◌}
+use Rattle.wc_json.specs.Fault.{Reading, refusal, ◌>>=◌}
 use Rattle.wc_json.specs.FromJson.{text}
 use Rattle.wc_json.specs.Functions.{function}
 use Rattle.wc_json.specs.Ids.{index}

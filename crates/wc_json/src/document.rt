@@ -4,7 +4,7 @@ ghost use Rattle.std.specs.Prelude.{◌≡◌, IfErr, IfOk, map};
 ghost use Rattle.json.specs.Json.{document};
 ghost use Rattle.json.specs.Value.{value_view};
 ghost use Rattle.wc_json.specs.Document.{IsJsonCause, IsDocument, document_of, document_view};
-ghost use Rattle.wc_json.specs.Faults.{Reads};
+ghost use Rattle.wc_json.specs.Fault.{Reads};
 
 use crate::JsonFault;
 use crate::from_json::{FromJson, value_from_json};

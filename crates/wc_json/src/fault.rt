@@ -36,7 +36,7 @@ pub enum Problem {
 }
 
 impl fmt::Display for Problem {
-    ghost use Rattle.wc_json.specs.Faults.{problem_text};
+    ghost use Rattle.wc_json.specs.Fault.{problem_text};
 
     ghost output = { λ problem. Some (problem_text problem) };
 
@@ -74,7 +74,7 @@ pub enum JsonFault {
 }
 
 impl fmt::Display for JsonFault {
-    ghost use Rattle.wc_json.specs.Faults.{json_fault_text};
+    ghost use Rattle.wc_json.specs.Fault.{json_fault_text};
 
     ghost output = { λ fault. Some (json_fault_text fault) };
 
@@ -113,7 +113,7 @@ impl<T: Drop> From<AllocFailed<T>> for JsonFault {
 }
 
 impl From<json::Error> for JsonFault {
-    ghost use Rattle.wc_json.specs.Faults.{of_json};
+    ghost use Rattle.wc_json.specs.Fault.{of_json};
 
     ghost from_gives = { λ e f. f ≡ of_json e };
 

@@ -4,7 +4,7 @@
 ghost use Rattle.std.specs.Prelude.{◌≡◌, IfErr, IfOk, None, Ok};
 ghost use Rattle.json.specs.Json.{Json, document, null};
 ghost use Rattle.json.specs.Value.{value_view};
-ghost use Rattle.wc_json.specs.Faults.{NeedsNoMemory, Reading, Reads};
+ghost use Rattle.wc_json.specs.Fault.{NeedsNoMemory, Reading, Reads};
 ghost use Rattle.wc_json.specs.FromJson.{HasItems, IsCauseOf, IsReadFrom, IsText, list, nullable, text, truth};
 ghost use Rattle.wc_json.specs.declared.fault.JsonFault.TheVariants.{Memory};
 

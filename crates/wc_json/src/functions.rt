@@ -1,8 +1,7 @@
 //! Functions and their kinds.
 
-ghost use Rattle.std.specs.Prelude.{◌≡◌};
 ghost use Rattle.json.specs.Value.{value_view};
-ghost use Rattle.wc_json.specs.Faults.{NeedsMemoryForPaths, NeedsNoMemory, Reads};
+ghost use Rattle.wc_json.specs.Fault.{NeedsMemoryForPaths, NeedsNoMemory, Reads};
 ghost use Rattle.wc_json.specs.Functions.{function_kind, kind_of_resource, kind_without_resource};
 
 use crate::from_json::FromJson;

@@ -1,8 +1,8 @@
 //! Numbers below 2^32, and ids: indices in the lists of the text.
 
-ghost use Rattle.std.specs.Prelude.{◌≡◌, ℕ};
+ghost use Rattle.std.specs.Prelude.{ℕ};
 ghost use Rattle.json.specs.Value.{value_view};
-ghost use Rattle.wc_json.specs.Faults.{NeedsNoMemory, Reads};
+ghost use Rattle.wc_json.specs.Fault.{NeedsNoMemory, Reads};
 ghost use Rattle.wc_json.specs.Ids.{index};
 
 use crate::from_json::FromJson;

@@ -1,8 +1,8 @@
 //! Kinds of defined types: what a type is.
 
-ghost use Rattle.std.specs.Prelude.{◌≡◌, map, string_bytes};
+ghost use Rattle.std.specs.Prelude.{map, string_bytes};
 ghost use Rattle.json.specs.Value.{value_view};
-ghost use Rattle.wc_json.specs.Faults.{NeedsMemoryForPaths, NeedsNoMemory, Reads};
+ghost use Rattle.wc_json.specs.Fault.{NeedsMemoryForPaths, NeedsNoMemory, Reads};
 ghost use Rattle.wc_json.specs.FromJson.{list};
 ghost use Rattle.wc_json.specs.Kinds.{handle, handle_of, kind_of, label, plain_kind};
 ghost use Rattle.wc_json.specs.Members.{required_member};

@@ -3,7 +3,7 @@
 ghost use Rattle.std.specs.Prelude.{◌≡◌, ◌≢◌, IfErr, codes};
 ghost use Rattle.json.specs.Value.{value_view};
 ghost use Rattle.wc_adapters.specs.Adapters.{instance_view, which_view};
-ghost use Rattle.wc_json.specs.Faults.{NeedsNoMemory, Reads};
+ghost use Rattle.wc_json.specs.Fault.{NeedsNoMemory, Reads};
 ghost use Rattle.wc_json.specs.Libraries.{export_kind, export_kind_of, instance_of_kind, which_of_kind};
 ghost use Rattle.wc_json.specs.declared.fault.JsonFault.TheVariants.{Memory};
 

@@ -1,7 +1,5 @@
 //! Maps from names, of objects.
 
-ghost use Rattle.std.specs.Prelude.{◌≡◌};
-
 use crate::from_json::FromJson;
 use crate::paths::{at_key, fault_here};
 use crate::{JsonFault, Problem};

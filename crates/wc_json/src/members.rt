@@ -6,7 +6,7 @@ ghost use Rattle.std.specs.Option.{option_map};
 ghost use Rattle.json.specs.Find.{get};
 ghost use Rattle.json.specs.Json.{null};
 ghost use Rattle.json.specs.Value.{value_view};
-ghost use Rattle.wc_json.specs.Faults.{NeedsNoMemory, Reads};
+ghost use Rattle.wc_json.specs.Fault.{NeedsNoMemory, Reads};
 ghost use Rattle.wc_json.specs.FromJson.{IsObject};
 ghost use Rattle.wc_json.specs.Members.{absent_member, find_member, only_member, optional_member, required_member};
 ghost use Rattle.wc_json.specs.declared.fault.JsonFault.TheVariants.{Memory};

@@ -3,7 +3,7 @@
 ghost use Rattle.std.specs.Prelude.{◌≡◌, IfErr, IfOk, IsErr};
 ghost use Rattle.json.specs.Json.{document};
 ghost use Rattle.json.specs.Value.{value_view};
-ghost use Rattle.wc_json.specs.Faults.{NeedsNoMemory, Reads};
+ghost use Rattle.wc_json.specs.Fault.{NeedsNoMemory, Reads};
 ghost use Rattle.wc_json.specs.FromJson.{IsCauseOf, IsReadFrom, IsText};
 ghost use Rattle.wc_json.specs.Messages.{flag, flag_value, message, message_view, world_name, world_name_view};
 ghost use Rattle.wc_json.specs.declared.fault.JsonFault.TheVariants.{Memory};

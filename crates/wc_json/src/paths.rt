@@ -3,7 +3,7 @@
 
 ghost use Rattle.std.specs.Prelude.{◌≡◌, ◌≢◌, IfOk, string_bytes};
 ghost use Rattle.std.specs.List.{list_all};
-ghost use Rattle.wc_json.specs.Faults.{IsFault, fault_here};
+ghost use Rattle.wc_json.specs.Fault.{IsFault, fault_here};
 ghost use Rattle.wc_json.specs.declared.fault.JsonFault.TheVariants.{Memory};
 ghost use Rattle.wc_json.specs.Paths.{IsFaultAt, IsReadAt, index_step, is_word, is_word_char, join, key_step, variant_step};
 

@@ -1,8 +1,7 @@
 //! Defined types and their owners.
 
-ghost use Rattle.std.specs.Prelude.{◌≡◌};
 ghost use Rattle.json.specs.Value.{value_view};
-ghost use Rattle.wc_json.specs.Faults.{NeedsMemoryForPaths, NeedsNoMemory, Reads};
+ghost use Rattle.wc_json.specs.Fault.{NeedsMemoryForPaths, NeedsNoMemory, Reads};
 ghost use Rattle.wc_json.specs.Types.{owner, owner_of};
 
 use crate::from_json::FromJson;

@@ -1,9 +1,8 @@
 //! Types where they are used: a primitive type by its name, a defined one by its id; and names with
 //! types.
 
-ghost use Rattle.std.specs.Prelude.{◌≡◌};
 ghost use Rattle.json.specs.Value.{value_view};
-ghost use Rattle.wc_json.specs.Faults.{NeedsNoMemory, Reads};
+ghost use Rattle.wc_json.specs.Fault.{NeedsNoMemory, Reads};
 ghost use Rattle.wc_json.specs.WitTypes.{primitive, wit_type};
 
 use crate::from_json::FromJson;

@@ -1,8 +1,7 @@
 //! Worlds, and the items that they import and export.
 
-ghost use Rattle.std.specs.Prelude.{◌≡◌};
 ghost use Rattle.json.specs.Value.{value_view};
-ghost use Rattle.wc_json.specs.Faults.{Reads};
+ghost use Rattle.wc_json.specs.Fault.{Reads};
 ghost use Rattle.wc_json.specs.Worlds.{interface_item_of, item_of, type_item_of};
 ghost use Rattle.wc_resolve.specs.Views.{item_view};
 

@@ -1,3 +1,3 @@
 pub mod Names
-pub mod Places
-pub mod Seeds
+pub mod OrderedMap
+pub mod Seed

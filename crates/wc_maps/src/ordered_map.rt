@@ -4,7 +4,7 @@ ghost use Rattle.std.specs.Prelude.{◌≡◌, [], ◌∷◌, ◌++◌, length, 
 ghost use Rattle.std.specs.Option.{option_copied};
 ghost use Rattle.std.specs.Map.{lookup};
 ghost use Rattle.indexmap.specs.IndexMap.{insert_entry};
-ghost use Rattle.wc_maps.specs.Places.{first_place};
+ghost use Rattle.wc_maps.specs.OrderedMap.{first_position};
 
 use std::alloc::{AllocError, Global};
 use std::collections::BTreeMap;
@@ -14,13 +14,13 @@ use std::marker::Model;
 /// Entries in the order of insertion. A look-up among n of them takes some log n comparisons, whatever the keys are.
 #[derive(Drop)]
 pub struct OrderedMap<K: Ord + Copy, V> {
-    places: BTreeMap<K, usize>,
+    positions: BTreeMap<K, usize>,
     entries: Vec<(K, V)>,
 }
 
 impl<K: Ord + Copy, V> Model for OrderedMap<K, V> {
     ghost use Rattle.indexmap.specs.Layout.{Rows, rows_code};
-    ghost use Rattle.wc_maps.specs.Places.{ArePlaces};
+    ghost use Rattle.wc_maps.specs.OrderedMap.{ArePositions};
 
     ghost Value = { Rows K V };
 
@@ -28,7 +28,7 @@ impl<K: Ord + Copy, V> Model for OrderedMap<K, V> {
 
     ghost view = { λ m. record { entries = m.entries.items; capacity = 0 } };
 
-    ghost invariant = { λ m. ArePlaces K.eq K.cmp m.places m.entries.items };
+    ghost invariant = { λ m. ArePositions K.eq K.cmp m.positions m.entries.items };
 }
 
 impl<K: Ord + Copy, V> OrderedMap<K, V> {
@@ -37,7 +37,7 @@ impl<K: Ord + Copy, V> OrderedMap<K, V> {
         ensures { result.entries ≡ [] }
     {
         OrderedMap {
-            places: BTreeMap::new(alloc),
+            positions: BTreeMap::new(alloc),
             entries: Vec::new(alloc),
         }
     }
@@ -60,13 +60,13 @@ impl<K: Ord + Copy, V> OrderedMap<K, V> {
     pub fn get(&self, key: &K) -> Option<&V>
         ensures { option_copied result ≡ lookup (K.eq key.now) self.now.entries }
     {
-        match self.places.get(key) {
-            Some(place) => Some(&self.entries[*place].1),
+        match self.positions.get(key) {
+            Some(position) => Some(&self.entries[*position].1),
             None => None,
         }
     }
 
-    /// Puts a value under a key. A key that is there keeps its place; a new one goes last.
+    /// Puts a value under a key. A key that is there keeps its position; a new one goes last.
     ///
     /// # Errors
     ///
@@ -78,10 +78,10 @@ impl<K: Ord + Copy, V> OrderedMap<K, V> {
             (self.new.entries ≡ insert_entry K.eq self.old.entries key value) }
         ensures err { OnErr result (self.new.entries ≡ self.old.entries) }
     {
-        let place = self.places.get(&key).copied();
-        match place {
-            Some(place) => {
-                self.entries[place].1 = value;
+        let position = self.positions.get(&key).copied();
+        match position {
+            Some(position) => {
+                self.entries[position].1 = value;
                 Ok(())
             }
             None => self.push(key, value),
@@ -92,12 +92,12 @@ impl<K: Ord + Copy, V> OrderedMap<K, V> {
     fn push(&mut self, key: K, value: V) -> Result<(), AllocError>
     where
         V: Drop,
-        requires { first_place (K.eq key) self.old.entries ≡ None }
+        requires { first_position (K.eq key) self.old.entries ≡ None }
         ensures entries { OnOk result (self.new.entries ≡ self.old.entries ++ (key, value) ∷ []) }
         ensures err { OnErr result (self.new.entries ≡ self.old.entries) }
     {
         self.entries.reserve(1)?;
-        self.places.insert(key, self.entries.len())?;
+        self.positions.insert(key, self.entries.len())?;
         self.entries.push_reserved((key, value));
         Ok(())
     }

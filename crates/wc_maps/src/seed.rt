@@ -1,7 +1,7 @@
 //! The seed of a hash.
 
 ghost use Rattle.std.specs.Prelude.{◌≡◌};
-ghost use Rattle.wc_maps.specs.Seeds.{seeded};
+ghost use Rattle.wc_maps.specs.Seed.{seeded};
 
 use std::fmt::{self, Debug, Formatter};
 use std::hash::{BuildHasher, DefaultHasher, Hasher};

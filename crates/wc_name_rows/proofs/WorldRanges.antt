@@ -4,7 +4,7 @@ use Rattle.std.specs.Prelude.{slice_get, All}
 use Rattle.std.proofs.lemmas.List.Elements.{All-weaker}
 use Rattle.wc_resolve.specs.Ranges.{AreIdsInRange, IsEntryIn, IsKeyIn, IsWorldIn}
 use Rattle.wc_resolve.specs.Views.{ItemView, KeyView, WorldView}
-use Rattle.wc_resolve.specs.World.{ResolveView}
+use Rattle.wc_resolve.specs.Kinds.{ResolveView}
 use Rattle.wc_resolve.proofs.WellFormedLemmas.{all_get}
 
 pub world_in_range : (r : ResolveView) (i : ℕ) (w : WorldView) → AreIdsInRange r → slice_get r.worlds i ≡ Some w → IsWorldIn r w

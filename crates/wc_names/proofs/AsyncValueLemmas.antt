@@ -5,7 +5,7 @@ use Rattle.wc_names.specs.declared.async_values.AsyncValue.TheVariants.{Future, 
 use Rattle.wc_names.specs.declared.async_values.Operation.{Operation}
 use Rattle.wc_names.specs.declared.async_values.Operation.TheVariants.{New, Write, Read, CancelWrite, CancelRead, Forward, DropWritable, DropReadable}
 use Rattle.wc_names.specs.AsyncValues.{async_value_name, bracketed_text, operation_row, operation_text, value_text}
-use Rattle.wc_names.specs.Schemes.{lowered_name}
+use Rattle.wc_names.specs.Mangling.{lowered_name}
 use Rattle.wc_names.specs.Texts.{IsSplitAtFirst, Lacks}
 use Rattle.wc_names.proofs.TextLemmas.{lacks, lacks_after, lacks_append, lacks_by_test, lacks_cons, not_lacking, split_unique}
 

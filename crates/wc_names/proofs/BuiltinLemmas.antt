@@ -7,7 +7,7 @@ use Rattle.wc_read.specs.declared.types.ValType.TheVariants.{I32, I64, F32, F64,
 use Rattle.wc_adapters.specs.declared.encoding.StringEncoding.{StringEncoding}
 use Rattle.wc_adapters.specs.declared.encoding.StringEncoding.TheVariants.{UTF8, UTF16, CompactUTF16}
 use Rattle.wc_names.specs.Builtins.{NamesBuiltin, encoding_text, legacy_row, pointer_suffixes, slot_prefixes}
-use Rattle.wc_names.specs.Schemes.{Scheme, standard, legacy}
+use Rattle.wc_names.specs.Mangling.{Scheme, standard, legacy}
 use Rattle.wc_names.specs.Texts.{IsChoice, IsOneOf, IsSlot, Spells, SpellsNumber}
 use Rattle.wc_names.specs.Views.{Builtin, error_context_drop, backpressure_inc, backpressure_dec, waitable_set_new, waitable_set_wait, waitable_set_poll, waitable_set_drop, waitable_join, subtask_drop, subtask_cancel, error_context_new, error_context_debug_message, context_get, context_set, thread_index, thread_new_indirect, thread_resume_later, thread_suspend, thread_yield, thread_suspend_then_resume, thread_yield_then_resume, thread_suspend_then_promote, thread_yield_then_promote}
 use Rattle.wc_names.proofs.NumberTextLemmas.{no_letter_first, number_unique}

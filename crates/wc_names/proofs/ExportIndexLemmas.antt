@@ -1,5 +1,5 @@
 -- Indices of an export set, and what is looked up in them.
-use Rattle.std.proofs.Common.{◌≡◌, ℕ, ◌<◌, All, length, take, Bool, true, false, cond, List, [], ◌∷◌, ◌++◌, map, Some, None, String, string_bytes, refl, sym, ap, ◌∙◌, subst, append-nil, Option, Contains, inl, inr, append_assoc, arith}
+use Rattle.std.proofs.Common.{◌≡◌, ℕ, ◌<◌, All, length, take, Bool, true, false, cond, List, [], ◌∷◌, ◌++◌, map, Some, None, String, string_bytes, refl, sym, ap, ◌∙◌, subst, append-nil, Option, Contains, inl, inr, arith}
 use Rattle.std.specs.Map.{lookup, set_value}
 use Rattle.std.specs.Option.{option_map_or, option_to_list, MatchOption, option_and_then, option_copied, option_map}
 use Rattle.std.specs.Str.{bytes_eq}
@@ -10,14 +10,14 @@ use Rattle.std.proofs.lemmas.List.{map-append, take-map}
 use Rattle.std.proofs.lemmas.List.Elements.{All-take, All-cons}
 use Rattle.std.proofs.lemmas.Slice.Eq.{bytes_eq-Decides}
 use Rattle.indexmap.specs.IndexMap.{insert_entry}
-use Rattle.wc_resolve.specs.Views.{KeyView, key_view, FunctionView, InterfaceView, ItemView, function_item, interface_item, interface_key, plain_key, type_item}
+use Rattle.wc_resolve.specs.Views.{KeyView, key_view, InterfaceView, ItemView, function_item, interface_item, interface_key, plain_key, type_item}
 use Rattle.wc_names.specs.declared.export_index.ExportedInterface.{ExportedInterface}
-use Rattle.wc_resolve.specs.World.{ResolveView}
+use Rattle.wc_resolve.specs.Kinds.{ResolveView}
 use Rattle.wc_adapters.specs.Entries.{Entries}
 use Rattle.wc_names.specs.declared.export_names.ExportSyntax.{ExportSyntax}
 use Rattle.wc_names.specs.declared.export_names.ExportSyntax.TheVariants.{Standard, Legacy}
 use Rattle.wc_names.specs.ExportIndex.{IsExportIndex, exported_interface_view, interfaces_view, listed}
-use Rattle.wc_names.specs.ExportNames.{if_text, interfaces_of_text, searched_interfaces, ExportTarget, IsWorldFunction, exported_interface, interface_text, interface_with_text, target}
+use Rattle.wc_names.specs.ExportNames.{if_text, interfaces_of_text, searched_interfaces, exported_interface, interface_text, interface_with_text}
 use Rattle.wc_names.specs.Interfaces.{FoundInterface}
 use Rattle.std.specs.Prelude.{slice_get, length}
 use Rattle.std.specs.List.{cons_option, filter_map, find}
@@ -29,7 +29,7 @@ use Rattle.wc_resolve.proofs.KeyLemmas.{keys_law, nat_from}
 use Rattle.wc_resolve.proofs.SearchLemmas.{contains_cons, contains_head, contains_none, contains_tail}
 use Rattle.wc_resolve.proofs.ViewedLemmas.{all_unviewed}
 use Rattle.wc_resolve.proofs.WellFormedLemmas.{interface_names_in}
-use Rattle.wc_names.specs.Keys.{as_function, as_interface, item_under, key_eq}
+use Rattle.wc_names.specs.Keys.{as_interface, item_under, key_eq}
 use Rattle.wc_maps.specs.Names.{under_name}
 use Rattle.wc_names.proofs.KeyLemmas.{lookup_passes}
 
@@ -125,44 +125,14 @@ pub plain_key_answer : (ks : List WorldKey) (q : WorldKey) (name : List ℕ) (o 
 plain_key_answer ks q name None is_plain is = key_missing ks q name is_plain (sym is)
 plain_key_answer ks q name (Some k) is_plain is = key_found ks q k.now name is_plain (sym is)
 
--- a function of the world
-pub world_function_found : (es : Entries) (keys : List KeyView) (name : List ℕ) (key : KeyView) (f : FunctionView) → key ≡ plain_key name
-    → Contains keys (plain_key name) → Some f ≡ option_and_then as_function (item_under es key)
-    → IsWorldFunction es keys name (target key None f)
-world_function_found es keys name key f is there at =
-    (there, f, subst (λ (z : KeyView). option_and_then as_function (item_under es z) ≡ Some f) is (sym at), ap (λ (z : KeyView). target z None f) is)
-
-pub world_function_missing : (es : Entries) (keys : List KeyView) (name : List ℕ) (key : KeyView) → key ≡ plain_key name
-    → None ≡ option_and_then as_function (item_under es key) → (t : ExportTarget) → ¬ IsWorldFunction es keys name t
-world_function_missing es keys name key is at t h =
-    let none : None ≡ Some h.1 = subst (λ (z : KeyView). None ≡ option_and_then as_function (item_under es z)) is at ∙ h.2 in let bad : ⊥ = cc none in bad
-
 -- lists by text: those of the keys so far, and those of the others
 abbrev pub AreListed : (List ℕ → List FoundInterface) → (KeyView → Option (List ℕ × ℕ)) → List KeyView → List KeyView → Type 0
 AreListed at with_text all rest =
     (q : List ℕ) → at q ++ filter_map (λ (key : KeyView). option_and_then (if_text q key) (with_text key)) rest ≡ filter_map
     (λ (key : KeyView). option_and_then (if_text q key) (with_text key)) all
 
-list_step : (before tail : List FoundInterface) (o : Option FoundInterface) → (before ++ option_to_list o) ++ tail ≡ before ++ cons_option o tail
-list_step before tail None = append_assoc before [] tail
-list_step before tail (Some x) = append_assoc before (x ∷ []) tail
-
 module _ (with_text : KeyView → Option (List ℕ × ℕ)) (all rest : List KeyView) (key : KeyView) (at after : List ℕ → List FoundInterface)
     (listed : AreListed at with_text all (key ∷ rest)) where
-  -- lists after a key of an interface
-  pub listed_more : (p : List ℕ × ℕ) → with_text key ≡ Some p → ((q : List ℕ) → after q ≡ at q ++ option_to_list (if_text q key p))
-      → AreListed after with_text all rest
-  listed_more p is added q =
-      ap (λ z. z ++ filter_map (λ (k : KeyView). option_and_then (if_text q k) (with_text k)) rest) (added q)
-      ∙ (list_step (at q) (filter_map (λ (k : KeyView). option_and_then (if_text q k) (with_text k)) rest) (if_text q key p)
-      ∙ (ap (λ z. at q ++ cons_option (option_and_then (if_text q key) z) (filter_map (λ (k : KeyView). option_and_then (if_text q k) (with_text k)) rest))
-      (sym is) ∙ listed q))
-
-  -- lists after a key of anything else
-  pub listed_as_before : with_text key ≡ None → AreListed at with_text all rest
-  listed_as_before is q =
-      ap (λ z. at q ++ cons_option (option_and_then (if_text q key) z) (filter_map (λ (k : KeyView). option_and_then (if_text q k) (with_text k)) rest))
-      (sym is) ∙ listed q
 
 -- after the last key all interfaces are listed
 pub all_listed : (x : ExportSyntax) (r : ResolveView) (es : Entries) (keys : List KeyView) (rest : List WorldKey) (at : List ℕ → List FoundInterface)

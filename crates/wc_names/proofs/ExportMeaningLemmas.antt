@@ -7,7 +7,7 @@ use Rattle.wc_names.proofs.OptionLemmas.{some_unique}
 use Rattle.wc_read.specs.declared.types.MemoryType.{MemoryType}
 use Rattle.wc_resolve.specs.declared.functions.AbiVariant.{AbiVariant}
 use Rattle.wc_resolve.specs.Views.{FunctionView, KeyView, plain_key}
-use Rattle.wc_resolve.specs.World.{ResolveView}
+use Rattle.wc_resolve.specs.Kinds.{ResolveView}
 use Rattle.wc_adapters.specs.Entries.{Entries}
 use Rattle.wc_names.specs.declared.export_names.ExportSyntax.{ExportSyntax}
 use Rattle.wc_names.specs.ExportNames.{ExportTarget, HasFunction, HasResource, IsExportedFunction, NamesDestructor, NamesFunctionExport, destructor_member, export_syntax, interface_function, interface_resource, searched_interfaces, target}
@@ -18,7 +18,7 @@ use Rattle.wc_names.specs.First.{FirstOf}
 use Rattle.wc_names.specs.Imports.{ExternType, NameScope, function_type, memory_type}
 use Rattle.wc_names.specs.Interfaces.{FoundInterface}
 use Rattle.wc_names.specs.Keys.{as_function, item_under}
-use Rattle.wc_names.specs.Schemes.{Scheme, NamesAsyncLift, NamesCallback, NamesPostReturn, NamesStackfulLift, legacy, marker, standard}
+use Rattle.wc_names.specs.Mangling.{Scheme, NamesAsyncLift, NamesCallback, NamesPostReturn, NamesStackfulLift, legacy, marker, standard}
 use Rattle.wc_read.specs.declared.types.ValType.TheVariants.{I32}
 use Rattle.wc_names.proofs.ExportNameLemmas.{destructor_unique, parts_unique}
 use Rattle.wc_names.proofs.SearchLemmas.{first_unique}

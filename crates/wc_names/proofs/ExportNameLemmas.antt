@@ -6,7 +6,7 @@ use Rattle.std.specs.declared.alloc.AllocError.{AllocError}
 use Rattle.std.proofs.lemmas.List.{append_cancel_left, append_cancel_right}
 use Rattle.wc_resolve.specs.Characters.{hash_sign}
 use Rattle.wc_resolve.specs.Views.{KeyView}
-use Rattle.wc_resolve.specs.World.{ResolveView}
+use Rattle.wc_resolve.specs.Kinds.{ResolveView}
 use Rattle.wc_adapters.specs.Entries.{Entries}
 use Rattle.wc_names.specs.declared.export_names.ExportSyntax.{ExportSyntax}
 use Rattle.wc_names.specs.declared.export_names.ExportSyntax.TheVariants.{Standard, Legacy}

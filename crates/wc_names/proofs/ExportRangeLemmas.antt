@@ -8,7 +8,7 @@ use Rattle.std.proofs.lemmas.Slice.Eq.{bytes_eq-Decides}
 use Rattle.wc_resolve.specs.declared.functions.AbiVariant.{AbiVariant}
 use Rattle.wc_resolve.specs.Views.{FunctionView, InterfaceView, KeyView, WorldView, resource_kind}
 use Rattle.wc_resolve.specs.WellFormed.{HasMatchingNames, IsWellFormed}
-use Rattle.wc_resolve.specs.World.{ResolveView, kind_at}
+use Rattle.wc_resolve.specs.Kinds.{ResolveView, kind_at}
 use Rattle.wc_resolve.proofs.WellFormedLemmas.{all_get}
 use Rattle.wc_adapters.specs.Entries.{Entries}
 use Rattle.wc_names.specs.declared.export_names.ExportSyntax.{ExportSyntax}
@@ -20,7 +20,7 @@ use Rattle.wc_names.specs.Imports.{ExternType, NameScope}
 use Rattle.wc_names.specs.Interfaces.{FoundInterface}
 use Rattle.wc_names.specs.Laws.{IsExportIn, IsInterfaceFunctionIn, IsWorldFunctionIn}
 use Rattle.wc_maps.specs.Names.{under_name}
-use Rattle.wc_names.specs.Schemes.{Scheme}
+use Rattle.wc_names.specs.Mangling.{Scheme}
 use Rattle.wc_names.proofs.ExportIndexLemmas.{all_filtered}
 use Rattle.wc_names.proofs.MeaningRangeLemmas.{function_names, listed_names, named_resource}
 use Rattle.wc_names.proofs.RangeLemmas.{interface_function_usable, world_function}

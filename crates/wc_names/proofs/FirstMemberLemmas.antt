@@ -11,7 +11,7 @@ use Rattle.std.specs.declared.vec.Vec.{Vec}
 use Rattle.std.proofs.lemmas.List.{drop_all, drop_more}
 use Rattle.std.proofs.lemmas.Slice.Eq.{bytes_eq-Decides}
 use Rattle.wc_resolve.specs.Views.{FunctionView, InterfaceView, KeyView}
-use Rattle.wc_resolve.specs.World.{ResolveView}
+use Rattle.wc_resolve.specs.Kinds.{ResolveView}
 use Rattle.wc_resolve.proofs.LookupLemmas.{name_viewed}
 use Rattle.wc_maps.specs.Names.{under_name}
 use Rattle.wc_resolve.specs.Roots.{id_index}
@@ -92,12 +92,6 @@ module _ {V X O : Type 0} (view : V → O) (own : List ℕ → Option O) (all : 
   here : KeepsOwn view own all old ((k, x) ∷ rest) kept
   here = subst (λ z. KeepsOwn view own all old z kept) next before
 
-  -- after a name of which there is nothing
-  pub own_passed : own (string_bytes k) ≡ None → KeepsOwn view own all old rest kept
-  own_passed none name =
-      ap (option_or (option_map view (lookup (is_text name) kept))) (passed_at view own k x rest name (is_text name k) (is_listed rest name) refl none refl)
-      ∙ here name
-
   -- after a name of which something is kept
   pub own_kept : (new : List (String Global × V)) (key : String Global) (v : V) (text : List ℕ) → text ≡ string_bytes k → string_bytes key ≡ text
       → own text ≡ Some (view v) → new ≡ with_first string_eq kept key v → KeepsOwn view own all old rest new
@@ -110,15 +104,6 @@ module _ {V X O : Type 0} (view : V → O) (own : List ℕ → Option O) (all : 
 or_none : {X : Type 0} (o : Option X) → option_or o None ≡ o
 or_none None = refl
 or_none (Some x) = refl
-
--- after all names
-pub own_done : {V X O : Type 0} (view : V → O) (own : List ℕ → Option O) (all : List (String Global × X)) (old : List (String Global × V))
-    (left : List (String Global × X)) (now : List (String Global × V)) → left ≡ [] → KeepsOwn view own all old left now
-    → KeepsMore view (among all own) old now
-own_done view own all old left now none done name =
-    sym (or_none (option_map view (lookup (is_text name) now)))
-    ∙ subst (λ z. option_or (option_map view (lookup (is_text name) now)) (among z own name)
-    ≡ option_or (option_map view (lookup (is_text name) old)) (among all own name)) none (done name)
 
 -- what an interface has, where it lists all names of which it has something
 pub among_all : {X O : Type 0} (all : List (String Global × X)) (own : List ℕ → Option O) → ((name : List ℕ) → is_listed all name ≡ false → own name ≡ None)
@@ -215,11 +200,6 @@ pub all_under : {V : Type 0} (P : List ℕ → V → Type 0) (k : String Global)
 all_under P k v kept new mine put before text =
     subst (λ z. IfSome (lookup (is_text text) z) (P text)) (sym put)
     (put_under P k v mine text kept (is_some (lookup (is_text (string_bytes k)) kept)) (before text))
-
--- nothing is kept in an empty map
-pub none_under : {V : Type 0} (P : List ℕ → V → Type 0) (kept : List (String Global × V)) → kept ≡ [] → (text : List ℕ)
-    → IfSome (lookup (is_text text) kept) (P text)
-none_under P kept none text = subst (λ z. IfSome (lookup (is_text text) z) (P text)) (sym none) tt
 
 -- what is kept under a text is of the first of the interfaces that are searched
 module _ (x : ExportSyntax) (r : ResolveView) (es : Entries) (ks : List KeyView) (entries : List (String Global × Vec ExportedInterface Global))

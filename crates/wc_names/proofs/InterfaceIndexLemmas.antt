@@ -8,7 +8,7 @@ use Rattle.wc_names.specs.Finds.{Finds}
 use Rattle.wc_names.specs.First.{FirstOf}
 use Rattle.wc_names.specs.Views.{keyed_view}
 use Rattle.wc_names.specs.InterfaceIndex.{KeepsFirst, with_first, IsKeyOf, InterfaceNamesView, IsTrackEntry, TrackNameView, interface_names_view, is_index, is_text, is_track_name, track_name_in, track_name_view}
-use Rattle.wc_names.proofs.SearchLemmas.{IsFirstInRest, none_found, rest_after, rest_is_all, first_found}
+use Rattle.wc_names.proofs.SearchLemmas.{IsFirstInRest, none_found, rest_after, first_found}
 use Rattle.std.specs.declared.alloc.AllocError.{AllocError}
 use Rattle.std.specs.Borrow.{Bor}
 use Rattle.std.specs.declared.alloc.Global.{Global}
@@ -19,14 +19,14 @@ use Rattle.wc_resolve.specs.declared.ids.InterfaceId.{InterfaceId}
 use Rattle.wc_resolve.specs.declared.worlds.WorldKey.{WorldKey}
 use Rattle.wc_resolve.specs.declared.worlds.WorldItem.{WorldItem}
 use Rattle.wc_resolve.specs.Names.{track}
-use Rattle.wc_resolve.specs.Queries.{VersionView, qualified_name}
+use Rattle.wc_resolve.specs.Resolve.{VersionView, qualified_name}
 use Rattle.wc_resolve.specs.Views.{ItemView, KeyView, PackageNameView, interface_key, item_view, key_view, plain_key, world_entry}
-use Rattle.wc_resolve.specs.World.{ResolveView}
+use Rattle.wc_resolve.specs.Kinds.{ResolveView}
 use Rattle.wc_resolve.proofs.KeyLemmas.{nat_from, nat_to}
 use Rattle.wc_adapters.specs.Entries.{Entries}
 use Rattle.wc_names.specs.declared.interface_index.TrackName.{TrackName}
 use Rattle.wc_names.specs.Interfaces.{FoundInterface, HaveSameTrack, IsAbout, IsCanonicalEntry, IsEntryOf, IsOnTrack, NamesInterface, found_interface, interface_texts, under_own_key}
-use Rattle.wc_names.specs.Schemes.{Scheme}
+use Rattle.wc_names.specs.Mangling.{Scheme}
 use Rattle.wc_names.proofs.InterfaceLemmas.{without_version}
 
 -- of the entries that were passed the first is kept; a key with nothing kept has its first, if any, in the rest
@@ -43,12 +43,6 @@ pub lookup_push : {K X : Type 0} (test : K → Bool) (es : List (K × X)) (k : K
 lookup_push test [] k v = refl
 lookup_push test (e ∷ es) k v =
     lookup_at (test e.0) e.1 (lookup test (es ++ (k, v) ∷ [])) (lookup test es) (cond (test k) (Some v) None) (lookup_push test es k v)
-
--- nothing is kept before the first
-pub keeps_none : {T E O V K : Type 0} (Has : T → E → O → Type 0) (test : T → K → Bool) (view : V → O) (all : List E) (kept : List (K × V)) → kept ≡ []
-    → KeepsPassed Has all all (λ t. option_map view (lookup (test t) kept))
-keeps_none Has test view all kept none t =
-    subst (λ z. MatchOption (option_map view (lookup (test t) z)) (IsFirstInRest (Has t) all all) (FirstOf (Has t) all)) (sym none) (rest_is_all (Has t) all)
 
 passed_at : {E O : Type 0} (Has : E → O → Type 0) (all rest : List E) (e : E) (o : Option O) → ((p : O) → o ≡ None → ¬ Has e p)
     → MatchOption o (IsFirstInRest Has all (e ∷ rest)) (FirstOf Has all) → MatchOption o (IsFirstInRest Has all rest) (FirstOf Has all)

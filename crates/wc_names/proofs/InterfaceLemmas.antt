@@ -7,7 +7,7 @@ use Rattle.semver.specs.Identifiers.{parts_text}
 use Rattle.semver.specs.Parse.{version_parts}
 use Rattle.semver.proofs.Grammar.{version_parts-complete}
 use Rattle.wc_resolve.specs.Characters.{slash, colon, at_sign}
-use Rattle.wc_resolve.specs.Queries.{VersionView, versioned}
+use Rattle.wc_resolve.specs.Resolve.{VersionView, versioned}
 use Rattle.wc_resolve.specs.Views.{PackageNameView, ItemView, KeyView, PackageView, interface_key, plain_key, function_item, interface_item, type_item}
 use Rattle.wc_names.specs.Interfaces.{IsIdText, IsVersionText, FoundInterface, HaveSameTrack, IsEntryOf, IsMemberOf, IsOnTrack, IsCloneOf, IsIdMatch, IsTextMatch, by_plain_key, clone, exact_version, id_matches, same_track, text_matches, IsCanonicalEntry, NamesInterface, FindsOwnKey}
 use Rattle.wc_names.specs.Texts.{Lacks, IsSplitAtFirst}
@@ -16,7 +16,7 @@ use Rattle.std.specs.Prelude.{slice_get}
 use Rattle.wc_resolve.specs.Dependencies.{id_of_interface}
 use Rattle.wc_resolve.specs.declared.ids.InterfaceId.{InterfaceId}
 use Rattle.wc_resolve.specs.WellFormed.{HaveDistinctNames, IsMatchingKey}
-use Rattle.wc_resolve.specs.World.{ResolveView}
+use Rattle.wc_resolve.specs.Kinds.{ResolveView}
 use Rattle.wc_names.specs.Finds.{Finds}
 use Rattle.wc_names.specs.First.{FirstOf}
 use Rattle.wc_names.specs.Keys.{as_interface, item_under, key_eq}
@@ -30,7 +30,7 @@ use Rattle.std.proofs.lemmas.Bool.Decides.{eqb_tells}
 use Rattle.std.proofs.lemmas.List.Elements.{All-head, All-tail}
 use Rattle.std.proofs.lemmas.List.{get_or_default}
 use Rattle.wc_names.specs.Laws.{IsInterfaceEntry}
-use Rattle.wc_names.specs.Schemes.{Scheme, legacy, standard}
+use Rattle.wc_names.specs.Mangling.{Scheme, legacy, standard}
 
 -- the text of a version is of one version
 version_unique : (v w : VersionView) → IsValid v → IsValid w → parts_text v ≡ parts_text w → v ≡ w
@@ -176,12 +176,6 @@ no_plain : (r : ResolveView) (es : Entries) (text : List ℕ) → None ≡ optio
     → ¬ IsTextMatch r es text by_plain_key f
 no_plain r es text none f h = let e : None ≡ Some h.0 = none ∙ h.1 in let bad : ⊥ = cc e in bad
 
--- the interface of an id, where the text is no plain key
-pub id_found : (r : ResolveView) (es : Entries) (text : List ℕ) (p : PackageNameView) (n : List ℕ) (f : FoundInterface)
-    → None ≡ option_and_then as_interface (item_under es (plain_key text)) → IsIdText text p n
-    → FirstOf (IsIdMatch r es p n) id_matches f → FirstOf (IsTextMatch r es text) text_matches f
-id_found r es text p n f none t first = inr (no_plain r es text none, inl (p, n, t, first))
-
 pub id_not_found : (r : ResolveView) (es : Entries) (text : List ℕ) (p : PackageNameView) (n : List ℕ)
     → None ≡ option_and_then as_interface (item_under es (plain_key text)) → IsIdText text p n
     → ((f : FoundInterface) → ¬ FirstOf (IsIdMatch r es p n) id_matches f) → (f : FoundInterface) → ¬ FirstOf (IsTextMatch r es text) text_matches f
@@ -190,13 +184,6 @@ id_not_found r es text p n none t no_match f (inr (h, inl g)) =
     let same = id_unique text g.0 p g.1 n g.2 t in
     no_match f (subst (λ z. FirstOf (IsIdMatch r es z n) id_matches f) same.0 (subst (λ z. FirstOf (IsIdMatch r es g.0 z) id_matches f) same.1 g.3))
 id_not_found r es text p n none t no_match f (inr (h, inr g)) = g.1
-
-pub no_id : (r : ResolveView) (es : Entries) (text : List ℕ) → None ≡ option_and_then as_interface (item_under es (plain_key text))
-    → ((p : PackageNameView) (n : List ℕ) → ¬ IsIdText text p n)
-    → (f : FoundInterface) → ¬ FirstOf (IsTextMatch r es text) text_matches f
-no_id r es text none no_text f (inl h) = no_plain r es text none f h
-no_id r es text none no_text f (inr (h, inl g)) = no_text g.0 g.1 g.2
-no_id r es text none no_text f (inr (h, inr g)) = g.1
 
 key_is : (k j : KeyView) → key_eq k j ≡ true → k ≡ j
 key_is (plain_key n) (plain_key m) h = ap plain_key ((bytes_eq-Decides n m).0 h)

@@ -9,11 +9,11 @@ use Rattle.wc_resolve.specs.declared.worlds.WorldKey.{WorldKey}
 use Rattle.wc_resolve.specs.declared.worlds.WorldKey.TheVariants.{Name, Interface as InterfaceKey}
 use Rattle.wc_resolve.specs.declared.worlds.WorldItem.{WorldItem}
 use Rattle.wc_resolve.specs.contracts.worlds.WorldKeyPartialEq.TheImpl.{eq-value as world_key_eq}
-use Rattle.wc_resolve.specs.Queries.{package_name_at}
+use Rattle.wc_resolve.specs.Resolve.{package_name_at}
 use Rattle.wc_resolve.specs.Ranges.{AreIdsInRange, AreNamesIn, IsEntryIn, IsFunctionIn, IsItemIn, IsWorldIn}
 use Rattle.wc_resolve.specs.Views.{FunctionView, InterfaceView, ItemView, KeyView, PackageView, PackageNameView, WorldView, function_item, interface_item, plain_key, type_item, key_view, item_view, world_entry}
 use Rattle.wc_resolve.specs.WellFormed.{HaveDistinctNames}
-use Rattle.wc_resolve.specs.World.{ResolveView}
+use Rattle.wc_resolve.specs.Kinds.{ResolveView}
 use Rattle.wc_resolve.proofs.ViewedLemmas.{all_unviewed}
 use Rattle.wc_resolve.proofs.LookupLemmas.{lookup_viewed}
 use Rattle.wc_resolve.proofs.WellFormedLemmas.{all_get, interface_names_in}

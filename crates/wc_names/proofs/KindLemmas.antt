@@ -12,7 +12,7 @@ use Rattle.wc_names.specs.Imports.{Classified, CoreFunction, CoreImport, IsKind,
 use Rattle.wc_names.specs.Interfaces.{FoundInterface, NamesInterface}
 use Rattle.wc_names.specs.Keys.{function_named, world_scope}
 use Rattle.wc_names.specs.Meanings.{Meaning, means}
-use Rattle.wc_names.specs.Schemes.{Scheme, export_prefix, interface_prefix, marker}
+use Rattle.wc_names.specs.Mangling.{Scheme, export_prefix, interface_prefix, marker}
 use Rattle.wc_names.specs.Views.{Builtin, interface_func, main_module_memory, world_func}
 use Rattle.wc_names.specs.WitIntrinsics.{IsWitIntrinsic}
 use Rattle.wc_names.proofs.BuiltinLemmas.{builtin_unique}

@@ -8,7 +8,7 @@ use Rattle.wc_read.specs.Types.{FuncTypeValue}
 use Rattle.wc_resolve.specs.Futures.{function_futures}
 use Rattle.wc_resolve.specs.Views.{FunctionView, ItemView, KeyView, PackageNameView, WorldView, function_item, interface_item, interface_key, plain_key, type_item}
 use Rattle.wc_resolve.specs.WellFormed.{HaveDistinctNames}
-use Rattle.wc_resolve.specs.World.{ResolveView}
+use Rattle.wc_resolve.specs.Kinds.{ResolveView}
 use Rattle.wc_adapters.specs.Entries.{Entries}
 use Rattle.wc_names.specs.declared.async_values.AsyncValue.{AsyncValue}
 use Rattle.wc_names.specs.declared.async_values.Operation.{Operation}
@@ -18,7 +18,7 @@ use Rattle.wc_names.specs.First.{FirstOf}
 use Rattle.wc_names.specs.Interfaces.{FoundInterface, IdMatch, IsCanonicalEntry, IsCloneOf, IsEntryOf, IsIdMatch, IsOnTrack, IsTextMatch, NamesInterface, TextMatch, by_id, by_plain_key, clone, exact_version, id_matches, same_track, text_matches}
 use Rattle.wc_names.specs.Keys.{Scope, as_interface, function_named, item_under, resource_named, scope_key}
 use Rattle.wc_names.specs.Meanings.{Meaning, means}
-use Rattle.wc_names.specs.Schemes.{NamesFunction, NamesResource, NamesTaskReturn, ResourceOperation, Scheme, legacy, lowered_name, resource_drop, resource_new, resource_rep, standard}
+use Rattle.wc_names.specs.Mangling.{NamesFunction, NamesResource, NamesTaskReturn, ResourceOperation, Scheme, legacy, lowered_name, resource_drop, resource_new, resource_rep, standard}
 use Rattle.wc_names.specs.Texts.{SpellsNumber}
 use Rattle.wc_names.specs.Views.{ImportView, PayloadTypeView, PayloadView, async_value, exported_task_return, typed}
 use Rattle.wc_names.specs.WitIntrinsics.{IsWitIntrinsic, WitIntrinsic, no_task_return, of_async_value, of_resource, resource_row, task_cancel, task_return}

@@ -5,14 +5,14 @@ use Rattle.std.specs.Option.{option_map}
 use Rattle.std.proofs.lemmas.List.{append_cancel_left}
 use Rattle.wc_resolve.specs.Futures.{function_futures}
 use Rattle.wc_resolve.specs.Views.{FunctionView, WorldView}
-use Rattle.wc_resolve.specs.World.{ResolveView}
+use Rattle.wc_resolve.specs.Kinds.{ResolveView}
 use Rattle.wc_names.specs.declared.async_values.AsyncValue.{AsyncValue}
 use Rattle.wc_names.specs.declared.async_values.Operation.{Operation}
 use Rattle.wc_names.specs.declared.imports.Import.{Import}
 use Rattle.wc_names.specs.AsyncValues.{IsAsyncValueName, IsOwnNameImport, IsPayloadType, NamesAsyncImport, async_value_name, operation_row, unit_text}
 use Rattle.wc_names.specs.Finds.{Finds}
 use Rattle.wc_names.specs.Keys.{Scope, function_named, scope_key}
-use Rattle.wc_names.specs.Schemes.{legacy, lowered_name}
+use Rattle.wc_names.specs.Mangling.{legacy, lowered_name}
 use Rattle.wc_names.specs.Texts.{Lacks, SpellsNumber}
 use Rattle.wc_names.specs.Views.{ImportView, PayloadTypeView, PayloadView, async_value, import_view, typed}
 use Rattle.wc_names.proofs.AsyncValueLemmas.{name_unique, not_async_lower}
@@ -53,16 +53,6 @@ module _ (r : ResolveView) (w : WorldView) (imported : Bool) (scope : Scope) whe
   pub no_parts : (name : List ℕ) (a : Bool) → ((v : AsyncValue) (op : Operation) (which f : List ℕ) → Lacks 93 which → ¬ (name ≡ async_value_name v op which f))
       → (i : ImportView) → ¬ IsOwnNameImport r w imported scope name a i
   no_parts name a none i h = none h.0 h.1 h.3.which h.3.function h.3.which_ends (sym h.4 ∙ h.3.is_own_name)
-
-  pub not_lowered : (name which f : List ℕ) (v : AsyncValue) (op : Operation) (a : Bool) → name ≡ async_value_name v op which f → Lacks 93 which → a ≡ true
-      → (operation_row v op).may_be_lowered ≡ false
-      → (i : ImportView) → ¬ IsOwnNameImport r w imported scope name a i
-  not_lowered name which f v op a is ends lowered refused i h =
-      let same = name_unique h.0 v h.1 op h.3.which which h.3.function f h.3.which_ends ends (sym h.3.is_own_name ∙ (h.4 ∙ is)) in
-      let may : (operation_row v op).may_be_lowered ≡ true =
-      subst (λ (z : AsyncValue). (operation_row z op).may_be_lowered ≡ true) same.0
-      (subst (λ (z : Operation). (operation_row h.0 z).may_be_lowered ≡ true) same.1 (h.3.may_be_lowered lowered)) in
-      let e : true ≡ false = sym may ∙ refused in let bad : ⊥ = cc e in bad
 
   pub no_type : (name which f : List ℕ) (v : AsyncValue) (op : Operation) (a : Bool) → name ≡ async_value_name v op which f → Lacks 93 which
       → ((ty : PayloadTypeView) → ¬ IsPayloadType r w imported scope v which f ty)

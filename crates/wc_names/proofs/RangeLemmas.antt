@@ -12,7 +12,7 @@ use Rattle.wc_resolve.specs.Roots.{passed_roots}
 use Rattle.wc_resolve.specs.TypeRules.{repeated, value_by_rule}
 use Rattle.wc_resolve.specs.Views.{FunctionView, InterfaceView, ItemView, KeyView, KindView, PackageNameView, TypeView, WorldView, function_item, future_kind, interface_item, interface_key, plain_key, resource_kind, stream_kind, type_item}
 use Rattle.wc_resolve.specs.WellFormed.{IsUsable, IsWellFormed}
-use Rattle.wc_resolve.specs.World.{ResolveView, kind_at}
+use Rattle.wc_resolve.specs.Kinds.{ResolveView, kind_at}
 use Rattle.wc_resolve.proofs.WellFormedLemmas.{IsUsableItem, export_functions_usable, import_functions_usable, interface_functions_usable, package_interfaces_in, all_get}
 use Rattle.wc_adapters.specs.Entries.{Entries}
 use Rattle.wc_names.specs.First.{FirstOf}
@@ -20,7 +20,7 @@ use Rattle.wc_names.specs.Interfaces.{FoundInterface, IsCanonicalEntry, IsEntryO
 use Rattle.wc_names.specs.Keys.{as_function, as_interface, function_at, if_resource, item_under, key_eq, resource_at, world_entries}
 use Rattle.wc_maps.specs.Names.{under_name}
 use Rattle.wc_names.specs.Payloads.{HasPayload}
-use Rattle.wc_names.specs.Schemes.{Scheme, legacy, standard}
+use Rattle.wc_names.specs.Mangling.{Scheme, legacy, standard}
 use Rattle.wc_names.specs.Views.{typed}
 use Rattle.wc_names.proofs.KeyLemmas.{item_in_range, lookup_passes}
 

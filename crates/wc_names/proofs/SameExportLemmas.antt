@@ -6,11 +6,11 @@ use Rattle.std.proofs.lemmas.Bool.{or_parts}
 use Rattle.wc_read.specs.Types.{FuncTypeValue, names_type, names_types}
 use Rattle.wc_resolve.specs.declared.functions.AbiVariant.TheVariants.{GuestExport}
 use Rattle.wc_resolve.specs.Views.{FunctionView, KeyView}
-use Rattle.wc_resolve.specs.World.{ResolveView}
+use Rattle.wc_resolve.specs.Kinds.{ResolveView}
 use Rattle.wc_names.specs.SameButIndices.{AreSameButIndices}
 use Rattle.wc_names.specs.Exports.{ClassifiedExport, CoreExport, ExportKind, ExportMeaning, ExportRule, IsExportKind, IsExportRule, any_type, by_export_scheme, callback, destructor, export_rules, function, function_table, initializer, memory, post_return, post_return_type, realloc, task_hook}
 use Rattle.wc_names.specs.Imports.{ExternType, NameScope, function_type}
-use Rattle.wc_names.specs.Schemes.{Scheme}
+use Rattle.wc_names.specs.Mangling.{Scheme}
 use Rattle.wc_names.proofs.SameMeaningLemmas.{function_plain}
 use Rattle.wc_names.proofs.SameButIndicesLemmas.{of_same_function, of_same_memory, of_same_table}
 use Rattle.wc_names.proofs.SearchLemmas.{first_carried, first_kind}

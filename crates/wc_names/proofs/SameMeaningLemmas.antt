@@ -13,9 +13,9 @@ use Rattle.wc_resolve.specs.declared.flat.WasmType.{WasmType}
 use Rattle.wc_resolve.specs.declared.flat.WasmType.TheVariants as flat
 use Rattle.wc_resolve.specs.declared.functions.AbiVariant.{AbiVariant}
 use Rattle.wc_resolve.specs.Flat.{flat_of}
-use Rattle.wc_resolve.specs.Signatures.{SignatureView, flatten_functype}
+use Rattle.wc_resolve.specs.Signature.{SignatureView, flatten_functype}
 use Rattle.wc_resolve.specs.Views.{FunctionView, WorldView}
-use Rattle.wc_resolve.specs.World.{ResolveView}
+use Rattle.wc_resolve.specs.Kinds.{ResolveView}
 use Rattle.wc_names.specs.declared.async_values.AsyncValue.{AsyncValue}
 use Rattle.wc_names.specs.declared.async_values.AsyncValue.TheVariants.{Future, Stream}
 use Rattle.wc_names.specs.declared.async_values.Operation.{Operation}
@@ -27,7 +27,7 @@ use Rattle.wc_names.specs.Environment.{EnvironmentFunction, NamesEnvironment, en
 use Rattle.wc_names.specs.Imports.{Classified, CoreFunction, CoreImport, ExternType, IsFunction, IsKind, IsRule, Kind, Rule, NameScope, adapter_function, adapter_meaning, by_scheme, environment, export_intrinsic, export_other_name, export_root_intrinsic, export_unknown, extern_kind, function_type, interface_function, interface_intrinsic, interface_other_name, interface_unknown, main_item, main_memory, not_function, root_builtin, root_function, root_intrinsic, root_other_item, root_unknown, rules, scope_of, signature_type, val_type, without_prefix}
 use Rattle.wc_names.specs.Keys.{Scope, world_scope}
 use Rattle.wc_names.specs.Meanings.{Meaning, means, refuses, typed_reference}
-use Rattle.wc_names.specs.Schemes.{ResourceOperation, Scheme, legacy, resource_drop, resource_new, resource_rep, standard}
+use Rattle.wc_names.specs.Mangling.{ResourceOperation, Scheme, legacy, resource_drop, resource_new, resource_rep, standard}
 use Rattle.wc_names.specs.Texts.{IsOneOf}
 use Rattle.wc_names.specs.Views.{Builtin, ImportView, adapter_export, context_get, context_set, main_module_export, waitable_set_poll, waitable_set_wait}
 use Rattle.wc_names.specs.WitIntrinsics.{IsWitIntrinsic, WitIntrinsic, no_task_return, of_async_value, of_resource, resource_row, task_cancel, task_return}

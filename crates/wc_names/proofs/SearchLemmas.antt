@@ -7,10 +7,6 @@ pub record IsFirstInRest {K O : Type 0} (H : K → O → Type 0) (all rest : Lis
   pub from_rest : (o : O) → FirstOf H rest o → FirstOf H all o
   pub to_rest : (o : O) → FirstOf H all o → FirstOf H rest o
 
--- the rest is all
-pub rest_is_all : {K O : Type 0} (H : K → O → Type 0) (all : List K) → IsFirstInRest H all all
-rest_is_all H all = record { from_rest = λ o f. f; to_rest = λ o f. f }
-
 -- the rest after a kind that holds of nothing
 pub rest_after : {K O : Type 0} (H : K → O → Type 0) (all rest : List K) (k : K) → IsFirstInRest H all (k ∷ rest) → ((o : O) → ¬ H k o)
     → IsFirstInRest H all rest

@@ -8,10 +8,10 @@ use Rattle.wc_read.specs.Types.{FuncTypeValue}
 use Rattle.wc_resolve.specs.Characters.{hyphen, opening_bracket, closing_bracket}
 use Rattle.wc_resolve.specs.Futures.{function_futures}
 use Rattle.wc_resolve.specs.Views.{FunctionView, WorldView}
-use Rattle.wc_resolve.specs.World.{ResolveView}
+use Rattle.wc_resolve.specs.Kinds.{ResolveView}
 use Rattle.wc_names.specs.Builtins.{signature}
 use Rattle.wc_names.specs.Keys.{Scope, scope_key, function_named}
-use Rattle.wc_names.specs.Schemes.{Scheme, standard, legacy, lowered_name}
+use Rattle.wc_names.specs.Mangling.{Scheme, standard, legacy, lowered_name}
 use Rattle.wc_names.specs.Texts.{Lacks, SpellsNumber}
 use Rattle.wc_names.specs.declared.async_values.AsyncValue.{AsyncValue}
 use Rattle.wc_names.specs.declared.async_values.AsyncValue.TheVariants.{Future, Stream}

@@ -7,7 +7,7 @@ use Rattle.wc_names.specs.declared.async_values.AsyncValue.{AsyncValue}
 use Rattle.wc_names.specs.declared.payloads.PayloadLookupContext.{PayloadLookupContext}
 use Rattle.wc_names.specs.AsyncValues.{IsOwnNameImport, IsPayloadType, NamesAsyncImport}
 use Rattle.wc_names.specs.Keys.{Scope}
-use Rattle.wc_names.specs.Schemes.{Scheme}
+use Rattle.wc_names.specs.Mangling.{Scheme}
 use Rattle.wc_names.specs.Views.{ImportView, PayloadTypeView}
 
 -- the key and the interface of a context

@@ -4,7 +4,7 @@ use Rattle.std.specs.Option.{option_and_then}
 use Rattle.wc_read.specs.declared.types.ValType.{ValType}
 use Rattle.wc_read.specs.Types.{FuncTypeValue, type_index}
 use Rattle.wc_names.specs.Meanings.{Meaning, means, refuses, typed_reference}
-use Rattle.wc_names.specs.Schemes.{Scheme, standard, legacy}
+use Rattle.wc_names.specs.Mangling.{Scheme, standard, legacy}
 use Rattle.wc_names.specs.Views.{ImportView, builtin, context_get, context_set, tls_base_get, tls_base_set}
 
 abbrev pub environment_module : List ℕ

@@ -7,9 +7,9 @@ use Rattle.std.specs.Str.{bytes_eq}
 use Rattle.semver.specs.Identifiers.{parts_text}
 use Rattle.wc_resolve.specs.Characters.{hash_sign}
 use Rattle.wc_resolve.specs.Names.{track}
-use Rattle.wc_resolve.specs.Queries.{core_name, key_text}
+use Rattle.wc_resolve.specs.Resolve.{core_name, key_text}
 use Rattle.wc_resolve.specs.Views.{KeyView, plain_key, FunctionView, InterfaceView, WorldView}
-use Rattle.wc_resolve.specs.World.{ResolveView}
+use Rattle.wc_resolve.specs.Kinds.{ResolveView}
 use Rattle.wc_adapters.specs.Entries.{Entries}
 use Rattle.wc_names.specs.declared.export_names.ExportSyntax.{ExportSyntax}
 use Rattle.wc_names.specs.declared.export_names.ExportSyntax.TheVariants.{Standard, Legacy}
@@ -17,7 +17,7 @@ use Rattle.wc_names.specs.First.{FirstOf}
 use Rattle.wc_names.specs.Interfaces.{FoundInterface}
 use Rattle.wc_names.specs.Keys.{as_function, as_interface, item_under, resource_at}
 use Rattle.wc_maps.specs.Names.{under_name}
-use Rattle.wc_names.specs.Schemes.{Scheme, standard, legacy}
+use Rattle.wc_names.specs.Mangling.{Scheme, standard, legacy}
 use Rattle.wc_names.specs.Texts.{Lacks}
 
 abbrev pub export_syntax : Scheme → ExportSyntax

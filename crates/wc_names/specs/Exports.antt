@@ -8,13 +8,13 @@ use Rattle.wc_read.specs.Types.{FuncTypeValue}
 use Rattle.wc_resolve.specs.declared.functions.AbiVariant.{AbiVariant}
 use Rattle.wc_resolve.specs.declared.functions.AbiVariant.TheVariants.{GuestExport, GuestExportAsync, GuestExportAsyncStackful}
 use Rattle.wc_resolve.specs.Views.{KeyView, FunctionView}
-use Rattle.wc_resolve.specs.World.{ResolveView}
+use Rattle.wc_resolve.specs.Kinds.{ResolveView}
 use Rattle.wc_names.specs.Builtins.{signature}
 use Rattle.wc_names.specs.ExportNames.{ExportTarget, NamesDestructor, NamesFunctionExport, export_syntax}
 use Rattle.wc_names.specs.ExportViews.{ExportView, exported_func, exported_func_callback, exported_func_post_return, exported_interface_func, exported_interface_func_callback, exported_interface_func_post_return, exported_memory, general_purpose_export_realloc, general_purpose_import_realloc, general_purpose_realloc, indirect_function_table, initialize, realloc_for_adapter, resource_dtor, wasm_task_hook}
 use Rattle.wc_names.specs.First.{FirstOf}
 use Rattle.wc_names.specs.Imports.{ExternType, NameScope, func_type, function_type, memory_type, table_type}
-use Rattle.wc_names.specs.Schemes.{Scheme, standard, legacy, marker, function_table_name, initialize_name, memory_name, realloc_name, task_hook_name, NamesAsyncLift, NamesCallback, NamesPostReturn, NamesStackfulLift}
+use Rattle.wc_names.specs.Mangling.{Scheme, standard, legacy, marker, function_table_name, initialize_name, memory_name, realloc_name, task_hook_name, NamesAsyncLift, NamesCallback, NamesPostReturn, NamesStackfulLift}
 
 -- an export of a core module: its name, and the type of what it exports
 pub record CoreExport : Type 0 where

@@ -4,7 +4,7 @@ use Rattle.std.specs.Map.{lookup}
 use Rattle.std.specs.Option.{option_map, option_or, IfSome}
 use Rattle.std.specs.declared.alloc.Global.{Global}
 use Rattle.wc_resolve.specs.Roots.{id_index}
-use Rattle.wc_resolve.specs.World.{ResolveView}
+use Rattle.wc_resolve.specs.Kinds.{ResolveView}
 use Rattle.wc_names.specs.declared.export_names.ExportSyntax.{ExportSyntax}
 use Rattle.wc_names.specs.declared.export_names.ExportSyntax.TheVariants.{Legacy}
 use Rattle.wc_names.specs.declared.first_members.FirstMembers.{FirstMembers}

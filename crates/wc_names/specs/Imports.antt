@@ -14,16 +14,16 @@ use Rattle.wc_resolve.specs.declared.functions.AbiVariant.TheVariants.{GuestImpo
 use Rattle.wc_resolve.specs.declared.flat.WasmType.{WasmType}
 use Rattle.wc_resolve.specs.declared.flat.WasmType.TheVariants as flat
 use Rattle.wc_resolve.specs.Flat.{flat_of}
-use Rattle.wc_resolve.specs.Signatures.{SignatureView, flatten_functype}
+use Rattle.wc_resolve.specs.Signature.{SignatureView, flatten_functype}
 use Rattle.wc_resolve.specs.Views.{plain_key, FunctionView, WorldView}
-use Rattle.wc_resolve.specs.World.{ResolveView}
+use Rattle.wc_resolve.specs.Kinds.{ResolveView}
 use Rattle.wc_names.specs.Builtins.{signature, NamesBuiltin, builtin_type, builtin_import}
 use Rattle.wc_names.specs.Environment.{environment_meaning, environment_module, NamesEnvironment}
 use Rattle.wc_names.specs.First.{FirstOf}
 use Rattle.wc_names.specs.Interfaces.{FoundInterface, NamesInterface}
 use Rattle.wc_names.specs.Keys.{Scope, world_scope, interface_scope, item_under, function_named}
 use Rattle.wc_names.specs.Meanings.{not_a_function, no_root_import, root_not_function, bad_syntax, unknown_interface, unknown_intrinsic, missing_function, typed_reference, Meaning, means, refuses}
-use Rattle.wc_names.specs.Schemes.{Scheme, standard, legacy, marker, root_module, interface_prefix, export_prefix, NamesFunction}
+use Rattle.wc_names.specs.Mangling.{Scheme, standard, legacy, marker, root_module, interface_prefix, export_prefix, NamesFunction}
 use Rattle.wc_names.specs.Views.{Builtin, ImportView, world_func, interface_func, adapter_export, main_module_memory, main_module_export}
 use Rattle.wc_names.specs.WitIntrinsics.{WitIntrinsic, wit_intrinsics, IsWitIntrinsic}
 

@@ -8,9 +8,9 @@ use Rattle.std.specs.Str.{bytes_eq}
 use Rattle.std.specs.declared.alloc.Global.{Global}
 use Rattle.wc_resolve.specs.declared.ids.InterfaceId.{InterfaceId}
 use Rattle.wc_resolve.specs.Names.{track}
-use Rattle.wc_resolve.specs.Queries.{VersionView, qualified_name}
+use Rattle.wc_resolve.specs.Resolve.{VersionView, qualified_name}
 use Rattle.wc_resolve.specs.Views.{ItemView, KeyView, PackageNameView}
-use Rattle.wc_resolve.specs.World.{ResolveView}
+use Rattle.wc_resolve.specs.Kinds.{ResolveView}
 use Rattle.wc_adapters.specs.Entries.{Entries}
 use Rattle.wc_names.specs.declared.interface_index.TrackName.{TrackName}
 use Rattle.wc_names.specs.declared.interface_index.IdIndex.{IdIndex}

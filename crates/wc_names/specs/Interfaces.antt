@@ -4,18 +4,18 @@ use Rattle.std.specs.Option.{IfSome, IsSome, option_and_then, option_map}
 use Rattle.semver.specs.Grammar.{IsValid}
 use Rattle.semver.specs.Identifiers.{parts_text}
 use Rattle.wc_resolve.specs.Characters.{slash, colon, at_sign}
-use Rattle.wc_resolve.specs.Queries.{VersionView, member_text, canonical_id, qualified_name}
+use Rattle.wc_resolve.specs.Resolve.{VersionView, member_text, canonical_id, qualified_name}
 use Rattle.wc_resolve.specs.Views.{PackageNameView, KeyView, key_view, plain_key, interface_key, ItemView, interface_item, InterfaceView, PackageView}
 use Rattle.wc_names.specs.Texts.{Lacks}
 use Rattle.wc_resolve.specs.declared.ids.InterfaceId.{InterfaceId}
 use Rattle.wc_resolve.specs.declared.worlds.WorldKey.{WorldKey}
 use Rattle.wc_resolve.specs.Names.{track}
-use Rattle.wc_resolve.specs.World.{ResolveView}
+use Rattle.wc_resolve.specs.Kinds.{ResolveView}
 use Rattle.wc_adapters.specs.Entries.{Entries}
 use Rattle.wc_names.specs.First.{FirstOf}
 use Rattle.wc_names.specs.Keys.{as_interface, item_under}
 use Rattle.wc_maps.specs.Names.{under_name}
-use Rattle.wc_names.specs.Schemes.{Scheme, standard, legacy}
+use Rattle.wc_names.specs.Mangling.{Scheme, standard, legacy}
 use Rattle.std.specs.declared.alloc.AllocError.{AllocError}
 use Rattle.wc_names.specs.Finds.{Finds}
 

@@ -4,7 +4,7 @@ use Rattle.std.specs.Map.{lookup}
 use Rattle.std.specs.Option.{option_and_then}
 use Rattle.std.specs.Str.{bytes_eq}
 use Rattle.wc_resolve.specs.Views.{KindView, resource_kind, KeyView, plain_key, interface_key, ItemView, interface_item, function_item, type_item, FunctionView, InterfaceView, WorldView}
-use Rattle.wc_resolve.specs.World.{ResolveView, kind_at}
+use Rattle.wc_resolve.specs.Kinds.{ResolveView, kind_at}
 use Rattle.wc_adapters.specs.Entries.{Entries}
 use Rattle.wc_maps.specs.Names.{under_name}
 

@@ -1,7 +1,7 @@
 pub mod First
 pub mod Finds
 pub mod Texts
-pub mod Schemes
+pub mod Mangling
 pub mod Views
 pub mod Builtins
 pub mod Payloads

@@ -2,7 +2,7 @@
 use Rattle.std.specs.Prelude.{◌≡◌, ◌⊎◌, Option, Some, None}
 use Rattle.wc_resolve.specs.declared.types.WitType.{WitType}
 use Rattle.wc_resolve.specs.Views.{future_kind, stream_kind}
-use Rattle.wc_resolve.specs.World.{ResolveView, kind_at}
+use Rattle.wc_resolve.specs.Kinds.{ResolveView, kind_at}
 use Rattle.wc_names.specs.Views.{PayloadTypeView, typed, unit_future, unit_stream}
 
 -- the type is a future or a stream that carries this, or nothing

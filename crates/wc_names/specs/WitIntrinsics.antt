@@ -4,12 +4,12 @@ use Rattle.std.specs.Prelude.{◌≡◌, ℕ, List, [], ◌∷◌, Bool, true, f
 use Rattle.wc_read.specs.declared.types.ValType.TheVariants.{I32}
 use Rattle.wc_read.specs.Types.{FuncTypeValue}
 use Rattle.wc_resolve.specs.Views.{FunctionView, KeyView, WorldView}
-use Rattle.wc_resolve.specs.World.{ResolveView}
+use Rattle.wc_resolve.specs.Kinds.{ResolveView}
 use Rattle.wc_names.specs.AsyncValues.{NamesAsyncValue, operation_row}
 use Rattle.wc_names.specs.Builtins.{signature}
 use Rattle.wc_names.specs.Keys.{Scope, scope_key, resource_named, function_named}
 use Rattle.wc_names.specs.Meanings.{Meaning, means, refuses, no_such_export}
-use Rattle.wc_names.specs.Schemes.{Scheme, ResourceOperation, resource_drop, resource_new, resource_rep, NamesResource, NamesTaskReturn, NamesTaskCancel}
+use Rattle.wc_names.specs.Mangling.{Scheme, ResourceOperation, resource_drop, resource_new, resource_rep, NamesResource, NamesTaskReturn, NamesTaskCancel}
 use Rattle.wc_names.specs.declared.async_values.AsyncValue.{AsyncValue}
 use Rattle.wc_names.specs.declared.async_values.Operation.{Operation}
 use Rattle.wc_names.specs.Views.{PayloadView, ImportView, imported_resource_drop, exported_resource_drop, exported_resource_new, exported_resource_rep, exported_task_return, exported_task_cancel, async_value}

@@ -9,7 +9,7 @@ ghost use Rattle.wc_names.specs.Views.{keyed_view};
 ghost use Rattle.wc_names.specs.InterfaceIndex.{IsKeyOf, KeepsFirst, with_first, IsCloneEntry, IsTrackEntry, is_text, track_name_in, track_name_view, IsIdIndex, interface_names_view, KeepsClones, KeepsTracks};
 ghost use Rattle.wc_names.specs.Interfaces.{IsCanonicalEntry, under_own_key, IsAbout, IsCloneOf, IsEntryOf, IsIdMatch, IsTextMatch, canonical_ids, found_interface, full_ids, id_matches, text_matches, IsFirstOnTrack, FindsOwnKey};
 ghost use Rattle.std.specs.Map.{lookup};
-ghost use Rattle.wc_resolve.specs.World.{ResolveView};
+ghost use Rattle.wc_resolve.specs.Kinds.{ResolveView};
 ghost use Rattle.wc_adapters.specs.Entries.{Entries};
 ghost use Rattle.wc_names.specs.Finds.{Finds};
 ghost use Rattle.wc_names.specs.First.{FirstOf};

@@ -4,7 +4,7 @@
 ghost use Rattle.std.specs.Prelude.{ℕ, List, IfOk, MatchOption, ◌↔◌, ◌<◌, All, IsTrue, length, map};
 ghost use Rattle.std.specs.Option.{option_map};
 ghost use Rattle.semver.specs.Identifiers.{parts_of};
-ghost use Rattle.wc_resolve.specs.Queries.{VersionView};
+ghost use Rattle.wc_resolve.specs.Resolve.{VersionView};
 ghost use Rattle.wc_resolve.specs.Views.{PackageNameView, package_name_view, item_view, key_view, world_entry};
 ghost use Rattle.wc_names.specs.Finds.{Finds};
 ghost use Rattle.wc_names.specs.Interfaces.{IsIdText, IsVersionText, AreOnSameTrack, IsCanonicalEntry, IsCloneOf, IsEntryOf, IsIdMatch, IsMemberOf, IsOnTrack, IsTextMatch, IsTrackOf, found_interface, id_matches, text_matches, under_own_key, IsFirstOnTrack, FindsOwnKey};

@@ -2,7 +2,7 @@
 
 ghost use Rattle.std.specs.Prelude.{[]};
 ghost use Rattle.wc_names.specs.Imports.{NamesFunctionAs};
-ghost use Rattle.wc_names.specs.Schemes.{legacy};
+ghost use Rattle.wc_names.specs.Mangling.{legacy};
 
 use crate::environment::environment_import;
 use crate::interfaces::legacy_interface;
@@ -39,7 +39,7 @@ fn function_name(name: &str) -> (&str, AbiVariant)
 }
 
 impl<'h> NameMangling for Legacy<'h> {
-    ghost use Rattle.wc_names.specs.Schemes.{legacy};
+    ghost use Rattle.wc_names.specs.Mangling.{legacy};
 
     ghost scheme = { λ l. legacy l.task_hook.now };
 

@@ -17,7 +17,7 @@ ghost use Rattle.wc_names.specs.Finds.{Finds};
 ghost use Rattle.wc_names.specs.Imports.{NamesFunctionAs};
 ghost use Rattle.wc_names.specs.InterfaceIndex.{interface_names_view};
 ghost use Rattle.wc_names.specs.Interfaces.{NamesInterface, found_interface, interface_texts};
-ghost use Rattle.wc_names.specs.Schemes.{export_prefix, function_table_name, initialize_name, interface_prefix, memory_name, realloc_name, root_module, task_hook_name, NamesAsyncLift, NamesCallback, NamesPostReturn, NamesResource, NamesStackfulLift, NamesTaskCancel, NamesTaskReturn, resource_drop, resource_new, resource_rep};
+ghost use Rattle.wc_names.specs.Mangling.{export_prefix, function_table_name, initialize_name, interface_prefix, memory_name, realloc_name, root_module, task_hook_name, NamesAsyncLift, NamesCallback, NamesPostReturn, NamesResource, NamesStackfulLift, NamesTaskCancel, NamesTaskReturn, resource_drop, resource_new, resource_rep};
 ghost use Rattle.wc_names.specs.Contexts.{NamesImportIn};
 ghost use Rattle.wc_names.specs.Views.{Builtin, import_view, backpressure_dec, backpressure_inc, context_get, context_set, error_context_debug_message, error_context_drop, error_context_new, subtask_cancel, subtask_drop, waitable_join, waitable_set_drop, waitable_set_new, waitable_set_poll, waitable_set_wait};
 
@@ -41,7 +41,7 @@ pub struct MaybeAsyncLowered<T> {
 /// A naming scheme: what the names of a core module's imports and exports mean. Each function knows one kind of names;
 /// which of several kinds a name is of, is not decided here. What a scheme has no names for is `None` or false.
 pub trait NameMangling {
-    ghost use Rattle.wc_names.specs.Schemes.{Scheme};
+    ghost use Rattle.wc_names.specs.Mangling.{Scheme};
 
     ghost scheme: { Self → Scheme };
 

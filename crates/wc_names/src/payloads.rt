@@ -9,7 +9,7 @@ ghost use Rattle.wc_names.specs.AsyncValues.{operation_row, unit_type};
 ghost use Rattle.wc_names.specs.Contexts.{context_scope, IsOwnNameImportIn, IsPayloadTypeIn, NamesImportIn};
 ghost use Rattle.wc_names.specs.Finds.{Finds};
 ghost use Rattle.wc_names.specs.Keys.{function_named, resource_named, scope_key, type_named};
-ghost use Rattle.wc_names.specs.Schemes.{legacy};
+ghost use Rattle.wc_names.specs.Mangling.{legacy};
 ghost use Rattle.wc_names.specs.Views.{async_value, import_view, payload_type_view, payload_view};
 
 use crate::async_values::{AsyncValue, AsyncValueName, Operation, name_parts};

@@ -20,7 +20,7 @@ use wc_resolve::{
 pub struct Standard;
 
 impl NameMangling for Standard {
-    ghost use Rattle.wc_names.specs.Schemes.{standard};
+    ghost use Rattle.wc_names.specs.Mangling.{standard};
 
     ghost scheme = { λ _. standard };
 

@@ -7,12 +7,12 @@ use Rattle.wc_world.specs.Views.{ComponentWorldView}
 use Rattle.wc_world.specs.World.{IsWorldOf}
 use Rattle.wc_world.specs.declared.fault.WorldFault.{WorldFault}
 use Rattle.wc_world.specs.declared.fault.WorldFault.TheVariants.{Memory as world_memory, Main, Adapter, Trim, Minimized, PageSize}
-use Rattle.wc_plan.specs.EncoderFaults.{ForWorlds, IsEncoderFault, IsFaultWith, of_world}
-use Rattle.wc_plan.specs.Faults.{HasNoFault, IsFaultNamed, IsFirstFault, UseFault, no_lowering, no_memory, no_realloc}
+use Rattle.wc_plan.specs.Encoder.{ForWorlds, IsEncoderFault, IsFaultWith, of_world}
+use Rattle.wc_plan.specs.Fault.{HasNoFault, IsFaultNamed, IsFirstFault, UseFault, no_lowering, no_memory, no_realloc}
 use Rattle.wc_plan.specs.Laws.{IsSameWorld}
 use Rattle.wc_uses.specs.PlanViews.{plan_view}
 use Rattle.wc_plan.specs.Plans.{plan_of}
-use Rattle.wc_plan.specs.Progress.{IsPlanFault}
+use Rattle.wc_plan.specs.Planner.{IsPlanFault}
 use Rattle.wc_plan.specs.declared.fault.PlanFault.{PlanFault}
 use Rattle.wc_plan.specs.declared.fault.PlanFault.TheVariants.{Memory, World}
 use Rattle.wc_uses.specs.declared.uses.Plan.{Plan}

@@ -2,7 +2,7 @@
 use Rattle.std.proofs.Common.{◌≡◌, ◌∷◌, ◌++◌, All, Some, None, sym, ◌∙◌, subst}
 use Rattle.std.proofs.lemmas.List.Elements.{All-head}
 use Rattle.wc_world.specs.Views.{ComponentWorldView}
-use Rattle.wc_plan.specs.Faults.{HasNoFault, IsFirstFault, IsServable}
+use Rattle.wc_plan.specs.Fault.{HasNoFault, IsFirstFault, IsServable}
 use Rattle.wc_plan.specs.declared.fault.PlanFault.{PlanFault}
 use Rattle.wc_world.proofs.PairListLemmas.{all_back}
 

@@ -4,7 +4,7 @@ use Rattle.std.specs.Prelude.{◌&&◌, is_none, not}
 use Rattle.std.specs.List.{cons_option, filter_map, flat_map}
 use Rattle.std.specs.Option.{IsSome, option_map}
 use Rattle.std.proofs.lemmas.List.Elements.{All-append, All-cons, All-filter, All-head, All-nil, All-tail, All-weaker}
-use Rattle.wc_resolve.specs.World.{ResolveView}
+use Rattle.wc_resolve.specs.Kinds.{ResolveView}
 use Rattle.wc_names.specs.Views.{ImportView, interface_func, world_func}
 use Rattle.wc_validate.specs.Exports.Map.{ExportRecord}
 use Rattle.wc_validate.specs.Imports.Map.{imports_in}
@@ -13,10 +13,10 @@ use Rattle.wc_world.specs.Options.{memory_flag, realloc_flag}
 use Rattle.wc_world.specs.Slots.{all_imports, imports_of}
 use Rattle.wc_world.specs.Views.{ComponentWorldView, ImportMapView, LoweringView, NamedWorldAdapter}
 use Rattle.wc_plan.specs.Calls.{IsNameable, Wanted, all_wanted, call_eq, call_of, firsts, wanted, wanted_by}
-use Rattle.wc_plan.specs.Faults.{AreNameable, IsFaultNamed, IsFirstFault, UseFault, lowered_fault, no_lowering, no_memory, no_realloc}
-use Rattle.wc_plan.specs.EncoderFaults.{IsLowered}
+use Rattle.wc_plan.specs.Fault.{AreNameable, IsFaultNamed, IsFirstFault, UseFault, lowered_fault, no_lowering, no_memory, no_realloc}
+use Rattle.wc_plan.specs.Encoder.{IsLowered}
 use Rattle.wc_plan.specs.Plans.{has_memory, import_realloc, lowering_of, needs}
-use Rattle.wc_plan.specs.Progress.{IsPlanFault}
+use Rattle.wc_plan.specs.Planner.{IsPlanFault}
 use Rattle.wc_uses.specs.Views.{CallView, OwnerView, adapter_owner, main_owner}
 use Rattle.wc_plan.specs.declared.fault.PlanFault.{PlanFault}
 use Rattle.wc_plan.specs.declared.fault.PlanFault.TheVariants.{NoLowering}

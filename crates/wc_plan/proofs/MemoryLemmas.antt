@@ -7,7 +7,7 @@ use Rattle.wc_read.specs.declared.types.MemoryType.{MemoryType}
 use Rattle.wc_names.specs.ExportViews.{ExportView, exported_memory}
 use Rattle.wc_validate.specs.Exports.Map.{ExportRecord, first_that, is_memory, memory_of}
 use Rattle.wc_validate.specs.Imports.Map.{memory_in}
-use Rattle.wc_validate.specs.Validated.{ModuleRecord}
+use Rattle.wc_validate.specs.Validate.{ModuleRecord}
 use Rattle.wc_plan.specs.Plans.{has_memory}
 
 -- the first export that is a memory has a name and a type

@@ -10,14 +10,14 @@ use Rattle.std.proofs.lemmas.List.Elements.{All-nil, All-push}
 use Rattle.std.proofs.lemmas.List.{map-append}
 use Rattle.indexmap.specs.IndexSet.{insert_key}
 use Rattle.wc_resolve.specs.contracts.functions.AbiVariantPartialEq.TheImpl.{eq-value as same_abi}
-use Rattle.wc_resolve.specs.World.{ResolveView}
+use Rattle.wc_resolve.specs.Kinds.{ResolveView}
 use Rattle.wc_names.specs.Views.{ImportView}
 use Rattle.wc_validate.specs.Exports.Map.{ExportRecord}
 use Rattle.wc_world.specs.Views.{ComponentWorldView}
 use Rattle.wc_plan.specs.Calls.{Wanted, all_wanted, call_eq, call_of, owner_eq}
-use Rattle.wc_plan.specs.Faults.{HasNoFault, IsFaultNamed, IsFirstFault, IsServable, UseFault, fault_of}
+use Rattle.wc_plan.specs.Fault.{HasNoFault, IsFaultNamed, IsFirstFault, IsServable, UseFault, fault_of}
 use Rattle.wc_plan.specs.Plans.{is_lowered_indirect, plan_of, use_of, uses_from}
-use Rattle.wc_plan.specs.Progress.{Call, IsCallFault, IsPlanFault, Progress, is_seen, left, owner_in, seen_view, wanted_call, wanted_import}
+use Rattle.wc_plan.specs.Planner.{Call, IsCallFault, IsPlanFault, Progress, is_seen, left, owner_in, seen_view, wanted_call, wanted_import}
 use Rattle.wc_uses.specs.PlanViews.{call_view, use_view}
 use Rattle.wc_uses.specs.Views.{CallView, UseView}
 use Rattle.wc_plan.specs.declared.fault.PlanFault.{PlanFault}

@@ -3,7 +3,7 @@ use Rattle.std.proofs.Common.{◌≡◌, ℕ, List, [], ◌∷◌, ◌++◌, All
 use Rattle.std.specs.List.{AllZip, flat_map}
 use Rattle.wc_world.specs.Views.{ComponentWorldView, NamedWorldAdapter}
 use Rattle.wc_plan.specs.Calls.{Wanted, firsts, wanted, wanted_by}
-use Rattle.wc_plan.specs.Faults.{HasNoFault, IsFirstFault, IsServable}
+use Rattle.wc_plan.specs.Fault.{HasNoFault, IsFirstFault, IsServable}
 use Rattle.wc_plan.specs.Laws.{IsSameAdapter, IsSameWorld}
 use Rattle.wc_plan.specs.Plans.{plan_of, use_of, uses_from}
 use Rattle.wc_uses.specs.Views.{UseView, adapter_owner, main_owner}

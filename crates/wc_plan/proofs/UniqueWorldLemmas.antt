@@ -4,17 +4,17 @@ use Rattle.std.specs.Prelude.{IsSome, is_some}
 use Rattle.std.specs.List.{AllZip}
 use Rattle.wc_read.specs.Laws.{HasOneValue}
 use Rattle.wc_read.specs.Modules.{SpellsModule}
-use Rattle.wc_resolve.specs.World.{ResolveView}
+use Rattle.wc_resolve.specs.Kinds.{ResolveView}
 use Rattle.wc_adapters.specs.Adapters.{LibraryView}
 use Rattle.wc_encoder.specs.EncoderParts.{EncoderView, world_exports, world_imports}
 use Rattle.wc_adapters.specs.Entries.{Entries}
 use Rattle.wc_names.specs.Views.{ImportView}
 use Rattle.wc_validate.specs.Imports.Map.{imports_in, memory_in}
 use Rattle.wc_validate.specs.Laws.{RecordsUnique}
-use Rattle.wc_validate.specs.Validated.{IsRecordOf, ModuleRecord, main_input}
-use Rattle.wc_world.specs.Adapters.{NamedAdapter, is_adapter_needed, validation_input_of}
+use Rattle.wc_validate.specs.Validate.{IsRecordOf, ModuleRecord, main_input}
+use Rattle.wc_world.specs.Trimming.{NamedAdapter, is_adapter_needed, validation_input_of}
 use Rattle.wc_world.specs.Live.{by_owner, exports_roots, live_from, live_types, module_roots}
-use Rattle.wc_world.specs.Lowered.{all_entries, lowered, lowerer_of}
+use Rattle.wc_world.specs.Lowering.{all_entries, lowered, lowerer_of}
 use Rattle.wc_world.specs.Options.{OptionsOf}
 use Rattle.wc_world.specs.Slots.{imports_of}
 use Rattle.wc_world.specs.Used.{AreUsed, Used, UsedView}

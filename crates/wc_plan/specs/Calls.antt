@@ -4,13 +4,13 @@ use Rattle.std.specs.List.{filter_map, flat_map}
 use Rattle.std.specs.Option.{IsSome, option_eq, option_map}
 use Rattle.std.specs.Str.{bytes_eq}
 use Rattle.semver.specs.Identifiers.{parts_text}
-use Rattle.wc_resolve.specs.Queries.{key_text}
+use Rattle.wc_resolve.specs.Resolve.{key_text}
 use Rattle.wc_resolve.specs.Ranges.{IsKeyIn}
-use Rattle.wc_resolve.specs.World.{ResolveView}
+use Rattle.wc_resolve.specs.Kinds.{ResolveView}
 use Rattle.wc_names.specs.Views.{ImportView, interface_func, world_func}
 use Rattle.wc_validate.specs.Exports.Map.{ExportRecord}
 use Rattle.wc_validate.specs.Imports.Map.{imports_in}
-use Rattle.wc_validate.specs.Validated.{ModuleRecord}
+use Rattle.wc_validate.specs.Validate.{ModuleRecord}
 use Rattle.wc_world.specs.FunctionsLowered.{abi_eq}
 use Rattle.wc_world.specs.Views.{ComponentWorldView, NamedWorldAdapter}
 use Rattle.wc_uses.specs.Views.{CallView, OwnerView, adapter_owner, main_owner}

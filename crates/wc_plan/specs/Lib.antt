@@ -1,7 +1,7 @@
 pub mod Calls
-pub mod EncoderFaults
-pub mod Faults
+pub mod Encoder
+pub mod Fault
 pub mod Laws
 pub mod Lines
 pub mod Plans
-pub mod Progress
+pub mod Planner

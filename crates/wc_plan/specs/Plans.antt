@@ -4,7 +4,7 @@ use Rattle.std.specs.Int.RustNames.{bit_and}
 use Rattle.std.specs.Option.{option_map_or}
 use Rattle.wc_validate.specs.Exports.Map.{ExportRecord, first_name, first_that, is_import_realloc, is_memory, own_or_general}
 use Rattle.wc_validate.specs.Imports.Map.{memory_in}
-use Rattle.wc_validate.specs.Validated.{ModuleRecord}
+use Rattle.wc_validate.specs.Validate.{ModuleRecord}
 use Rattle.wc_world.specs.FunctionsLowered.{lowering_at}
 use Rattle.wc_world.specs.Options.{realloc_flag}
 use Rattle.wc_world.specs.Views.{ComponentWorldView, LoweringView, direct, indirect, resource_drop}

@@ -1,8 +1,8 @@
 //! Plans of encoders.
 
 ghost use Rattle.std.specs.Prelude.{◌≡◌, IfErr, IfOk};
-ghost use Rattle.wc_plan.specs.EncoderFaults.{ForWorlds, IsEncoderFault, IsFaultWith, IsLowered};
-ghost use Rattle.wc_plan.specs.Faults.{HasNoFault};
+ghost use Rattle.wc_plan.specs.Encoder.{ForWorlds, IsEncoderFault, IsFaultWith, IsLowered};
+ghost use Rattle.wc_plan.specs.Fault.{HasNoFault};
 ghost use Rattle.wc_uses.specs.PlanViews.{plan_view};
 ghost use Rattle.wc_plan.specs.Plans.{plan_of};
 ghost use Rattle.wc_world.specs.Views.{ComponentWorldView};

@@ -50,7 +50,7 @@ impl<T: Drop> From<AllocFailed<T>> for PlanFault {
 }
 
 impl From<WorldFault> for PlanFault {
-    ghost use Rattle.wc_plan.specs.EncoderFaults.{of_world};
+    ghost use Rattle.wc_plan.specs.Encoder.{of_world};
 
     ghost from_gives = { λ f e. e ≡ of_world f };
 

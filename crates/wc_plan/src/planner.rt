@@ -4,15 +4,15 @@ ghost use Rattle.std.specs.Prelude.{◌≡◌, ◌+◌, ◌++◌, ◌∷◌, [],
 ghost use Rattle.std.specs.List.{cons_option};
 ghost use Rattle.std.specs.Option.{option_map};
 ghost use Rattle.wc_names.specs.Views.{import_view};
-ghost use Rattle.wc_validate.specs.Validated.{module_record};
+ghost use Rattle.wc_validate.specs.Validate.{module_record};
 ghost use Rattle.wc_world.specs.Options.{realloc_flag};
 ghost use Rattle.wc_world.specs.WorldViews.{lowering_view, world_view};
 ghost use Rattle.wc_plan.specs.Calls.{IsNameable, all_wanted, wanted_by};
 ghost use Rattle.wc_plan.specs.Plans.{has_memory, import_realloc, needs, plan_of, use_of};
 ghost use Rattle.wc_uses.specs.PlanViews.{call_view, owner_view, plan_view, use_view};
-ghost use Rattle.wc_plan.specs.Faults.{AreNameable, HasNoFault, IsServable};
+ghost use Rattle.wc_plan.specs.Fault.{AreNameable, HasNoFault, IsServable};
 ghost use Rattle.wc_uses.specs.Views.{OwnerView};
-ghost use Rattle.wc_plan.specs.Progress.{AreModuleNameable, IsCallFault, IsContext, IsCounted, IsPlanFault, IsPlanned, Plans, RefusesPlan, owner_in, wanted_by_adapters, wanted_call, wanted_import, world_in};
+ghost use Rattle.wc_plan.specs.Planner.{AreModuleNameable, IsCallFault, IsContext, IsCounted, IsPlanFault, IsPlanned, Plans, RefusesPlan, owner_in, wanted_by_adapters, wanted_call, wanted_import, world_in};
 
 use crate::calls::{Call, call_of};
 use crate::fault::PlanFault;

@@ -18,7 +18,7 @@ mod system;
 pub use fault_texts::{OUT_OF_MEMORY, put_after, put_carried, read_fault_text};
 pub use files::{DirectoryStore, FileStore, ReadProblem, problem_text, read_file};
 pub use output::{Output, Printer};
-pub use printable::{Message, Printable};
+pub use printable::{Printable, TextBetween};
 pub use program::{FAILURE, NoArguments, Program, SUCCESS, WRONG_ARGUMENTS, print, run};
 pub use screen::Screen;
 pub use shell::Shell;

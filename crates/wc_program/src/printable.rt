@@ -30,7 +30,7 @@ impl Printable for &[u8] {
 
 /// A text with bytes before it and after it.
 #[derive(Clone, Copy)]
-pub struct Message<'a, T> {
+pub struct TextBetween<'a, T> {
     /// The bytes before the text.
     pub before: &'a [u8],
     /// The text.
@@ -39,7 +39,7 @@ pub struct Message<'a, T> {
     pub after: &'a [u8],
 }
 
-impl<T: Printable> Printable for Message<'_, T> {
+impl<T: Printable> Printable for TextBetween<'_, T> {
     ghost text = { λ m. m.before.now ++ (T.text m.text.now ++ m.after.now) };
 
     fn put_text<S: Sink>(&self, out: &mut S) -> Result<(), PutFailed> {

@@ -4,11 +4,11 @@ use Rattle.std.specs.Prelude.{nat_lt}
 use Rattle.std.proofs.lemmas.Bool.{false≢true, lt-ltb}
 use Rattle.wc_read.specs.Formats.{Format, SpellsNumber, SpellsItems, SpellsVector, Joined}
 use Rattle.wc_read.specs.Types.{SpellsValType}
-use Rattle.wc_read.specs.Reading.Bytes.{number_at, vector_at}
+use Rattle.wc_read.specs.Reading.Reader.{number_at, vector_at}
 use Rattle.wc_read.specs.Reading.Types.{val_type_at}
 use Rattle.wc_read.specs.Options.{◌>>=◌}
 use Rattle.wc_read.specs.Operators.{InstrValue, SpellsInstr}
-use Rattle.wc_read.specs.Reading.Operators.{instr_at}
+use Rattle.wc_read.specs.Reading.Instructions.{instr_at}
 use Rattle.wc_read.specs.Nesting.{tokens}
 use Rattle.wc_read.specs.Reading.Nesting.{is_nested}
 use Rattle.wc_read.specs.Bodies.{BodyValue, SpellsLocals, local_count, SpellsBody}

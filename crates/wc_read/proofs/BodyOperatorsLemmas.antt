@@ -5,10 +5,10 @@ use Rattle.std.specs.Prelude.{◌==◌, ◌↔◌, IsTrue}
 use Rattle.std.proofs.lemmas.Bool.{false≢true}
 use Rattle.std.specs.Option.{option_map}
 use Rattle.wc_read.specs.Operators.{InstrValue}
-use Rattle.wc_read.specs.Reading.Operators.{instr_at, opcode_at}
+use Rattle.wc_read.specs.Reading.Instructions.{instr_at, opcode_at}
 use Rattle.wc_read.specs.Nesting.{token_of}
 use Rattle.wc_read.specs.Reading.Nesting.{step}
-use Rattle.wc_read.specs.Decoding.{operators_in}
+use Rattle.wc_read.specs.BodyOperators.{operators_in}
 use Rattle.wc_read.proofs.DecodingLemmas.{left_end, left_more, left_none, left_not, left_open}
 use Rattle.wc_read.proofs.OptionsLemmas.{some_none}
 

@@ -3,20 +3,17 @@ use Rattle.std.proofs.Common.{◌≡◌, ℕ, List, [], ◌∷◌, ◌++◌, len
 use Rattle.std.specs.Prelude.{◌==◌, if◌then◌else◌, Result, Ok, Err, IfOk}
 use Rattle.wc_read.specs.Formats.{Format, SpellsNumber, SpellsVector, Joined}
 use Rattle.wc_read.specs.Types.{FuncTypeValue, SpellsValType}
-use Rattle.wc_read.specs.Limits.{SpellsTable, SpellsMemory}
-use Rattle.wc_read.specs.Contents.{SpellsFuncType, SpellsSizePrefixed, SpellsFuncTypes, SpellsIndices, SpellsTables, SpellsMemories, SpellsBodies}
-use Rattle.wc_read.specs.Reading.Bytes.{Read, byte_at, bytes_at, where_at, number_at, vector_at, Answers, read_all}
+use Rattle.wc_read.specs.Contents.{SpellsFuncType, SpellsSizePrefixed}
+use Rattle.wc_read.specs.Reading.Reader.{Read, byte_at, bytes_at, where_at, number_at, vector_at, Answers, read_all}
 use Rattle.wc_read.specs.Reading.Types.{val_type_at}
-use Rattle.wc_read.specs.Reading.Limits.{table_at, memory_at}
 use Rattle.wc_read.specs.Options.{◌>>=◌}
 use Rattle.wc_read.specs.Reading.Contents.{func_type_at, size_prefixed_at}
 use Rattle.wc_read.specs.declared.types.ValType.{ValType}
-use Rattle.wc_read.specs.Faults.{IfRefused, SpellsNothing}
+use Rattle.wc_read.specs.Fault.{IfRefused, SpellsNothing}
 use Rattle.wc_read.specs.declared.fault.ReadFault.{ReadFault}
 use Rattle.wc_read.proofs.OptionsLemmas.{bind_some, some_none}
 use Rattle.wc_read.proofs.MeetsLemmas.{Meets, same_meets, bind_meets, made_meets, made_at, where_meets, number_meets, byte_meets, bytes_meet, vector_meets, bind_is, if_is, all_spelled, IsByte, AreBytes, Made, Where}
 use Rattle.wc_read.proofs.TypesLemmas.{val_type_meets}
-use Rattle.wc_read.proofs.LimitsLemmas.{table_meets, memory_meets}
 
 -- A relation of all of the bytes and a value, and a function that finds the value.
 pub record DecidesSpelling {A : Type 0} (Spells : Format A) (find : List ℕ → Option A) : Type 0 where
@@ -103,18 +100,3 @@ func_type_meets =
     func_type_to func_type_from
 
 -- the contents
-
-pub func_types_meet : Meets SpellsFuncTypes (vector_at func_type_at)
-func_types_meet = vector_meets SpellsFuncType func_type_at func_type_meets
-
-pub indices_meet : Meets SpellsIndices (vector_at (number_at 32))
-indices_meet = vector_meets (SpellsNumber 32) (number_at 32) (number_meets 32)
-
-pub tables_meet : Meets SpellsTables (vector_at table_at)
-tables_meet = vector_meets SpellsTable table_at table_meets
-
-pub memories_meet : Meets SpellsMemories (vector_at memory_at)
-memories_meet = vector_meets SpellsMemory memory_at memory_meets
-
-pub bodies_meet : Meets SpellsBodies (vector_at size_prefixed_at)
-bodies_meet = vector_meets SpellsSizePrefixed size_prefixed_at size_prefixed_meets

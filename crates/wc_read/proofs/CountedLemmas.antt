@@ -1,6 +1,6 @@
 -- The loop that reads so many items.
 use Rattle.std.proofs.Common.{◌≡◌, ℕ, suc, List, [], ◌∷◌, ◌++◌, Option, Some, None, refl, ◌∙◌, ap, append_assoc, append-nil}
-use Rattle.wc_read.specs.Reading.Bytes.{Read, items_at, vector_at, number_at}
+use Rattle.wc_read.specs.Reading.Reader.{Read, items_at, vector_at, number_at}
 use Rattle.wc_read.specs.Options.{◌>>=◌}
 use Rattle.wc_read.proofs.OptionsLemmas.{bind_none, bind_some}
 

@@ -4,7 +4,7 @@ use Rattle.std.proofs.lemmas.Bool.{false≢true}
 use Rattle.std.proofs.lemmas.Slice.Eq.{bytes_eq-Decides}
 use Rattle.std.specs.Str.{bytes_eq}
 use Rattle.wc_read.specs.Formats.{SpellsName}
-use Rattle.wc_read.specs.Reading.Bytes.{name_at}
+use Rattle.wc_read.specs.Reading.Reader.{name_at}
 use Rattle.wc_read.specs.Sections.{SectionValue}
 use Rattle.wc_read.specs.Custom.{IsCustomSection}
 use Rattle.wc_read.specs.Reading.Custom.{ContentAfterName}

@@ -1,15 +1,14 @@
 -- The body and the initialiser that bytes spell are those that the functions of the bytes give.
-use Rattle.std.proofs.Common.{◌≡◌, ℕ, zero, suc, ◌^◌, ◌≤◌, List, [], ◌∷◌, length, reverse, Bool, true, false, Option, Some, None, refl, sym, ◌∙◌, ap, subst, arith, eqb-true}
+use Rattle.std.proofs.Common.{◌≡◌, ℕ, zero, suc, ◌^◌, ◌≤◌, List, [], ◌∷◌, length, Bool, true, false, Option, Some, None, refl, sym, ◌∙◌, ap, subst, arith, eqb-true}
 use Rattle.std.specs.Prelude.{nat_lt, ◌==◌, if◌then◌else◌}
 use Rattle.std.specs.Option.{option_map}
 use Rattle.std.proofs.lemmas.Bool.{false≢true}
-use Rattle.std.proofs.lemmas.List.{length-reverse}
 use Rattle.wc_read.specs.Formats.{Format, SpellsItems}
-use Rattle.wc_read.specs.Faults.{SpellsNothing}
+use Rattle.wc_read.specs.Fault.{SpellsNothing}
 use Rattle.wc_read.specs.Options.{◌>>=◌}
-use Rattle.wc_read.specs.Reading.Bytes.{Read, vector_at, read_all}
+use Rattle.wc_read.specs.Reading.Reader.{Read, vector_at, read_all}
 use Rattle.wc_read.specs.Operators.{InstrValue, SpellsInstr}
-use Rattle.wc_read.specs.Reading.Operators.{instr_at}
+use Rattle.wc_read.specs.Reading.Instructions.{instr_at}
 use Rattle.wc_read.specs.Nesting.{tokens, token_of}
 use Rattle.wc_read.specs.Reading.Nesting.{step, steps, is_closed}
 use Rattle.wc_read.specs.Bodies.{BodyValue, local_count, SpellsBody}
@@ -17,7 +16,7 @@ use Rattle.wc_read.specs.Inits.{SpellsInit}
 use Rattle.wc_read.specs.Reading.Inits.{init_at}
 use Rattle.wc_read.specs.Reading.Bodies.{locals_at}
 use Rattle.wc_read.specs.declared.bodies.Locals.{Locals}
-use Rattle.wc_read.specs.Decoding.{to_end_at, closing, operators_in, body_of, body_after, body_in, init_in, IsSpelled}
+use Rattle.wc_read.specs.BodyOperators.{to_end_at, closing, operators_in, body_of, body_after, body_in, init_in, IsSpelled}
 use Rattle.wc_read.proofs.MeetsLemmas.{Meets, no_spelling, one_spelling, one_value, no_value, none_left, left_over}
 use Rattle.wc_read.proofs.ToEndLemmas.{to_shorter}
 use Rattle.wc_read.proofs.OperatorsLemmas.{instr_meets, instr_some}
@@ -236,7 +235,3 @@ body_no_locals bytes e = body_missing bytes (no_locals bytes e)
 
 pub body_too_many : (bytes : List ℕ) (ls : List Locals) (rest : List ℕ) → vector_at locals_at bytes ≡ Some (ls, rest) → false ≡ nat_lt (local_count ls) (2 ^ 32) → body_in bytes ≡ None
 body_too_many bytes ls rest e many = body_missing bytes (too_many bytes ls rest e many)
-
--- the stack as a vector
-pub stack_empty : (items : List Bool) (t : Bool) → t ≡ (length items == 0) → t ≡ (length (reverse items) == 0)
-stack_empty items t e = e ∙ ap (λ (n : ℕ). n == 0) (sym (length-reverse items))

@@ -1,14 +1,14 @@
 -- Exports are read as they are spelled.
 use Rattle.std.proofs.Common.{◌≡◌, ℕ, List, [], ◌∷◌, ◌++◌, Some, None, refl, sym, ◌∙◌, ap}
 use Rattle.wc_read.specs.Formats.{Format, SpellsNumber, SpellsName, Joined}
-use Rattle.wc_read.specs.Exports.{ExportValue, export_kind_code, SpellsExport, SpellsExports}
-use Rattle.wc_read.specs.Reading.Bytes.{number_at, name_at, vector_at}
+use Rattle.wc_read.specs.Exports.{ExportValue, export_kind_code, SpellsExport}
+use Rattle.wc_read.specs.Reading.Reader.{number_at, name_at}
 use Rattle.wc_read.specs.Options.{◌>>=◌}
 use Rattle.wc_read.specs.Reading.Exports.{export_kind_of, export_kind_at, export_at}
 use Rattle.wc_read.specs.declared.exports.ExportKind.{ExportKind}
 use Rattle.wc_read.specs.declared.exports.ExportKind.TheVariants.{Func, Table, Memory, Global}
 use Rattle.wc_read.proofs.OptionsLemmas.{some_none}
-use Rattle.wc_read.proofs.MeetsLemmas.{Meets, same_meets, bind_meets, made_meets, made_at, number_meets, vector_meets, coded_meets, Coded, Made}
+use Rattle.wc_read.proofs.MeetsLemmas.{Meets, same_meets, bind_meets, made_meets, made_at, number_meets, coded_meets, Coded, Made}
 use Rattle.wc_read.proofs.TypesLemmas.{name_meets, code_step}
 
 kind_there : (k : ExportKind) → export_kind_of (export_kind_code k) ≡ Some k
@@ -52,6 +52,3 @@ export_meets =
     (λ n. bind_meets (Coded export_kind_code) export_kind_at (SpellsEnd n) (λ k bytes. number_at 32 bytes >>= made_at (made_export n k)) export_kind_meets
     (λ k. made_meets (SpellsNumber 32) (number_at 32) (made_export n k) (number_meets 32))))
     export_to export_from
-
-pub exports_meet : Meets SpellsExports (vector_at export_at)
-exports_meet = vector_meets SpellsExport export_at export_meets

@@ -1,6 +1,6 @@
 -- No spelling begins another of a format that a reading function meets, and of vectors of it.
 use Rattle.wc_read.specs.Formats.{Format, SpellsVector}
-use Rattle.wc_read.specs.Reading.Bytes.{Read, vector_at}
+use Rattle.wc_read.specs.Reading.Reader.{Read, vector_at}
 use Rattle.wc_read.specs.Laws.{IsPrefixFree}
 use Rattle.wc_read.proofs.MeetsLemmas.{Meets, one_spelling, vector_meets}
 

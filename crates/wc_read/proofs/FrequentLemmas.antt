@@ -2,7 +2,7 @@
 use Rattle.std.proofs.Common.{◌≡◌, ◌≢◌, ℕ, List, [], ◌∷◌, Bool, true, false, Option, Some, None, Result, Ok, Err, refl, sym, ◌∙◌, ap, eqb-true}
 use Rattle.std.specs.Prelude.{◌==◌, IsOkAnd, IsSomeAnd}
 use Rattle.wc_read.specs.Operators.{byte_form, ImmediatesValue, InstrValue, instr_value}
-use Rattle.wc_read.specs.Reading.Operators.{immediates_at, instr_after, instr_at, instr_of, opcode_after, opcode_at}
+use Rattle.wc_read.specs.Reading.Instructions.{immediates_at, instr_after, instr_at, instr_of, opcode_after, opcode_at}
 use Rattle.wc_read.specs.Reading.Frequent.{GivesFrequent}
 use Rattle.wc_read.specs.declared.fault.ReadFault.{ReadFault}
 use Rattle.wc_read.specs.declared.operators.Form.{Form}

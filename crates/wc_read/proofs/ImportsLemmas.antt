@@ -5,7 +5,7 @@ use Rattle.wc_read.specs.Formats.{Format, SpellsNumber, SpellsName, Joined}
 use Rattle.wc_read.specs.Types.{SpellsGlobal}
 use Rattle.wc_read.specs.Limits.{SpellsTable, SpellsMemory}
 use Rattle.wc_read.specs.Imports.{ImportValue, SpellsImportType, SpellsImport, SpellsImports}
-use Rattle.wc_read.specs.Reading.Bytes.{Read, byte_at, number_at, name_at, vector_at}
+use Rattle.wc_read.specs.Reading.Reader.{Read, byte_at, number_at, name_at, vector_at}
 use Rattle.wc_read.specs.Reading.Limits.{table_at, memory_at}
 use Rattle.wc_read.specs.Reading.Types.{global_at}
 use Rattle.wc_read.specs.Reading.Imports.{import_type_at, import_at}

@@ -5,7 +5,7 @@ use Rattle.std.proofs.lemmas.Bool.{false≢true}
 use Rattle.wc_read.specs.Formats.{SpellsItems}
 use Rattle.wc_read.specs.Options.{◌>>=◌}
 use Rattle.wc_read.specs.Operators.{InstrValue, SpellsInstr}
-use Rattle.wc_read.specs.Reading.Operators.{instr_at}
+use Rattle.wc_read.specs.Reading.Instructions.{instr_at}
 use Rattle.wc_read.specs.Reading.Inits.{is_end}
 use Rattle.wc_read.specs.Inits.{end_value}
 use Rattle.wc_read.specs.InitTypes.{InitScope, IsTyped}
@@ -71,9 +71,6 @@ module _ (scope : InitScope) (t : ValType) where
     pub from_all : LeavesFrom 0 bytes → LeavesFrom depth rest
     pub bounded : depth ≤ counter
     pub left : length rest + counter ≤ length bytes
-
-  pub count_start : (bytes : List ℕ) → IsCounted 0 0 bytes bytes
-  count_start bytes = record { to_all = λ l. l; from_all = λ l. l; bounded = omega arith; left = omega arith }
 
   record HasInstr (depth : ℕ) (rest : List ℕ) (does : InitStep) (after : List ℕ) : Type 0 where
     instr : InstrValue

@@ -8,7 +8,7 @@ use Rattle.std.proofs.Math.Seq.{take-append_seam}
 use Rattle.wc_read.specs.Formats.{Format, SpellsItems}
 use Rattle.wc_read.specs.Options.{◌>>=◌}
 use Rattle.wc_read.specs.Operators.{InstrValue, SpellsInstr, SpellsImmediates, byte_form, form_of}
-use Rattle.wc_read.specs.Reading.Operators.{instr_at, instr_of}
+use Rattle.wc_read.specs.Reading.Instructions.{instr_at, instr_of}
 use Rattle.wc_read.specs.Inits.{constant_byte, is_constant, end_value, AreConstant, SpellsInit}
 use Rattle.wc_read.specs.Reading.Inits.{is_end, is_init_operator, ends, init_instr_at, init_end_at, init_at, bytes_before, init_bytes_at}
 use Rattle.wc_read.specs.declared.operators.Opcode.{Opcode}

@@ -7,7 +7,7 @@ use Rattle.std.proofs.lemmas.Bool.{cases_lt, leb-true, le-leb, false≢true, and
 use Rattle.wc_read.specs.Formats.{Format, SpellsNumber, Joined}
 use Rattle.wc_read.specs.Types.{SpellsValType, is_reference}
 use Rattle.wc_read.specs.Limits.{flags_code, bound_bits, SpellsBounds, AreOrdered, table_flags, SpellsTable, memory_flags, FitsIn32, IsMemory, SpellsMemory}
-use Rattle.wc_read.specs.Reading.Bytes.{byte_at, number_at, where_at, optional_at}
+use Rattle.wc_read.specs.Reading.Reader.{byte_at, number_at, where_at, optional_at}
 use Rattle.wc_read.specs.Reading.Types.{val_type_at}
 use Rattle.wc_read.specs.Reading.Limits.{flags_of, flags_at, is_at_most, bounds_at, table_at, is_page_size, max_pages, fits_addresses, memory_at}
 use Rattle.wc_read.specs.Options.{◌>>=◌}

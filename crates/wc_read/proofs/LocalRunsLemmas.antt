@@ -12,10 +12,10 @@ use Rattle.wc_read.specs.Options.{◌>>=◌}
 use Rattle.wc_read.specs.Types.{SpellsValType, type_index, type_indices}
 use Rattle.wc_read.specs.Bodies.{SpellsLocals, local_count, local_types}
 use Rattle.wc_read.specs.Text.{number_text, val_type_text, vector_text, locals_text}
-use Rattle.wc_read.specs.Decoding.{body_in, locals_in}
+use Rattle.wc_read.specs.BodyOperators.{body_in, locals_in}
 use Rattle.wc_read.specs.Private.TextSizes.{IsLonger, IsShortest}
 use Rattle.wc_read.specs.Private.LocalRuns.{AreMoreIfNot, IsShortRun, PassesLocals, is_plain_text}
-use Rattle.wc_read.specs.Reading.Bytes.{number_at, vector_at, items_at}
+use Rattle.wc_read.specs.Reading.Reader.{number_at, vector_at, items_at}
 use Rattle.wc_read.specs.Reading.Types.{val_type_at}
 use Rattle.wc_read.specs.Reading.Bodies.{locals_at, locals_of}
 use Rattle.wc_read.specs.declared.bodies.Locals.{Locals}

@@ -7,7 +7,7 @@ use Rattle.std.proofs.lemmas.List.{take-append-drop, length-take-le}
 use Rattle.std.proofs.Math.Seq.{take-append_seam, drop-append_seam}
 use Rattle.std.proofs.Math.ListN.{length-append}
 use Rattle.wc_read.specs.Formats.{Format, SpellsNumber, last, more, Joined, SpellsOptional, SpellsItems, SpellsVector}
-use Rattle.wc_read.specs.Reading.Bytes.{Read, byte_at, bytes_at, where_at, coded_at, optional_at, number_at, items_at, vector_at}
+use Rattle.wc_read.specs.Reading.Reader.{Read, byte_at, bytes_at, where_at, coded_at, optional_at, number_at, items_at, vector_at}
 use Rattle.wc_read.specs.Options.{◌>>=◌}
 use Rattle.wc_read.proofs.OptionsLemmas.{some_same, some_none, some_pair, bind_some}
 use Rattle.wc_read.proofs.NumbersLemmas.{number_last, number_high, number_more, number_too_long, number_empty}

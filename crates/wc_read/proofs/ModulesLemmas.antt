@@ -13,7 +13,7 @@ use Rattle.std.specs.Borrow.{Bor}
 use Rattle.std.proofs.lemmas.Option.{slice_get-map, slice_get_within, get_or_from_slice_get}
 use Rattle.std.proofs.lemmas.List.Elements.{All-get_or}
 use Rattle.wc_read.specs.Types.{FuncTypeValue, has_type_index, HaveTypeIndices, func_type_value}
-use Rattle.wc_read.specs.Reading.Modules.{name_types}
+use Rattle.wc_read.specs.Reading.Validity.{name_types}
 use Rattle.wc_read.specs.Reading.Types.{have_type_indices, is_nullary}
 use Rattle.wc_read.specs.declared.types.ValType.{ValType}
 use Rattle.wc_read.specs.Items.{FuncValue, func_value, table_value, global_value}

@@ -1,7 +1,7 @@
 -- Pairs of an index and a name are read as they are spelled.
 use Rattle.std.proofs.Common.{refl}
 use Rattle.wc_read.specs.Formats.{SpellsNumber, SpellsName, Joined}
-use Rattle.wc_read.specs.Reading.Bytes.{number_at, name_at}
+use Rattle.wc_read.specs.Reading.Reader.{number_at, name_at}
 use Rattle.wc_read.specs.Options.{◌>>=◌}
 use Rattle.wc_read.specs.Names.{SpellsGlobalName}
 use Rattle.wc_read.specs.Reading.Names.{global_name_of, global_name_at}

@@ -7,8 +7,8 @@ use Rattle.std.proofs.Math.ListN.{length-append}
 use Rattle.indexmap.specs.IndexMap.{insert_entry}
 use Rattle.indexmap.proofs.MapLemmas.{insert_all_push}
 use Rattle.wc_read.specs.Formats.{Format, SpellsNumber, SpellsItems}
-use Rattle.wc_read.specs.Reading.Bytes.{number_at}
-use Rattle.wc_read.specs.Reading.Sections.{section_at}
+use Rattle.wc_read.specs.Reading.Reader.{number_at}
+use Rattle.wc_read.specs.Reading.Framing.{section_at}
 use Rattle.wc_read.specs.Sections.{SectionValue, section_value, SpellsSection}
 use Rattle.wc_read.specs.Reading.Custom.{ContentAfterName}
 use Rattle.wc_read.specs.Names.{GlobalNameValue, SpellsGlobalName, name_text, PairsThenRest, no_count, bytes_after, pair_missing, Subsection, NamesUnder, no_more, other_id, complete, faulty, SectionNamesUnder, name_section, other_section, AllNamesUnder, global_names_of}
@@ -103,9 +103,6 @@ names_push id (x ∷ xs) s front these n o = (n.0, n.1 ++ these, ap (λ (r : Lis
 pub record AreNamesTo (id : ℕ) (sections : List Section) (index : ℕ) (front : List GlobalNameValue) : Type 0 where
   pub names : AllNamesUnder id (map section_value (take index sections)) front
 
-pub sections_start : (id : ℕ) (sections : List Section) → AreNamesTo id sections 0 []
-sections_start id sections = record { names = refl }
-
 one_more : (id : ℕ) (sections : List Section) (index : ℕ) (front these : List GlobalNameValue) (d : Section) → AreNamesTo id sections index front → index < length sections → SectionNamesUnder id (section_value (get_or sections index d)) these → AreNamesTo id sections (index + 1) (front ++ these)
 one_more id sections index front these d a less o =
     record { names = rw (take_more sections index d less, map-append) (names_push id (map section_value (take index sections)) (section_value (get_or sections index d)) front these a.names o) }
@@ -115,9 +112,6 @@ sections_more id sections index front these d bytes a less c n = one_more id sec
 
 pub sections_other : (id : ℕ) (sections : List Section) (index : ℕ) (front : List GlobalNameValue) (d : Section) → AreNamesTo id sections index front → index < length sections → ContentAfterName name_text (section_value (get_or sections index d)) None → AreNamesTo id sections (index + 1) front
 sections_other id sections index front d a less none = rw append-nil at (one_more id sections index front [] d a less (other_section none))
-
-pub sections_end : (id : ℕ) (sections : List Section) (index : ℕ) (front : List GlobalNameValue) → AreNamesTo id sections index front → length sections ≤ index → AllNamesUnder id (map section_value sections) front
-sections_end id sections index front a all = rw (take_all index sections all) at a.names
 
 -- entries
 

@@ -5,7 +5,7 @@ use Rattle.std.proofs.Math.Pow.{pow_mono}
 use Rattle.std.proofs.lemmas.Nat.{pow-add, pow_pos, shl_below}
 use Rattle.std.proofs.lemmas.Bool.Decides.{nat_tests}
 use Rattle.std.proofs.lemmas.Bool.{cases_lt}
-use Rattle.wc_read.specs.Reading.Bytes.{number_at, byte_at}
+use Rattle.wc_read.specs.Reading.Reader.{number_at, byte_at}
 use Rattle.wc_read.specs.Options.{◌>>=◌}
 use Rattle.wc_read.proofs.OptionsLemmas.{some_pair, some_none, bind_none, bind_some}
 

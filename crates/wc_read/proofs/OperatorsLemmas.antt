@@ -7,11 +7,11 @@ use Rattle.wc_read.specs.Formats.{Format, SpellsNumber, SpellsVector, Joined}
 use Rattle.wc_read.specs.Types.{SpellsTypeIndex, SpellsValType}
 use Rattle.wc_read.specs.Signed.{SpellsSigned}
 use Rattle.wc_read.specs.Reading.Signed.{signed_at}
-use Rattle.wc_read.specs.Reading.Bytes.{Read, byte_at, bytes_at, number_at, vector_at, where_at, optional_at}
+use Rattle.wc_read.specs.Reading.Reader.{Read, byte_at, bytes_at, number_at, vector_at, where_at, optional_at}
 use Rattle.wc_read.specs.Options.{◌>>=◌}
 use Rattle.wc_read.specs.Reading.Types.{type_index_at, reference_at, val_type_at}
 use Rattle.wc_read.specs.Operators.{form_of, index_of, is_prefix, SpellsOpcode, SpellsBlockType, SpellsMemArg, SpellsRefType, SpellsImmediates, SpellsInstr, ImmediatesValue, WithNone, WithBlock, WithIndex, WithIndices, WithLabels, WithValTypes, WithRefType, WithMemArg, WithMemArgLane, WithI32, WithI64, WithBytes, WithLane, InstrValue}
-use Rattle.wc_read.specs.Reading.Operators.{opcode_after, opcode_at, is_value, block_type_after, block_type_at, are_flags, mem_arg_at, is_zero, immediates_at, instr_of, instr_at}
+use Rattle.wc_read.specs.Reading.Instructions.{opcode_after, opcode_at, is_value, block_type_after, block_type_at, are_flags, mem_arg_at, is_zero, immediates_at, instr_of, instr_at}
 use Rattle.wc_read.specs.declared.types.ValType.{ValType}
 use Rattle.wc_read.specs.declared.types.ValType.TheVariants.{I32, I64, F32, F64, V128, FuncRef, ExternRef, FuncRefNonNull, ExternRefNonNull, TypeRef}
 use Rattle.wc_read.specs.declared.operators.Opcode.{Opcode}

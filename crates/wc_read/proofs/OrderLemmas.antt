@@ -12,7 +12,7 @@ use Rattle.wc_read.specs.Sections.{SectionValue, section_value}
 use Rattle.wc_read.specs.declared.sections.Section.{Section}
 use Rattle.wc_read.specs.Order.{section_position, ComesBefore, IsSection, AreInOrder}
 use Rattle.wc_read.specs.Options.{◌>>=◌}
-use Rattle.wc_read.specs.Reading.Bytes.{name_at}
+use Rattle.wc_read.specs.Reading.Reader.{name_at}
 use Rattle.wc_read.specs.Reading.Order.{next_position}
 use Rattle.wc_read.proofs.OptionsLemmas.{some_same, some_none, bind_some, bind_none}
 use Rattle.wc_read.proofs.MeetsLemmas.{bind_is, if_is}

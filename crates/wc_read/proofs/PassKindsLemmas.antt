@@ -4,7 +4,7 @@ use Rattle.std.specs.Prelude.{◌==◌, if◌then◌else◌, slice_index_or}
 use Rattle.std.specs.List.{range_with_len}
 use Rattle.std.proofs.lemmas.List.FromFn.{get_or-map-range_with_len}
 use Rattle.wc_read.specs.Operators.{byte_form, index_of}
-use Rattle.wc_read.specs.Refs.{reference, is_segment}
+use Rattle.wc_read.specs.References.{reference, is_segment}
 use Rattle.wc_read.specs.Nesting.{byte_token}
 use Rattle.wc_read.specs.PassKinds.{item_pass_kind, plain_pass_kind, form_pass_kind, pass_kind, short_size_of, short_size}
 use Rattle.wc_read.specs.declared.operators.Space.{Space}

@@ -7,14 +7,14 @@ use Rattle.std.proofs.lemmas.Bool.Decides.{nat_tests}
 use Rattle.std.proofs.lemmas.List.{length-append, length-drop}
 use Rattle.std.proofs.Math.Seq.{drop-append_seam, take-append_seam}
 use Rattle.wc_read.specs.Operators.{byte_form, SpellsInstr, InstrValue, ImmediatesValue, WithNone, WithBlock, WithIndex, WithMemArg, WithI32, WithI64, WithBytes, index_of}
-use Rattle.wc_read.specs.Refs.{refs_of, type_refs_of, one_ref, names_segment}
+use Rattle.wc_read.specs.References.{refs_of, type_refs_of, one_ref, names_segment}
 use Rattle.wc_read.specs.Nesting.{byte_token}
 use Rattle.wc_read.specs.Text.{number_text, signed_text}
 use Rattle.wc_read.specs.OperatorText.{immediates_text, instr_text}
-use Rattle.wc_read.specs.Decoding.{operators_in}
-use Rattle.wc_read.specs.Reading.Bytes.{number_at, bytes_at}
+use Rattle.wc_read.specs.BodyOperators.{operators_in}
+use Rattle.wc_read.specs.Reading.Reader.{number_at, bytes_at}
 use Rattle.wc_read.specs.Reading.Signed.{signed_at}
-use Rattle.wc_read.specs.Reading.Operators.{immediates_at, instr_of, instr_at}
+use Rattle.wc_read.specs.Reading.Instructions.{immediates_at, instr_of, instr_at}
 use Rattle.wc_read.specs.Reading.Nesting.{step}
 use Rattle.wc_read.specs.PassKinds.{pass_kind, short_size}
 use Rattle.wc_read.specs.Private.TextSizes.{IsTextSize, SizesMemArg, SizesMemoryIndex}
@@ -260,18 +260,6 @@ end_passes memory input b rest old new false result e kind is t = rw is t
 
 pub some_open : (b : Bool) (blocks : List Bool) → b ∷ blocks ≢ []
 some_open b blocks e = absurd cc
-
-pub block_start_inside : (is_if : Bool) (old : List Bool) (rest : List ℕ) (new : List Bool) (result : Option ℕ) → old ≢ [] → PassesBlockStart is_if old rest new result → new ≢ []
-block_start_inside is_if old rest new None some o = rw o some
-block_start_inside is_if old rest new (Some size) some o = rw o.5 (some_open is_if old)
-
-pub else_inside : (old new : List Bool) (else_begun : Bool) → old ≢ [] → BeginsElse else_begun old new → new ≢ []
-else_inside old new true some t = rw t.2 (some_open false t.0)
-else_inside old new false some t = rw t some
-
-pub closed_inside : (old new : List Bool) (closed : Bool) → old ≢ [] → Closes closed old new → new ≢ []
-closed_inside old new true some t = rw t.4 (some_open t.1 t.2)
-closed_inside old new false some t = rw t some
 
 pub passes_shorter : (memory : Bool) (old new : List Bool) (rest : List ℕ) (size : ℕ) (after : List ℕ) → IsOperatorPassed memory old rest new size → after ≡ drop size rest → length after < length rest
 passes_shorter memory old new rest size after o e =

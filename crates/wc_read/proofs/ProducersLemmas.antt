@@ -1,7 +1,7 @@
 -- Fields of producers are read as they are spelled.
 use Rattle.std.proofs.Common.{refl}
 use Rattle.wc_read.specs.Formats.{SpellsName, SpellsVector, Joined}
-use Rattle.wc_read.specs.Reading.Bytes.{name_at, vector_at}
+use Rattle.wc_read.specs.Reading.Reader.{name_at, vector_at}
 use Rattle.wc_read.specs.Options.{◌>>=◌}
 use Rattle.wc_read.specs.Producers.{SpellsProducer, SpellsField}
 use Rattle.wc_read.specs.Reading.Producers.{producer_of, producer_at, field_of, field_at}

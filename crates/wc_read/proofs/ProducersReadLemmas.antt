@@ -1,11 +1,11 @@
 -- The producers that are kept, and that they are one.
-use Rattle.std.proofs.Common.{◌≡◌, ℕ, ◌+◌, ◌<◌, ◌≤◌, List, [], ◌∷◌, ◌++◌, length, take, map, get_or, Bool, true, false, Option, Some, None, refl, sym, ◌∙◌, ap, subst, append_assoc}
+use Rattle.std.proofs.Common.{◌≡◌, ℕ, ◌+◌, ◌<◌, List, [], ◌∷◌, ◌++◌, length, take, map, get_or, Bool, true, false, Option, Some, None, refl, sym, ◌∙◌, ap, subst, append_assoc}
 use Rattle.std.specs.Prelude.{◌==◌, is_some}
 use Rattle.std.specs.Option.{option_map}
 use denote.Ref.{Bor}
-use Rattle.std.proofs.lemmas.List.{take_more, take_all, map-append}
+use Rattle.std.proofs.lemmas.List.{take_more, map-append}
 use Rattle.wc_read.specs.Formats.{SpellsVector}
-use Rattle.wc_read.specs.Reading.Bytes.{vector_at}
+use Rattle.wc_read.specs.Reading.Reader.{vector_at}
 use Rattle.wc_read.specs.Sections.{SectionValue, section_value}
 use Rattle.wc_read.specs.Custom.{IsCustomSection}
 use Rattle.wc_read.specs.Reading.Custom.{ContentAfterName}
@@ -64,9 +64,6 @@ now b = b.now
 pub record IsLastTo (sections : List Section) (index : ℕ) (last : Option (List ℕ)) : Type 0 where
   pub last_is : LastProducers (map section_value (take index sections)) last
 
-pub last_start : (sections : List Section) → IsLastTo sections 0 None
-last_start sections = record { last_is = tt }
-
 pub last_found : (sections : List Section) (index : ℕ) (last : Option (List ℕ)) (found : Option (Bor (List ℕ))) (d : Section) → IsLastTo sections index last → index < length sections → ProducersOf (section_value (get_or sections index d)) (option_map now found) → true ≡ is_some found → IsLastTo sections (index + 1) (option_map now found)
 last_found sections index last None d l less o there = absurd cc
 last_found sections index last (Some bytes) d l less o there =
@@ -76,9 +73,6 @@ pub last_kept : (sections : List Section) (index : ℕ) (last : Option (List ℕ
 last_kept sections index last (Some bytes) d l less o there = absurd cc
 last_kept sections index last None d l less o there =
     record { last_is = rw (take_more sections index d less, map-append) (last_push (map section_value (take index sections)) (section_value (get_or sections index d)) last l.last_is o) }
-
-pub last_end : (sections : List Section) (index : ℕ) (last : Option (List ℕ)) → IsLastTo sections index last → length sections ≤ index → LastProducers (map section_value sections) last
-last_end sections index last l all = rw (take_all index sections all) at l.last_is
 
 -- the last section that reads is one, and so are its bytes
 

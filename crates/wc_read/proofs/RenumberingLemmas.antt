@@ -4,7 +4,7 @@ use Rattle.std.specs.List.{cons_option}
 use Rattle.std.specs.Option.{option_map}
 use Rattle.wc_read.specs.Types.{type_index, type_indices}
 use Rattle.wc_read.specs.Operators.{ImmediatesValue, WithNone, WithBlock, WithIndex, WithIndices, WithLabels, WithValTypes, WithRefType, WithMemArg, WithMemArgLane, WithI32, WithI64, WithBytes, WithLane}
-use Rattle.wc_read.specs.Refs.{in_space, reference, one_ref, two_refs, refs_of, type_reference, type_refs_of, names_segment}
+use Rattle.wc_read.specs.References.{in_space, reference, one_ref, two_refs, refs_of, type_reference, type_refs_of, names_segment}
 use Rattle.wc_read.specs.Renumbering.{Renumbering, renumber, renumber_immediates, renumber_item, renumber_refs, renumber_val_type}
 use Rattle.wc_read.specs.declared.types.ValType.{ValType}
 use Rattle.wc_read.specs.declared.types.ValType.TheVariants.{I32, I64, F32, F64, V128, FuncRef, ExternRef, FuncRefNonNull, ExternRefNonNull, TypeRef}

@@ -3,7 +3,7 @@ use Rattle.std.proofs.Common.{◌≡◌, ℕ, List, [], Option, Some, None, refl
 use Rattle.std.specs.Prelude.{MatchOption}
 use Rattle.std.specs.Option.{option_map_or}
 use Rattle.wc_read.specs.Formats.{Format, SpellsNumber, SpellsVector}
-use Rattle.wc_read.specs.Reading.Bytes.{Read, number_at, vector_at, read_all}
+use Rattle.wc_read.specs.Reading.Reader.{Read, number_at, vector_at, read_all}
 use Rattle.wc_read.specs.Options.{◌>>=◌}
 use Rattle.wc_read.specs.Reading.Imports.{import_at}
 use Rattle.wc_read.specs.Reading.Limits.{table_at, memory_at}

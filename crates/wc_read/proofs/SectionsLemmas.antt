@@ -4,8 +4,8 @@ use Rattle.std.proofs.lemmas.List.{append_cancel_left}
 use Rattle.wc_read.proofs.ToEndLemmas.{items_unique}
 use Rattle.wc_read.specs.Formats.{Format, SpellsNumber, SpellsItems, Joined}
 use Rattle.wc_read.specs.Sections.{SectionValue, SpellsSection, SpellsFrames, module_header}
-use Rattle.wc_read.specs.Reading.Bytes.{byte_at, bytes_at, number_at}
-use Rattle.wc_read.specs.Reading.Sections.{section_at}
+use Rattle.wc_read.specs.Reading.Reader.{byte_at, bytes_at, number_at}
+use Rattle.wc_read.specs.Reading.Framing.{section_at}
 use Rattle.wc_read.specs.Options.{◌>>=◌}
 use Rattle.wc_read.proofs.MeetsLemmas.{Meets, same_meets, bind_meets, made_meets, made_at, number_meets, byte_meets, bytes_meet, IsByte, AreBytes, Made}
 

@@ -10,12 +10,12 @@ use Rattle.std.proofs.lemmas.List.Elements.{All-nil, All-cons, All-head, All-tai
 use Rattle.wc_read.specs.Formats.{SpellsNumber, last, more}
 use Rattle.wc_read.specs.Signed.{SpellsSigned, last_positive, last_negative, more_signed}
 use Rattle.wc_read.specs.Text.{digits, number_text, signed_digit, signed_digits, signed_text}
-use Rattle.wc_read.specs.Reading.Bytes.{number_at, bytes_at}
+use Rattle.wc_read.specs.Reading.Reader.{number_at, bytes_at}
 use Rattle.wc_read.specs.Reading.Signed.{last_of, signed_at}
 use Rattle.std.specs.Prelude.{nat_lt, nat_le}
 use Rattle.wc_read.specs.Private.TextSizes.{IsTextSize, SizesMemArg, IsLonger, IsShortest, IsShortestSigned, without_sign}
-use Rattle.wc_read.specs.Reading.Bytes.{where_at}
-use Rattle.wc_read.specs.Reading.Operators.{are_flags, mem_arg_at}
+use Rattle.wc_read.specs.Reading.Reader.{where_at}
+use Rattle.wc_read.specs.Reading.Instructions.{are_flags, mem_arg_at}
 use Rattle.wc_read.proofs.MeetsLemmas.{number_meets}
 use Rattle.wc_read.proofs.NumbersLemmas.{fits_if_shifted_out, number_last}
 use Rattle.wc_read.proofs.SignedLemmas.{signed_meets}

@@ -5,7 +5,7 @@ use Rattle.std.specs.Prelude.{option_map, ok_or}
 use Rattle.std.proofs.lemmas.Nat.{pow-add}
 use Rattle.std.proofs.lemmas.Bool.Decides.{nat_tests}
 use Rattle.wc_read.specs.declared.fault.ReadFault.TheVariants.{BadNumber}
-use Rattle.wc_read.specs.Reading.Bytes.{GivesWithoutMemory}
+use Rattle.wc_read.specs.Reading.Reader.{GivesWithoutMemory}
 use Rattle.wc_read.specs.Options.{◌>>=◌}
 use Rattle.wc_read.specs.Signed.{above}
 use Rattle.wc_read.specs.Reading.Signed.{signed_at, last_of}

@@ -4,7 +4,7 @@ use Rattle.std.specs.Prelude.{◌==◌}
 use Rattle.std.proofs.lemmas.Bool.{false≢true}
 use Rattle.std.proofs.Math.ListN.{length-append}
 use Rattle.wc_read.specs.Formats.{Format, SpellsItems}
-use Rattle.wc_read.specs.Reading.Bytes.{Read, appended_at}
+use Rattle.wc_read.specs.Reading.Reader.{Read, appended_at}
 use Rattle.wc_read.specs.Options.{◌>>=◌}
 use Rattle.wc_read.proofs.OptionsLemmas.{some_none, some_pair}
 use Rattle.wc_read.proofs.MeetsLemmas.{Meets, one_spelling, no_spelling}
@@ -13,9 +13,6 @@ use Rattle.wc_read.proofs.MeetsLemmas.{Meets, one_spelling, no_spelling}
 pub record IsReadTo {A : Type 0} (Spells : Format A) (front : List A) (rest bytes : List ℕ) : Type 0 where
   pub to_all : (others : List A) → SpellsItems Spells rest others → SpellsItems Spells bytes (front ++ others)
   pub from_all : (all : List A) → SpellsItems Spells bytes all → (others : List A) × (all ≡ front ++ others) × SpellsItems Spells rest others
-
-pub to_start : {A : Type 0} (Spells : Format A) (bytes : List ℕ) → IsReadTo Spells [] bytes bytes
-to_start Spells bytes = record { to_all = λ others s. s; from_all = λ all s. (all, refl, s) }
 
 pub to_end : {A : Type 0} (Spells : Format A) (front : List A) (rest bytes : List ℕ) → true ≡ (length rest == 0) → IsReadTo Spells front rest bytes → SpellsItems Spells bytes front
 to_end Spells front [] bytes t r = rw append-nil at (r.to_all [] refl)

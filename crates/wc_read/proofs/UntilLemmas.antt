@@ -3,7 +3,7 @@ use Rattle.std.proofs.Common.{◌≡◌, ℕ, zero, suc, ◌<◌, ◌≤◌, Lis
 use Rattle.std.specs.Prelude.{if◌then◌else◌}
 use Rattle.std.proofs.Math.ListN.{length-append}
 use Rattle.wc_read.specs.Formats.{Format, SpellsItems}
-use Rattle.wc_read.specs.Reading.Bytes.{Read}
+use Rattle.wc_read.specs.Reading.Reader.{Read}
 use Rattle.wc_read.specs.Options.{◌>>=◌}
 use Rattle.wc_read.specs.Reading.Inits.{until_at}
 use Rattle.wc_read.proofs.OptionsLemmas.{some_none, some_pair, bind_some, bind_none}

@@ -5,7 +5,7 @@ pub mod Limits
 pub mod Imports
 pub mod Items
 pub mod Spaces
-pub mod Faults
+pub mod Fault
 pub mod Sections
 pub mod Exports
 pub mod Contents
@@ -25,11 +25,11 @@ pub mod OperatorText
 pub mod Blocks
 pub mod PassKinds
 pub mod Passing
-pub mod Refs
+pub mod References
 pub mod Renumbering
 pub mod Nesting
 pub mod Bodies
-pub mod Decoding
+pub mod BodyOperators
 pub mod Laws
 pub mod Reading
 pub mod Private

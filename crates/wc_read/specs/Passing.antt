@@ -4,11 +4,11 @@ use Rattle.std.specs.Prelude.{◌≡◌, ◌≢◌, ◌⊎◌, ℕ, ◌<◌, ◌
 use Rattle.std.specs.List.{flat_map}
 use Rattle.std.specs.Option.{option_map}
 use Rattle.wc_read.specs.Operators.{InstrValue, WithBlock}
-use Rattle.wc_read.specs.Refs.{refs_of, type_refs_of, one_ref, names_segment}
+use Rattle.wc_read.specs.References.{refs_of, type_refs_of, one_ref, names_segment}
 use Rattle.wc_read.specs.Nesting.{instr_token}
 use Rattle.wc_read.specs.OperatorText.{block_type_text, instr_text}
-use Rattle.wc_read.specs.Decoding.{operators_in}
-use Rattle.wc_read.specs.Reading.Operators.{block_type_at, instr_at}
+use Rattle.wc_read.specs.BodyOperators.{operators_in}
+use Rattle.wc_read.specs.Reading.Instructions.{block_type_at, instr_at}
 use Rattle.wc_read.specs.Reading.Nesting.{step}
 use Rattle.wc_read.specs.PassKinds.{begins_run}
 use Rattle.wc_read.specs.declared.body_operators.Operators.{Operators}

@@ -3,7 +3,7 @@ use Rattle.std.specs.Prelude.{◌≡◌, ℕ, map}
 use Rattle.std.specs.Option.{option_map}
 use Rattle.wc_read.specs.Operators.{ImmediatesValue, WithNone, WithBlock, WithIndex, WithIndices, WithLabels, WithValTypes, WithRefType, WithMemArg, WithMemArgLane, WithI32, WithI64, WithBytes, WithLane, InstrValue}
 use Rattle.wc_read.specs.Types.{FuncTypeValue}
-use Rattle.wc_read.specs.Refs.{refs_of, type_refs_of, names_segment}
+use Rattle.wc_read.specs.References.{refs_of, type_refs_of, names_segment}
 use Rattle.wc_read.specs.declared.types.ValType.{ValType}
 use Rattle.wc_read.specs.declared.types.ValType.TheVariants.{TypeRef}
 use Rattle.wc_read.specs.declared.types.TableType.{TableType}

@@ -2,7 +2,7 @@
 
 ghost use Rattle.std.specs.Prelude.{◌≡◌, ◌≢◌, ◌^◌, nat_lt, IfOk, IfErr};
 ghost use Rattle.wc_read.specs.Formats.{SpellsItems};
-ghost use Rattle.wc_read.specs.Faults.{IfRefused, SpellsNothing};
+ghost use Rattle.wc_read.specs.Fault.{IfRefused, SpellsNothing};
 ghost use Rattle.wc_read.specs.Operators.{SpellsInstr, instr_values};
 ghost use Rattle.wc_read.specs.Bodies.{body_value, local_count, SpellsBody};
 ghost use Rattle.wc_read.specs.Reading.Bodies.{locals_at};

@@ -2,13 +2,13 @@
 
 ghost use Rattle.std.specs.Prelude.{◌≡◌, ◌≢◌, ◌<◌, ◌≤◌, ◌↔◌, ◌++◌, ℕ, List, [], Some, None, is_some, false, IsTrue, IfOk, IfErr, IfSome};
 ghost use Rattle.std.specs.Option.{option_map};
-ghost use Rattle.wc_read.specs.Faults.{IfRefused};
+ghost use Rattle.wc_read.specs.Fault.{IfRefused};
 ghost use Rattle.wc_read.specs.Operators.{InstrValue, instr_value};
 ghost use Rattle.wc_read.specs.Bodies.{local_types};
 ghost use Rattle.wc_read.specs.Types.{type_indices};
 ghost use Rattle.wc_read.specs.Text.{vector_text, locals_text};
 ghost use Rattle.wc_read.specs.Passing.{IsRunText, may_pass, run_and_left};
-ghost use Rattle.wc_read.specs.Decoding.{body_in, body_of, body_operators, bytes_left, KeepsLocals, locals_bytes, locals_read, next_and_left, operators_left};
+ghost use Rattle.wc_read.specs.BodyOperators.{body_in, body_of, body_operators, bytes_left, KeepsLocals, locals_bytes, locals_read, next_and_left, operators_left};
 
 use crate::blocks::Blocks;
 use crate::bodies::Locals;

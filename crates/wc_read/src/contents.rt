@@ -1,7 +1,7 @@
 //! The contents of sections.
 
 ghost use Rattle.std.specs.Prelude.{ℕ, List, map};
-ghost use Rattle.wc_read.specs.Reading.Bytes.{Gives, GivesWithoutMemory, number_at, vector_at, Answers, AnswersWithoutMemory, read_all};
+ghost use Rattle.wc_read.specs.Reading.Reader.{Gives, GivesWithoutMemory, number_at, vector_at, Answers, AnswersWithoutMemory, read_all};
 ghost use Rattle.wc_read.specs.Types.{FuncTypeValue, func_type_value};
 ghost use Rattle.wc_read.specs.Reading.Contents.{func_type_at, size_prefixed_at};
 
@@ -60,7 +60,7 @@ impl<'a> Spelled<'a> for &'a [u8] {
 }
 
 /// The items of a section that holds a vector, up to the end of its content.
-#[tactic(auto, unfolding(crate::specs::Reading::Bytes::read_all))]
+#[tactic(auto, unfolding(crate::specs::Reading::Reader::read_all))]
 pub fn items<'a, T: Spelled<'a> + Drop>(
     alloc: Global,
     content: &'a [u8],
@@ -76,7 +76,7 @@ pub fn items<'a, T: Spelled<'a> + Drop>(
 }
 
 /// The function that a start section names (5.5.11).
-#[tactic(auto, unfolding(crate::specs::Reading::Bytes::read_all))]
+#[tactic(auto, unfolding(crate::specs::Reading::Reader::read_all))]
 pub fn start(content: &[u8]) -> Result<u32, ReadFault>
     ensures { AnswersWithoutMemory (λ n. n) result (read_all (number_at 32) content.now) }
 {

@@ -1,7 +1,7 @@
 //! Exports.
 
 ghost use Rattle.std.specs.Prelude.{◌≡◌};
-ghost use Rattle.wc_read.specs.Reading.Bytes.{GivesWithoutMemory};
+ghost use Rattle.wc_read.specs.Reading.Reader.{GivesWithoutMemory};
 ghost use Rattle.wc_read.specs.Exports.{ExportValue, export_kind_name, export_value};
 ghost use Rattle.wc_read.specs.Reading.Exports.{export_kind_at, export_at};
 

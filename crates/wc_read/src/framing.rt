@@ -1,11 +1,11 @@
 //! The header of a module, and its sections by their sizes.
 
-ghost use Rattle.std.specs.Prelude.{◌≡◌, ◌≢◌, ◌↔◌, IfOk, IfErr, IsErrOf};
-ghost use Rattle.wc_read.specs.Reading.Bytes.{GivesWithoutMemory};
-ghost use Rattle.wc_read.specs.Reading.Sections.{section_at};
+ghost use Rattle.std.specs.Prelude.{◌≢◌, ◌↔◌, IfOk, IfErr, IsErrOf};
+ghost use Rattle.wc_read.specs.Reading.Reader.{GivesWithoutMemory};
+ghost use Rattle.wc_read.specs.Reading.Framing.{section_at};
 ghost use Rattle.wc_read.specs.Sections.{SectionValue, section_value, section_values, SpellsFrames, SpellsSection, IsComponent};
 ghost use Rattle.wc_read.specs.Formats.{SpellsItems};
-ghost use Rattle.wc_read.specs.Faults.{IfRefused, SpellsNothing};
+ghost use Rattle.wc_read.specs.Fault.{IfRefused, SpellsNothing};
 
 use crate::fault::ReadFault;
 use crate::reader::{Reader, Spelled};
@@ -15,7 +15,7 @@ use std::alloc::Global;
 const COMPONENT_HEADER: &[u8] = b"\0asm\x0d\0\x01\0";
 
 impl<'a> Reader<'a> {
-    #[tactic(auto, unfolding(crate::specs::Reading::Sections::section_at))]
+    #[tactic(auto, unfolding(crate::specs::Reading::Framing::section_at))]
     fn section(&mut self) -> Result<Section<'a>, ReadFault>
         ensures { GivesWithoutMemory (λ s. section_value s) result self.new.rest.now
             (section_at self.old.rest.now) }

@@ -1,6 +1,5 @@
 //! Globals of a global section.
 
-ghost use Rattle.std.specs.Prelude.{◌≡◌};
 ghost use Rattle.wc_read.specs.Globals.{LocalGlobalValue};
 ghost use Rattle.wc_read.specs.Reading.Globals.{local_global_value, local_global_at};
 

@@ -1,9 +1,9 @@
 //! Import sections.
 
 ghost use Rattle.std.specs.Prelude.{◌≢◌, IfOk, IfErr};
-ghost use Rattle.wc_read.specs.Reading.Bytes.{GivesWithoutMemory};
+ghost use Rattle.wc_read.specs.Reading.Reader.{GivesWithoutMemory};
 ghost use Rattle.wc_read.specs.Reading.Imports.{import_type_at, import_at};
-ghost use Rattle.wc_read.specs.Faults.{IfRefused, SpellsNothing};
+ghost use Rattle.wc_read.specs.Fault.{IfRefused, SpellsNothing};
 ghost use Rattle.wc_read.specs.Imports.{ImportValue, import_value, import_values, SpellsImports};
 
 use crate::contents::items;

@@ -1,8 +1,8 @@
 //! What initialisers leave.
 
 ghost use Rattle.std.specs.Prelude.{◌≡◌, ◌⊎◌, ◌↔◌, ◌<◌, ◌-◌, ◌^◌, IfOk, IfErr, IsTrue};
-ghost use Rattle.wc_read.specs.Faults.{IfRefused};
-ghost use Rattle.wc_read.specs.Reading.Bytes.{Gives};
+ghost use Rattle.wc_read.specs.Fault.{IfRefused};
+ghost use Rattle.wc_read.specs.Reading.Reader.{Gives};
 ghost use Rattle.wc_read.specs.Types.{has_type_index};
 ghost use Rattle.wc_read.specs.Items.{global_value, global_values};
 ghost use Rattle.wc_read.specs.Operators.{immediates_value, instr_value};

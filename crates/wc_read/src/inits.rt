@@ -1,8 +1,8 @@
 //! Initialisers of globals.
 
 ghost use Rattle.std.specs.Prelude.{◌≡◌, ◌≢◌, IfOk, IfErr};
-ghost use Rattle.wc_read.specs.Faults.{IfRefused, SpellsNothing};
-ghost use Rattle.wc_read.specs.Reading.Bytes.{Gives};
+ghost use Rattle.wc_read.specs.Fault.{IfRefused, SpellsNothing};
+ghost use Rattle.wc_read.specs.Reading.Reader.{Gives};
 ghost use Rattle.wc_read.specs.Operators.{instr_value, instr_values};
 ghost use Rattle.wc_read.specs.Inits.{constant_byte, constant_of, is_constant, init_value, SpellsInit};
 ghost use Rattle.wc_read.specs.Reading.Inits.{is_end, init_instr_at, init_end_at, init_at, init_bytes_at};

@@ -3,7 +3,7 @@
 ghost use Rattle.std.specs.Prelude.{◌≡◌, ◌≢◌, map, IfOk, IfErr, IsErrOf, IsTrue, ◌↔◌};
 ghost use Rattle.std.specs.List.{filter};
 ghost use Rattle.wc_read.specs.Sections.{section_values, IsComponent};
-ghost use Rattle.wc_read.specs.Faults.{IfRefused, SpellsNothing};
+ghost use Rattle.wc_read.specs.Fault.{IfRefused, SpellsNothing};
 ghost use Rattle.wc_read.specs.Reading.Contents.{section_contents_value};
 ghost use Rattle.wc_read.specs.Modules.{ModuleValue, module_value, ArePaired, IsAssembled, is_segments, AreModule, SpellsModule};
 

@@ -1,7 +1,7 @@
 //! Names of functions and of globals, out of name sections.
 
 ghost use Rattle.std.specs.Prelude.{◌≡◌, ◌↔◌, IfOk, IfErr, IsErrOf};
-ghost use Rattle.wc_read.specs.Faults.{IfRefused, SpellsNothing};
+ghost use Rattle.wc_read.specs.Fault.{IfRefused, SpellsNothing};
 ghost use Rattle.wc_read.specs.Names.{GlobalNameValue, NamesUnder, AllNamesUnder, name_entries};
 ghost use Rattle.wc_read.specs.Reading.Names.{global_name_value, global_name_at, PairsOf, AreNamesUnder, AreGlobalNames, AreFunctionNames, named_pairs};
 ghost use Rattle.wc_read.specs.Sections.{section_values, SpellsFrames, IsComponent};

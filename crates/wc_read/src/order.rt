@@ -5,7 +5,7 @@ ghost use Rattle.std.specs.Option.{option_map};
 ghost use Rattle.wc_read.specs.Sections.{section_value, section_values};
 ghost use Rattle.wc_read.specs.Order.{section_position, AreInOrder, content_of};
 ghost use Rattle.wc_read.specs.Reading.Order.{next_position};
-ghost use Rattle.wc_read.specs.Reading.Bytes.{AnswersWithoutMemory};
+ghost use Rattle.wc_read.specs.Reading.Reader.{AnswersWithoutMemory};
 
 use crate::codes::{CODE_ID, CUSTOM_ID, DATA_COUNT_ID, DATA_ID};
 use crate::fault::ReadFault;

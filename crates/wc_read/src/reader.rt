@@ -1,7 +1,7 @@
 //! A reader that moves along the bytes: bytes, unsigned numbers, names, vectors.
 
 ghost use Rattle.std.specs.Prelude.{◌≡◌, ◌<◌, ◌≤◌, ◌^◌, ℕ, List, Option, Some, map, IfOk, IfSome};
-ghost use Rattle.wc_read.specs.Reading.Bytes.{Gives, GivesWithoutMemory, ReadsOption, byte_at, bytes_at, number_at, name_at, vector_at};
+ghost use Rattle.wc_read.specs.Reading.Reader.{Gives, GivesWithoutMemory, ReadsOption, byte_at, bytes_at, number_at, name_at, vector_at};
 
 use crate::codes::{GROUP_BITS, MORE_BYTES};
 use crate::fault::ReadFault;
@@ -172,7 +172,7 @@ impl<'a> Reader<'a> {
         Ok(number as u32)
     }
 
-    #[tactic(auto, using(crate::proofs::TextLemmas::text), unfolding(crate::specs::Reading::Bytes::name_at))]
+    #[tactic(auto, using(crate::proofs::TextLemmas::text), unfolding(crate::specs::Reading::Reader::name_at))]
     pub fn name(&mut self) -> Result<&'a str, ReadFault>
         ensures { GivesWithoutMemory (λ x. x.now) result self.new.rest.now
             (name_at self.old.rest.now) }
@@ -186,7 +186,7 @@ impl<'a> Reader<'a> {
     }
 
     /// A vector. Memory is taken item by item, and not for a count whose items were not read.
-    #[tactic(auto, unfolding(crate::specs::Reading::Bytes::vector_at))]
+    #[tactic(auto, unfolding(crate::specs::Reading::Reader::vector_at))]
     pub fn vector<T: Spelled<'a> + Drop>(&mut self, alloc: Global) -> Result<Vec<T>, ReadFault>
         ensures { Gives (λ v. map T.view v.items) result self.new.rest.now
             (vector_at T.read self.old.rest.now) }

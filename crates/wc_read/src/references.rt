@@ -2,7 +2,7 @@
 
 ghost use Rattle.std.specs.Prelude.{◌≡◌};
 ghost use Rattle.wc_read.specs.Operators.{immediates_value};
-ghost use Rattle.wc_read.specs.Refs.{reference, two_refs, refs_of, is_segment, names_segment, type_reference, type_refs_of, type_refs_left};
+ghost use Rattle.wc_read.specs.References.{reference, two_refs, refs_of, is_segment, names_segment, type_reference, type_refs_of, type_refs_left};
 ghost use Rattle.wc_read.specs.Types.{type_indices};
 
 use crate::operators::{BlockType, Immediates, Index, IndexKind, Instr, Refs, Space};
@@ -85,7 +85,7 @@ impl<'a> Iterator for TypeRefs<'a> {
     type Item = u32;
 
     ghost use Rattle.std.specs.Iterator.{YieldsFirst, item_count};
-    ghost use Rattle.wc_read.specs.Refs.{type_refs_left};
+    ghost use Rattle.wc_read.specs.References.{type_refs_left};
 
     ghost next_gives = { YieldsFirst type_refs_left };
 

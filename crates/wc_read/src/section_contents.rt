@@ -1,7 +1,7 @@
 //! The contents of a module's sections.
 
 ghost use Rattle.std.specs.Prelude.{map};
-ghost use Rattle.wc_read.specs.Reading.Bytes.{number_at, Answers, AnswersWithoutMemory};
+ghost use Rattle.wc_read.specs.Reading.Reader.{number_at, Answers, AnswersWithoutMemory};
 ghost use Rattle.wc_read.specs.Sections.{section_values, start_id};
 ghost use Rattle.wc_read.specs.Reading.Contents.{section_contents_value, items_in, content_in, section_contents_in};
 

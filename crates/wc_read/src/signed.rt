@@ -1,7 +1,7 @@
 //! Signed numbers.
 
 ghost use Rattle.std.specs.Prelude.{◌≡◌, ◌<◌, ◌≤◌, ◌^◌, ◌+◌, ◌-◌, ◌*◌, IfOk, IfSome, nat_lt, if◌then◌else◌, option_map};
-ghost use Rattle.wc_read.specs.Reading.Bytes.{GivesWithoutMemory};
+ghost use Rattle.wc_read.specs.Reading.Reader.{GivesWithoutMemory};
 ghost use Rattle.wc_read.specs.Signed.{above, FitsBits};
 ghost use Rattle.wc_read.specs.Reading.Signed.{last_of, signed_at};
 

@@ -1,7 +1,7 @@
 //! How many bytes numbers and other immediates have, where these bytes are their text: where no fewer spell them.
 
 ghost use Rattle.std.specs.Prelude.{◌≡◌, ◌<◌, ◌≤◌, true, false, All};
-ghost use Rattle.wc_read.specs.Reading.Bytes.{number_at, bytes_at};
+ghost use Rattle.wc_read.specs.Reading.Reader.{number_at, bytes_at};
 ghost use Rattle.wc_read.specs.Reading.Signed.{signed_at};
 ghost use Rattle.wc_read.specs.Text.{number_text, signed_text};
 ghost use Rattle.wc_read.specs.Private.TextSizes.{SizesText, SizesMemArg, SizesMemoryIndex, IsLonger, IsShortest, IsShortestSigned, without_sign};

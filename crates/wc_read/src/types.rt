@@ -3,7 +3,7 @@
 
 ghost use Rattle.std.specs.Prelude.{◌≡◌, ◌≢◌, ◌-◌, ◌^◌, ◌<◌, ◌≤◌};
 ghost use Rattle.wc_read.specs.Limits.{page_size_log2_of};
-ghost use Rattle.wc_read.specs.Reading.Bytes.{Gives, GivesWithoutMemory, vector_at};
+ghost use Rattle.wc_read.specs.Reading.Reader.{Gives, GivesWithoutMemory, vector_at};
 ghost use Rattle.wc_read.specs.Types.{func_ref, extern_ref, is_reference};
 ghost use Rattle.wc_read.specs.Reading.Types.{type_index_at, reference_at, val_type_at, mutable_at, global_at};
 ghost use Rattle.wc_read.specs.declared.types.ValType.{ValType as val_type};

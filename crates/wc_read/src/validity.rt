@@ -1,10 +1,10 @@
 //! What holds of a module beside its sections (WebAssembly core specification, 3.4).
 
-ghost use Rattle.std.specs.Prelude.{◌≡◌, ◌≢◌, ◌<◌, ◌^◌, ◌↔◌, ℕ, List, length, map, All, IfOk, IfErr, IsTrue, ◌&&◌, Some, nat_lt};
+ghost use Rattle.std.specs.Prelude.{◌≡◌, ◌≢◌, ◌<◌, ◌↔◌, length, IfOk, IfErr, IsTrue, ◌&&◌, Some, nat_lt};
 ghost use Rattle.std.specs.List.{list_all, slice_get};
-ghost use Rattle.wc_read.specs.Faults.{IfRefused};
+ghost use Rattle.wc_read.specs.Fault.{IfRefused};
 ghost use Rattle.wc_read.specs.Types.{func_type_value, has_type_index};
-ghost use Rattle.wc_read.specs.Reading.Modules.{name_types};
+ghost use Rattle.wc_read.specs.Reading.Validity.{name_types};
 ghost use Rattle.wc_read.specs.Reading.Types.{have_type_indices, is_nullary};
 ghost use Rattle.wc_read.specs.Modules.{module_value, count_of, HaveTypes, IsStart, IsModule, CountsFitU32};
 

@@ -5,7 +5,7 @@ use Rattle.json.specs.Json.{Json, boolean, document}
 use Rattle.json.specs.Strict.{HasUniqueKeys}
 use Rattle.json.proofs.Printed.Trees.{document-print}
 use Rattle.wc_adapters.specs.Adapters.{WhichView, main_module, adapter_of, LibraryItemView, InstanceView, module_instance, item_instance, LibraryView}
-use Rattle.wc_json.specs.Faults.{Reading}
+use Rattle.wc_json.specs.Fault.{Reading}
 use Rattle.wc_json.specs.FromJson.{list}
 use Rattle.wc_json.specs.Libraries.{argument, export_kind, instance, library, library_item, which}
 use Rattle.wc_json.specs.Shapes.{array_of, object_of}

@@ -5,7 +5,7 @@ use Rattle.wc_names.specs.ExportViews.{ExportView, exported_func, exported_func_
 use Rattle.wc_resolve.specs.Views.{KeyView}
 use Rattle.wc_record.specs.CoreTypes.{memory_type_json}
 use Rattle.wc_record.specs.Imports.{interface_function_json, key_field, name_field, type_id_field, world_function_json}
-use Rattle.wc_record.specs.Shapes.{object_of_kind, plain_kind}
+use Rattle.wc_record.specs.Objects.{object_of_kind, plain_kind}
 
 abbrev pub key_kind : List ℕ → KeyView → Json
 key_kind kind key = object_of_kind kind (key_field key ∷ [])

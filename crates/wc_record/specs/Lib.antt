@@ -8,7 +8,7 @@ pub mod Libraries
 pub mod Modules
 pub mod Places
 pub mod Plans
-pub mod Shapes
+pub mod Objects
 pub mod Texts
 pub mod Wit
 pub mod Worlds

@@ -4,7 +4,7 @@ use Rattle.json.specs.Json.{Json, boolean, string}
 use Rattle.wc_adapters.specs.Adapters.{WhichView, main_module, adapter_of, LibraryItemView, InstanceView, module_instance, item_instance, LibraryView}
 use Rattle.wc_record.specs.CoreTypes.{export_kind_json}
 use Rattle.wc_json.specs.Shapes.{array_of, object_of}
-use Rattle.wc_record.specs.Shapes.{object_of_kind}
+use Rattle.wc_record.specs.Objects.{object_of_kind}
 
 -- the main module, or the adapter of a name
 abbrev pub which_json : WhichView → Json

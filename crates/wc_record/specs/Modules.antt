@@ -4,12 +4,12 @@ use Rattle.json.specs.Json.{Json, string}
 use Rattle.wc_names.specs.ExportViews.{ExportView}
 use Rattle.wc_names.specs.Views.{ImportView}
 use Rattle.wc_validate.specs.Imports.Entries.{InstanceRecord, all_of, names_of}
-use Rattle.wc_validate.specs.Validated.{ModuleRecord}
+use Rattle.wc_validate.specs.Validate.{ModuleRecord}
 use Rattle.wc_record.specs.Exports.{export_json}
 use Rattle.wc_record.specs.Imports.{import_json}
 use Rattle.wc_record.specs.Libraries.{which_json}
 use Rattle.wc_json.specs.Shapes.{array_of, object_of}
-use Rattle.wc_record.specs.Shapes.{object_of_kind}
+use Rattle.wc_record.specs.Objects.{object_of_kind}
 
 -- an import, and an export, under its name
 

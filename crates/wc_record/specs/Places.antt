@@ -6,14 +6,14 @@ use Rattle.wc_gc.specs.declared.trim_place.TrimPlace.{TrimPlace}
 use Rattle.wc_gc.specs.declared.trim_place.TrimPlace.TheVariants.{Section, Body}
 use Rattle.wc_resolve.specs.declared.explain.Part.{Part}
 use Rattle.wc_resolve.specs.declared.explain.Part.TheVariants as part
-use Rattle.wc_validate.specs.PlaceViews.{DifferenceView, SubjectView, an_export, an_import, missing_export, missing_function, place_view}
+use Rattle.wc_validate.specs.Place.{DifferenceView, SubjectView, an_export, an_import, missing_export, missing_function, place_view}
 use Rattle.wc_world.specs.declared.places.ModulePlace.{ModulePlace}
 use Rattle.wc_world.specs.declared.places.ModulePlace.TheVariants as place
 use Rattle.wc_world.specs.declared.places.WorldPlace.{WorldPlace}
 use Rattle.wc_record.specs.CoreTypes.{func_type_json}
 use Rattle.wc_record.specs.Imports.{name_field}
 use Rattle.wc_json.specs.Shapes.{Field, nullable_json, number_json, object_of}
-use Rattle.wc_record.specs.Shapes.{object_of_kind}
+use Rattle.wc_record.specs.Objects.{object_of_kind}
 
 -- members: the name of the adapter or the library that a place is in, null for the main module; the name of a module; the
 -- core types that differ, null where none are compared

@@ -3,7 +3,7 @@ use Rattle.std.specs.Prelude.{List, [], ◌∷◌, map, codes}
 use Rattle.json.specs.Json.{Json, string}
 use Rattle.wc_uses.specs.Views.{OwnerView, UseView, adapter_owner, main_owner}
 use Rattle.wc_json.specs.Shapes.{array_of, nullable_json, number_json, object_of}
-use Rattle.wc_record.specs.Shapes.{object_of_kind}
+use Rattle.wc_record.specs.Objects.{object_of_kind}
 use Rattle.wc_record.specs.Wit.{abi_json}
 
 -- whose import it is: the main module's, or that of the adapter of a name

@@ -3,7 +3,7 @@ use Rattle.std.specs.Prelude.{ℕ, List, [], ◌∷◌, map, codes}
 use Rattle.json.specs.Json.{Json, boolean, string}
 use Rattle.wc_adapters.specs.declared.encoding.StringEncoding.{StringEncoding}
 use Rattle.wc_adapters.specs.declared.encoding.StringEncoding.TheVariants.{UTF8, UTF16, CompactUTF16}
-use Rattle.wc_resolve.specs.Signatures.{SignatureView}
+use Rattle.wc_resolve.specs.Signature.{SignatureView}
 use Rattle.wc_resolve.specs.Views.{KeyView, plain_key, interface_key}
 use Rattle.wc_resolve.specs.declared.flat.WasmType.{WasmType}
 use Rattle.wc_resolve.specs.declared.flat.WasmType.TheVariants.{I32, I64, F32, F64, Pointer, PointerOrI64, Length}

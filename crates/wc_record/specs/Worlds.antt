@@ -4,7 +4,7 @@ use Rattle.std.specs.List.{filter_map}
 use Rattle.std.specs.Option.{option_map}
 use Rattle.json.specs.Json.{Json, string}
 use Rattle.wc_dedupe.specs.Dedupe.{renames_in}
-use Rattle.wc_dedupe.specs.Renaming.{RenameValue}
+use Rattle.wc_dedupe.specs.Renaming.{RenameView}
 use Rattle.wc_encoder.specs.Distinct.{exported_interfaces}
 use Rattle.wc_encoder.specs.EncoderParts.{world_exports}
 use Rattle.wc_uses.specs.Views.{UseView}
@@ -14,11 +14,11 @@ use Rattle.wc_record.specs.Libraries.{library_json}
 use Rattle.wc_record.specs.Modules.{module_json}
 use Rattle.wc_record.specs.Plans.{plan_json}
 use Rattle.wc_json.specs.Shapes.{Field, array_of, nullable_json, number_json, object_of}
-use Rattle.wc_record.specs.Shapes.{object_of_kind}
+use Rattle.wc_record.specs.Objects.{object_of_kind}
 use Rattle.wc_record.specs.Wit.{abi_json, signature_json}
 
 -- a renamed import
-abbrev pub rename_json : RenameValue → Json
+abbrev pub rename_json : RenameView → Json
 rename_json r = object_of ((codes "module", string r.module_name) ∷ (codes "original", string r.original) ∷ (codes "name", string r.name) ∷ [])
 
 -- an adapter or a library; its bytes by their number

@@ -3,7 +3,7 @@
 ghost use Rattle.std.specs.Prelude.{OnOk};
 ghost use Rattle.wc_read.specs.declared.types.ValType.TheVariants.{TypeRef};
 ghost use Rattle.wc_record.specs.CoreTypes.{val_type_json};
-ghost use Rattle.wc_record.specs.Shapes.{PutsJson};
+ghost use Rattle.wc_record.specs.Objects.{PutsJson};
 
 use crate::objects::{begin_object, end_object, put_list_member, put_member};
 use crate::to_json::ToJson;

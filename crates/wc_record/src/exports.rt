@@ -3,7 +3,7 @@
 ghost use Rattle.std.specs.Prelude.{OnOk};
 ghost use Rattle.wc_resolve.specs.Views.{key_view};
 ghost use Rattle.wc_record.specs.Exports.{key_and_name_json};
-ghost use Rattle.wc_record.specs.Shapes.{PutsJson};
+ghost use Rattle.wc_record.specs.Objects.{PutsJson};
 
 use crate::imports::{put_interface_function, put_world_function};
 use crate::objects::{

@@ -1,6 +1,6 @@
 //! The texts of faults: what each fault is called wherever it is printed, or answered as a text.
 
-ghost use Rattle.std.specs.Prelude.{◌≡◌, ◌++◌, ℕ, List, IfOk, string_bytes};
+ghost use Rattle.std.specs.Prelude.{◌≡◌, ℕ, List, IfOk, string_bytes};
 ghost use Rattle.wc_program.specs.FaultTexts.{carried_text, dedupe_fault_text, gc_fault_text, missing_text};
 ghost use Rattle.wc_validate.specs.Texts.{name_not_exported, not_exported_text};
 ghost use Rattle.wc_record.specs.FaultTexts.{about_text, encoder_fault_text, plan_fault_text, resolve_fault_text, validate_fault_text, world_fault_text};

@@ -7,7 +7,7 @@ ghost use Rattle.wc_resolve.specs.Dependencies.{id_of_interface};
 ghost use Rattle.wc_resolve.specs.Views.{key_view};
 ghost use Rattle.wc_names.specs.Views.{adapter_export, main_module_export, payload_view, typed};
 ghost use Rattle.wc_record.specs.Imports.{async_value_json, import_json, imported_drop_json, interface_function_json, key_and_type_json, payload_type_json, slot_json, task_return_json, world_function_json};
-ghost use Rattle.wc_record.specs.Shapes.{PutsJson};
+ghost use Rattle.wc_record.specs.Objects.{PutsJson};
 
 use crate::objects::{
     begin_object, end_object, put_kind, put_kind_with, put_member, put_plain_kind,

@@ -2,7 +2,7 @@
 
 ghost use Rattle.std.specs.Prelude.{OnOk};
 ghost use Rattle.json.specs.Json.{Json};
-ghost use Rattle.wc_record.specs.Shapes.{PutsJson};
+ghost use Rattle.wc_record.specs.Objects.{PutsJson};
 
 use crate::to_json::{ToJson, begin_array, end_array};
 use indexmap::IndexMap;

@@ -128,7 +128,7 @@ impl ToJson for ExportMap {
 }
 
 impl ToJson for ValidatedModule {
-    ghost use Rattle.wc_validate.specs.Validated.{ModuleRecord, module_record};
+    ghost use Rattle.wc_validate.specs.Validate.{ModuleRecord, module_record};
     ghost use Rattle.wc_record.specs.Modules.{module_json};
 
     ghost View = { ModuleRecord };

@@ -4,10 +4,10 @@ ghost use Rattle.std.specs.Prelude.{◌≡◌, IfOk, None, OnOk, string_bytes};
 ghost use Rattle.std.specs.Option.{option_map};
 ghost use Rattle.std.specs.Str.{IsUtf8};
 ghost use Rattle.wc_gc.specs.declared.trim_place.TrimPlace.TheVariants.{Body, Section};
-ghost use Rattle.wc_validate.specs.PlaceViews.{an_import, difference_view, missing_function, subject_view};
+ghost use Rattle.wc_validate.specs.Place.{an_import, difference_view, missing_function, subject_view};
 ghost use Rattle.wc_record.specs.Places.{function_json, named_json, page_sizes_json, part_json, trim_place_json, world_place_json};
 ghost use Rattle.wc_record.specs.Private.Contexts.{json_in};
-ghost use Rattle.wc_record.specs.Shapes.{PutsJson};
+ghost use Rattle.wc_record.specs.Objects.{PutsJson};
 ghost use Rattle.wc_record.specs.Texts.{text_of};
 
 use crate::objects::{begin_object, end_object, put_kind, put_kind_with, put_member};
@@ -20,7 +20,7 @@ use wc_validate::{Subject, TypeDifference};
 use wc_world::{ModulePlace, WorldPlace};
 
 impl ToJson for TypeDifference {
-    ghost use Rattle.wc_validate.specs.PlaceViews.{DifferenceView, difference_view};
+    ghost use Rattle.wc_validate.specs.Place.{DifferenceView, difference_view};
     ghost use Rattle.wc_record.specs.Places.{difference_json};
 
     ghost View = { DifferenceView };

@@ -4,7 +4,7 @@ ghost use Rattle.std.specs.Prelude.{OnOk, [], map, ◌∷◌};
 ghost use Rattle.json.specs.Json.{Json};
 ghost use Rattle.json.specs.Token.{begin_array, end_array};
 ghost use Rattle.wc_json.specs.Shapes.{array_of};
-ghost use Rattle.wc_record.specs.Shapes.{Puts, PutsJson};
+ghost use Rattle.wc_record.specs.Objects.{Puts, PutsJson};
 
 use json::Writer;
 use std::alloc::AllocError;

@@ -8,7 +8,7 @@ ghost use Rattle.wc_adapters.specs.Entries.{entries_of};
 ghost use Rattle.wc_resolve.specs.Dependencies.{interface_ids};
 ghost use Rattle.wc_resolve.specs.Views.{item_view};
 ghost use Rattle.wc_world.specs.Used.{has_interface, used_view};
-ghost use Rattle.wc_record.specs.Private.UsedInterfaces.{used_interface_view};
+ghost use Rattle.wc_record.specs.Private.Used.{used_interface_view};
 ghost use Rattle.wc_record.specs.Worlds.{used_interface, used_interfaces};
 
 use crate::objects::{begin_object, end_object, put_member};
@@ -27,7 +27,7 @@ pub(crate) struct UsedInterfaces {
 }
 
 impl ToJson for UsedInterfaces {
-    ghost use Rattle.wc_record.specs.Private.UsedInterfaces.{used_interface_view};
+    ghost use Rattle.wc_record.specs.Private.Used.{used_interface_view};
     ghost use Rattle.wc_record.specs.Worlds.{UsedInterface, used_interface_json};
 
     ghost View = { UsedInterface };

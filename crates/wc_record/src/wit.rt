@@ -2,7 +2,7 @@
 
 ghost use Rattle.std.specs.Prelude.{◌≡◌, OnOk, ◌∷◌, []};
 ghost use Rattle.wc_json.specs.Shapes.{object_of};
-ghost use Rattle.wc_record.specs.Shapes.{PutsJson};
+ghost use Rattle.wc_record.specs.Objects.{PutsJson};
 ghost use Rattle.wc_record.specs.Wit.{abi_text, encoding_text, wasm_type_text};
 
 use crate::objects::{begin_object, end_object, put_list_member, put_member};
@@ -129,7 +129,7 @@ impl ToJson for WasmType {
 }
 
 impl ToJson for WasmSignature {
-    ghost use Rattle.wc_resolve.specs.Signatures.{SignatureView, signature_view};
+    ghost use Rattle.wc_resolve.specs.Signature.{SignatureView, signature_view};
     ghost use Rattle.wc_record.specs.Wit.{signature_json};
 
     ghost View = { SignatureView };

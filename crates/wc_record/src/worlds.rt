@@ -5,14 +5,14 @@ ghost use Rattle.std.specs.Option.{option_copied};
 ghost use Rattle.std.specs.Str.{IsUtf8};
 ghost use Rattle.wc_dedupe.specs.Dedupe.{renames_in};
 ghost use Rattle.wc_json.specs.Shapes.{array_of};
-ghost use Rattle.wc_record.specs.Shapes.{PutsField};
+ghost use Rattle.wc_record.specs.Objects.{PutsField};
 ghost use Rattle.wc_record.specs.Texts.{planned_world_text, world_text};
 ghost use Rattle.wc_record.specs.Worlds.{rename_json};
-ghost use Rattle.wc_resolve.specs.Signatures.{signature_view};
+ghost use Rattle.wc_resolve.specs.Signature.{signature_view};
 ghost use Rattle.wc_world.specs.Views.{indirect};
 ghost use Rattle.wc_world.specs.WorldViews.{world_view};
 ghost use Rattle.wc_record.specs.Worlds.{lowering_json, planned_world_json, world_json, world_members};
-ghost use Rattle.wc_record.specs.Shapes.{PutsFields, PutsJson};
+ghost use Rattle.wc_record.specs.Objects.{PutsFields, PutsJson};
 ghost use Rattle.wc_uses.specs.PlanViews.{plan_view};
 
 use crate::maps::EntryToJson;
@@ -31,13 +31,13 @@ use wc_uses::Plan;
 use wc_world::{ComponentWorld, ImportedInterface, Lowering, RequiredOptions, WorldAdapter};
 
 impl ToJson for Rename {
-    ghost use Rattle.wc_dedupe.specs.Renames.{rename_value};
-    ghost use Rattle.wc_dedupe.specs.Renaming.{RenameValue};
+    ghost use Rattle.wc_dedupe.specs.Renames.{rename_view};
+    ghost use Rattle.wc_dedupe.specs.Renaming.{RenameView};
     ghost use Rattle.wc_record.specs.Worlds.{rename_json};
 
-    ghost View = { RenameValue };
+    ghost View = { RenameView };
 
-    ghost view = { rename_value };
+    ghost view = { rename_view };
 
     ghost json = { rename_json };
 

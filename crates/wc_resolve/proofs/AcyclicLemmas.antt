@@ -10,7 +10,7 @@ use Rattle.std.proofs.lemmas.Option.{get_or_from_slice_get}
 use Rattle.wc_resolve.specs.declared.types.WitType.{WitType}
 use Rattle.wc_resolve.specs.declared.types.WitType.TheVariants.{Id}
 use Rattle.wc_resolve.specs.Views.{TypeView}
-use Rattle.wc_resolve.specs.World.{ResolveView, HasCycle, Leads, refers, further, IsChildrenFirst, children, referenced_indices, referenced_types, type_index}
+use Rattle.wc_resolve.specs.Kinds.{ResolveView, HasCycle, Leads, refers, further, IsChildrenFirst, children, referenced_indices, referenced_types, type_index}
 use Rattle.wc_resolve.specs.Ranges.{AreIdsInRange, IsTypeDefIn, IsTypeIn}
 use Rattle.wc_resolve.proofs.SearchLemmas.{contains_cons, contains_none}
 use Rattle.wc_resolve.proofs.ResourcesByValueLemmas.{kind_none}

@@ -7,7 +7,7 @@ use Rattle.std.proofs.lemmas.List.Elements.{All-contains, Contains-append_right,
 use Rattle.wc_resolve.specs.declared.ids.TypeId.{TypeId}
 use Rattle.wc_resolve.specs.declared.types.WitType.TheVariants.{Id}
 use Rattle.wc_resolve.specs.Views.{KindView, alias_kind, InterfaceView, type_entry}
-use Rattle.wc_resolve.specs.World.{ResolveView, kind_at, referenced_indices}
+use Rattle.wc_resolve.specs.Kinds.{ResolveView, kind_at, referenced_indices}
 use Rattle.wc_resolve.specs.Ranges.{AreIdsInRange, AreNamesIn}
 use Rattle.wc_resolve.specs.Dependencies.{alias_target, dependency}
 use Rattle.wc_resolve.proofs.AcyclicLemmas.{children_within, ids_of_types}

@@ -10,7 +10,7 @@ use Rattle.semver.specs.Identifiers.{parts_of}
 use Rattle.wc_resolve.specs.declared.packages.PackageName.{PackageName}
 use Rattle.wc_resolve.specs.Characters.{at_sign, colon, slash}
 use Rattle.wc_resolve.specs.Names.{full_version, release_track, track}
-use Rattle.wc_resolve.specs.Queries.{VersionView, joined_id, member_text, versioned}
+use Rattle.wc_resolve.specs.Resolve.{VersionView, joined_id, member_text, versioned}
 use Rattle.wc_resolve.specs.Views.{PackageNameView, package_name_view}
 
 -- texts with this front are equal only where what is after it is

@@ -5,11 +5,10 @@ use Rattle.wc_resolve.specs.declared.fault.ResolveFault.{ResolveFault}
 use Rattle.wc_resolve.specs.declared.fault.ResolveFault.TheVariants.{Memory, IdRange, Cycle, Unnamed, KeyMismatch, NameClash, BadCharacter, ByValueResource, Empty}
 use Rattle.wc_resolve.specs.declared.explain.Part.{Part}
 use Rattle.wc_resolve.specs.declared.explain.Refusal.{Refusal}
-use Rattle.wc_resolve.specs.Faults.{IsResolveCause}
-use Rattle.wc_resolve.specs.Places.{IsExplained, IsPlace, IsUnplaced}
+use Rattle.wc_resolve.specs.Fault.{IsResolveCause}
+use Rattle.wc_resolve.specs.Explain.{IsExplained, IsPlace, IsUnplaced}
 use Rattle.wc_resolve.specs.Refusals.{IsPlaceFor, IsRefusal}
-use Rattle.wc_resolve.specs.WellFormed.{IsWellFormed}
-use Rattle.wc_resolve.specs.World.{ResolveView}
+use Rattle.wc_resolve.specs.Kinds.{ResolveView}
 
 -- of two faults, the earlier one's rule is kept where the later one's is broken
 exclusive : (r : ResolveView) (f g : ResolveFault) → f ≢ g → f ≢ Memory → g ≢ Memory → IsResolveCause r f → IsResolveCause r g → ⊥
@@ -97,17 +96,6 @@ unplaced r f NameClash ne fm cause = exclusive r f NameClash ne fm (λ e. let ba
 unplaced r f BadCharacter ne fm cause = exclusive r f BadCharacter ne fm (λ e. let bad : ⊥ = cc e in bad) cause
 unplaced r f ByValueResource ne fm cause = exclusive r f ByValueResource ne fm (λ e. let bad : ⊥ = cc e in bad) cause
 unplaced r f Empty ne fm cause = exclusive r f Empty ne fm (λ e. let bad : ⊥ = cc e in bad) cause
-
-pub well_formed_unplaced : (r : ResolveView) (f : ResolveFault) → IsWellFormed r → IsUnplaced r f
-well_formed_unplaced r Memory w = tt
-well_formed_unplaced r IdRange w = λ cause. cause w.in_range
-well_formed_unplaced r Cycle w = λ cause. w.acyclic cause.1
-well_formed_unplaced r Unnamed w = λ cause. cause.2 w.named
-well_formed_unplaced r KeyMismatch w = λ cause. cause.3 w.keyed
-well_formed_unplaced r NameClash w = λ cause. cause.4 w.distinct
-well_formed_unplaced r BadCharacter w = λ cause. cause.5 w.spelled
-well_formed_unplaced r ByValueResource w = λ cause. cause.6 w.no_resource_by_value
-well_formed_unplaced r Empty w = λ cause. cause.7 w.filled
 
 placed : (r : ResolveView) (f g : ResolveFault) (p : Part) (o place : Option Part) → f ≡ g → o ≡ place → place ≡ Some p
     → IsResolveCause r f → IsPlace r f p → IsExplained r g o

@@ -6,7 +6,7 @@ use Rattle.std.proofs.lemmas.List.{get_or_default}
 use Rattle.std.proofs.lemmas.Option.{slice_get-map, slice_get-get_or}
 use Rattle.wc_resolve.specs.declared.types.TypeDef.{TypeDef}
 use Rattle.wc_resolve.specs.Views.{TypeView, kind_view, type_view}
-use Rattle.wc_resolve.specs.World.{children, kind_at, referenced_indices}
+use Rattle.wc_resolve.specs.Kinds.{children, kind_at, referenced_indices}
 
 pub kind_found : (types : List TypeDef) (x : ℕ) (t : TypeDef) → x < length types → t ≡ get_or types x t → kind_at (map type_view types) x ≡ Some (kind_view t.kind)
 kind_found types x t h read =

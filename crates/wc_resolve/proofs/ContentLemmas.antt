@@ -10,10 +10,10 @@ use Rattle.wc_resolve.specs.declared.types.WitType.{WitType}
 use Rattle.wc_resolve.specs.declared.types.WitType.TheVariants.{Id}
 use Rattle.wc_resolve.specs.Contents.{AreTextFlags, has_text, is_list, text_flag, text_of, text_rule}
 use Rattle.wc_resolve.specs.Futures.{carried_types}
-use Rattle.wc_resolve.specs.Tables.{IsOrder}
+use Rattle.wc_resolve.specs.Validate.{IsOrder}
 use Rattle.wc_resolve.specs.TypeRules.{Follows, repeated, value_by_rule}
 use Rattle.wc_resolve.specs.Views.{KindView, TypeView, named_view}
-use Rattle.wc_resolve.specs.World.{children, kind_at, referenced_indices, type_index}
+use Rattle.wc_resolve.specs.Kinds.{children, kind_at, referenced_indices, type_index}
 use Rattle.wc_resolve.proofs.FuturesEntryLemmas.{carried_referenced}
 use Rattle.wc_resolve.proofs.ResourcesByValueLemmas.{kind_none}
 use Rattle.wc_resolve.proofs.SearchLemmas.{contains_head, contains_tail}

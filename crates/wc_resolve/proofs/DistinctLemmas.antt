@@ -1,5 +1,5 @@
 -- Names that were seen, and whether one of them comes again.
-use Rattle.std.proofs.Common.{◌≡◌, ◌≢◌, ◌↔◌, ℕ, zero, suc, ◌<◌, ◌+◌, Bool, true, false, not, cond, List, [], ◌∷◌, ◌++◌, map, length, take, get_or, refl, sym}
+use Rattle.std.proofs.Common.{◌≡◌, ◌≢◌, ◌↔◌, ℕ, suc, ◌<◌, ◌+◌, Bool, true, false, not, cond, List, [], ◌∷◌, ◌++◌, map, length, take, get_or, refl, sym}
 use Rattle.std.proofs.Common.{ap, ◌∙◌, subst, inl, inr, arith, length-append}
 use Rattle.std.specs.List.{AllPairs, Contains, list_any}
 use Rattle.std.proofs.Math.Seq.{get_or-append_seam}
@@ -9,7 +9,7 @@ use Rattle.std.proofs.lemmas.List.Quantifiers.{all_pairs_push}
 use Rattle.wc_resolve.specs.declared.packages.Package.{Package}
 use Rattle.wc_resolve.specs.declared.packages.PackageName.{PackageName}
 use Rattle.wc_resolve.specs.contracts.packages.PackageNamePartialEq.TheImpl.{eq-value}
-use Rattle.wc_resolve.specs.Places.{IsRepeatAt}
+use Rattle.wc_resolve.specs.Explain.{IsRepeatAt}
 use Rattle.wc_resolve.specs.WellFormed.{HaveDistinctNames}
 use Rattle.wc_resolve.proofs.PackageNameLemmas.{names_law}
 use Rattle.wc_resolve.specs.Views.{PackageNameView, PackageView, package_name_view, package_view}
@@ -91,14 +91,6 @@ names_more ps i p small read =
     ap (λ z. names_of z) (take_more ps i p small ∙ ap (λ z. take i ps ++ z ∷ []) (sym read))
     ∙ ap (λ z. map (λ (q : PackageView). q.name) z) (map-append package_view (take i ps) (p ∷ []))
     ∙ map-append (λ (q : PackageView). q.name) (map package_view (take i ps)) (package_view p ∷ [])
-
-pub names_split : (ps : List Package) (i : ℕ) (p : Package) → i < length ps → p ≡ get_or ps i p
-    → (rest : List PackageNameView) × (names_of ps ≡ names_of (take i ps) ++ package_name_view p.name ∷ rest)
-names_split [] i p small read = absurd (omega (arith, small))
-names_split (q ∷ ps) zero p small read = (names_of ps, ap (λ z. package_name_view z.name ∷ names_of ps) (sym read))
-names_split (q ∷ ps) (suc i) p small read =
-    let later = names_split ps i p (omega (arith, small)) read in
-    (later.0, ap (λ z. package_name_view q.name ∷ z) later.1)
 
 -- the package at an index has a name that was seen
 pub repeat_found : (ps : List Package) (i : ℕ) (keys : List PackageName) (copy : PackageName) (p : Package) (new : Bool) → i < length ps → p ≡ get_or ps i p

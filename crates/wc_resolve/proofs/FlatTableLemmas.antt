@@ -7,9 +7,9 @@ use Rattle.std.proofs.lemmas.List.{length-replicate, map-append, map-set}
 use Rattle.wc_resolve.specs.declared.flat.WasmType.{WasmType}
 use Rattle.wc_resolve.specs.Flat.{AreFlattened, flat_entry, flat_of, flat_rule, flat_types_kept, lists}
 use Rattle.wc_resolve.specs.TypeRules.{Follows}
-use Rattle.wc_resolve.specs.Tables.{IsOrder}
+use Rattle.wc_resolve.specs.Validate.{IsOrder}
 use Rattle.wc_resolve.specs.Views.{TypeView}
-use Rattle.wc_resolve.specs.World.{children, kind_at}
+use Rattle.wc_resolve.specs.Kinds.{children, kind_at}
 use Rattle.wc_resolve.proofs.FrontAgreementLemmas.{AgreeAtFront, agree_cut}
 use Rattle.wc_resolve.proofs.FlatteningAgreementLemmas.{agree_rule, flat_looks_down}
 use Rattle.wc_resolve.proofs.TypeRuleLemmas.{value_by_rule_follows}

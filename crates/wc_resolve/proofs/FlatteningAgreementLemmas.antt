@@ -9,7 +9,7 @@ use Rattle.wc_resolve.specs.declared.types.WitType.{WitType}
 use Rattle.wc_resolve.specs.declared.types.WitType.TheVariants.{Id}
 use Rattle.wc_resolve.specs.Flat.{join, join_flats, flatten_type, flatten_types, flat_payload, flat_cases, flat_kind, flat_rule}
 use Rattle.wc_resolve.specs.Views.{KindView, record_kind, tuple_kind, variant_kind, option_kind, result_kind, alias_kind, TypeView}
-use Rattle.wc_resolve.specs.World.{children, kind_at, referenced_indices, type_index}
+use Rattle.wc_resolve.specs.Kinds.{children, kind_at, referenced_indices, type_index}
 use Rattle.wc_resolve.proofs.FrontAgreementLemmas.{AgreeAtFront, agree_cons, agree_flat_map, agree_same}
 use Rattle.wc_resolve.proofs.TypeRuleLemmas.{LooksDown}
 use Rattle.wc_resolve.proofs.SearchLemmas.{contains_none, contains_head, contains_cons}

@@ -66,13 +66,6 @@ facing : (types : List TypeView) (goal found : List ℕ) (steps rest : List Type
     → goal ≡ found ++ remaining (futures_of types) (s ∷ reverse rest)
 facing types goal found steps rest s w e = w.each ∙ ap (λ z. found ++ remaining (futures_of types) z) (ap reverse e ∙ reverse-append rest (s ∷ []))
 
-pub future_leave : (types : List TypeView) (goal found new : List ℕ) (steps rest : List TypeStep) (id : TypeId) → IsFutureWalk types goal found steps → steps ≡ rest ++ Leave id ∷ []
-    → new ≡ found ++ id.0 ∷ [] → IsFutureWalk types goal new rest
-future_leave types goal found new steps rest id w e more = record {
-  within = rest_within types goal found steps rest (Leave id) w e;
-  each = facing types goal found steps rest (Leave id) w e ∙ sym (append_assoc found (id.0 ∷ []) (remaining (futures_of types) (reverse rest))) ∙ ap (λ z. z ++ remaining (futures_of types) (reverse rest)) (sym more);
-}
-
 entered_first : (rest : List TypeStep) (carrier : Bool) (id : TypeId) (ids : List TypeId) → reverse ((rest ++ self_steps carrier id) ++ map Enter (reverse ids)) ≡ map Enter ids ++ (self_steps carrier id ++ reverse rest)
 entered_first rest carrier id ids =
     let full = reverse-append (rest ++ self_steps carrier id) (map Enter (reverse ids)) in
@@ -107,9 +100,6 @@ future_enter types goal found steps rest id entry kept w e =
       each = facing types goal found steps rest (Enter id) w e ∙ ap (λ z. found ++ (z ++ after)) kept.made
           ∙ ap (λ z. found ++ z) (append_assoc (flat_map (futures_of types) parts) own after ∙ sym shown);
     }
-
-pub future_end : (types : List TypeView) (goal found : List ℕ) (steps : List TypeStep) → IsFutureWalk types goal found steps → steps ≡ [] → found ≡ goal
-future_end types goal found steps w none = sym (w.each ∙ ap (λ z. found ++ remaining (futures_of types) (reverse z)) none ∙ append-nil found)
 
 -- the length of a walk
 

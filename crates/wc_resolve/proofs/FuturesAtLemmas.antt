@@ -13,7 +13,7 @@ use Rattle.wc_resolve.specs.declared.ids.TypeId.{TypeId}
 use Rattle.wc_resolve.specs.declared.types.WitType.{WitType}
 use Rattle.wc_resolve.specs.Ranges.{IsFunctionIn, IsTypeIn}
 use Rattle.wc_resolve.specs.Views.{FunctionView, TypeView, function_view, named_view}
-use Rattle.wc_resolve.specs.World.{SignatureHasOnly}
+use Rattle.wc_resolve.specs.Kinds.{SignatureHasOnly}
 use Rattle.wc_resolve.specs.Roots.{indices, param_roots, passed_roots, type_roots}
 use Rattle.wc_resolve.specs.Live.{listing_of}
 use Rattle.wc_resolve.specs.Futures.{EntryView, IsFuturesEntry, IsPartWith, ends_of, futures_from, futures_of, itself}

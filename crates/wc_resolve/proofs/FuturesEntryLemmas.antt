@@ -12,8 +12,8 @@ use Rattle.wc_resolve.specs.declared.futures.FuturesEntry.{FuturesEntry}
 use Rattle.wc_resolve.specs.declared.ids.TypeId.{TypeId}
 use Rattle.wc_resolve.specs.Views.{KindView, record_kind, resource_kind, handle_kind, flags_kind, tuple_kind, variant_kind, enum_kind, option_kind, result_kind}
 use Rattle.wc_resolve.specs.Views.{list_kind, future_kind, stream_kind, alias_kind, TypeView}
-use Rattle.wc_resolve.specs.World.{children, kind_at, referenced_indices}
-use Rattle.wc_resolve.specs.Tables.{IsOrder}
+use Rattle.wc_resolve.specs.Kinds.{children, kind_at, referenced_indices}
+use Rattle.wc_resolve.specs.Validate.{IsOrder}
 use Rattle.wc_resolve.specs.TypeRules.{Follows}
 use Rattle.wc_resolve.specs.Roots.{indices}
 use Rattle.wc_resolve.specs.Live.{listing_from, listing_of, listing_rule}

@@ -24,7 +24,7 @@ pub mod ResourceFlagLemmas
 pub mod NamedListLemmas
 pub mod PackageNameLemmas
 pub mod PackagePositionLemmas
-pub mod PlaceLemmas
+pub mod ExplainLemmas
 pub mod CauseLemmas
 pub mod RefusalLemmas
 pub mod PushedLemmas

@@ -9,7 +9,7 @@ use Rattle.wc_resolve.specs.declared.types.WitType.TheVariants.{Id}
 use Rattle.wc_resolve.specs.declared.walk.TypeStep.{TypeStep}
 use Rattle.wc_resolve.specs.declared.walk.TypeStep.TheVariants.{Enter, Leave}
 use Rattle.wc_resolve.specs.Views.{TypeView}
-use Rattle.wc_resolve.specs.World.{children, type_index}
+use Rattle.wc_resolve.specs.Kinds.{children, type_index}
 use Rattle.wc_resolve.specs.TypeRules.{Follows, repeated, value_by_rule}
 use Rattle.wc_resolve.specs.Roots.{id_index, type_id}
 use Rattle.wc_resolve.specs.Live.{listing_rule, listing_of, with_live, list_union, IsComplete, Keeps}

@@ -1,5 +1,5 @@
 -- Marks of types.
-use Rattle.std.proofs.Common.{◌≡◌, ◌≢◌, Bool, true, false, IsTrue, ℕ, zero, suc, ◌<◌, List, [], ◌∷◌, ◌++◌, map, length, get_or, set, sym, ◌∙◌, subst, inl, inr, arith}
+use Rattle.std.proofs.Common.{◌≡◌, Bool, true, false, ℕ, ◌<◌, List, [], ◌∷◌, ◌++◌, map, length, get_or, set, sym, ◌∙◌, subst, inl, inr}
 use Rattle.std.specs.List.{Contains}
 use Rattle.std.proofs.lemmas.Bool.{cases_eq}
 use Rattle.std.proofs.lemmas.List.{get_or-set_same, get_or-set_other, map-append}
@@ -37,16 +37,3 @@ pub marks_more : (marks : List Bool) (ids : List TypeId) (id : TypeId) → AreMa
     → AreMarks (set marks id.0 true) (map id_index (ids ++ id ∷ []))
 marks_more marks ids id h small =
     subst (λ (z : List ℕ). AreMarks (set marks id.0 true) z) (sym (map-append id_index ids (id ∷ []))) (marked_more marks (map id_index ids) id.0 h small)
-
--- a mark is taken away
-pub unmarked_one : (marks : List Bool) (y x : ℕ) → IsTrue (is_marked (set marks y false) x) → IsTrue (is_marked marks x) × (x ≢ y)
-unmarked_one [] y x h = (let bad : ⊥ = cc h in absurd bad)
-unmarked_one (m ∷ marks) zero zero h = (let bad : ⊥ = cc h in absurd bad)
-unmarked_one (m ∷ marks) zero (suc x) h = (h, (λ e. (let bad : ⊥ = omega (arith, e) in bad)))
-unmarked_one (m ∷ marks) (suc y) zero h = (h, (λ e. (let bad : ⊥ = omega (arith, e) in bad)))
-unmarked_one (m ∷ marks) (suc y) (suc x) h = (let rest = unmarked_one marks y x h in (rest.0, (λ e. rest.1 (omega (arith, e)))))
-
--- all marks are taken away
-pub unmarked_all : (old new : List Bool) (types : List ℕ) → AreMarks old types
-    → ((x : ℕ) → IsTrue (is_marked new x) → IsTrue (is_marked old x) × ¬ Contains types x) → AreMarks new []
-unmarked_all old new types h gone x = ((λ t. (let p = gone x t in absurd (p.1 ((h x).0 p.0)))), (λ k. absurd (contains_none x k)))

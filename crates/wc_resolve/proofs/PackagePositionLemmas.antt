@@ -12,8 +12,8 @@ use Rattle.std.proofs.lemmas.List.{length-map}
 use Rattle.wc_resolve.specs.declared.packages.PackageName.{PackageName}
 use Rattle.wc_resolve.specs.contracts.packages.PackageNamePartialEq.TheImpl.{eq-value}
 use Rattle.wc_resolve.specs.Views.{PackageNameView, PackageView, package_name_view}
-use Rattle.wc_resolve.specs.Queries.{package_name_at}
-use Rattle.wc_resolve.specs.Tables.{AreNamesOf}
+use Rattle.wc_resolve.specs.Resolve.{package_name_at}
+use Rattle.wc_resolve.specs.Validate.{AreNamesOf}
 use Rattle.wc_resolve.proofs.PackageNameLemmas.{names_law}
 use Rattle.wc_resolve.proofs.ViewedLemmas.{view_found}
 

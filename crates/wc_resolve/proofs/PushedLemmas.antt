@@ -16,9 +16,6 @@ pub record IsPushed {E : Type 0} (f : E → List ℕ) (full left : List E) (old 
   pub split : full ≡ front ++ left
   pub pushed : new ≡ old ++ flat_map f front
 
-pub push_start : {E : Type 0} (f : E → List ℕ) (full : List E) (old : List ℕ) → IsPushed f full full old old
-push_start f full old = record { front = []; split = refl; pushed = sym (append-nil old) }
-
 pub push_step : {E : Type 0} (f : E → List ℕ) (full left rest : List E) (e : E) (old mid new : List ℕ) → IsPushed f full left old mid → left ≡ e ∷ rest → new ≡ mid ++ f e → IsPushed f full rest old new
 push_step f full left rest e old mid new p at more = record {
   front = p.front ++ e ∷ [];

@@ -9,14 +9,14 @@ use Rattle.wc_resolve.specs.declared.validate.order.OrderFault.TheVariants.{Memo
 use Rattle.wc_resolve.specs.declared.explain.Part.{Part}
 use Rattle.wc_resolve.specs.declared.explain.Part.TheVariants.{TypeDef, Package}
 use Rattle.wc_resolve.specs.declared.explain.Refusal.{Refusal}
-use Rattle.wc_resolve.specs.Faults.{IsOrderCause, IsResolveCause}
-use Rattle.wc_resolve.specs.Places.{IsBreach, IsPlace, IsRepeatAt}
+use Rattle.wc_resolve.specs.Fault.{IsOrderCause, IsResolveCause}
+use Rattle.wc_resolve.specs.Explain.{IsBreach, IsPlace, IsRepeatAt}
 use Rattle.wc_resolve.specs.Ranges.{AreIdsInRange}
 use Rattle.wc_resolve.specs.Refusals.{IsOrderRefusal, IsRefusal, IsRepeatRefused, IsRuleBroken}
 use Rattle.wc_resolve.specs.Views.{PackageView}
 use Rattle.wc_resolve.specs.WellFormed.{AreNamed, KeysMatch, HaveDistinctNames, AreNamesSpelled, HasNoResourceByValue}
-use Rattle.wc_resolve.specs.World.{ResolveView, HasCycle}
-use Rattle.wc_resolve.proofs.PlaceLemmas.{broken, filled_iff, free_iff, in_range_iff, match_iff, named_iff, spelled_iff}
+use Rattle.wc_resolve.specs.Kinds.{ResolveView, HasCycle}
+use Rattle.wc_resolve.proofs.ExplainLemmas.{broken, filled_iff, free_iff, in_range_iff, match_iff, named_iff, spelled_iff}
 
 rule_refused : (r : ResolveView) (x : Refusal) (f : ResolveFault) → ((p : Part) → IsBreach r f p → IsResolveCause r f × IsPlace r f p) → IsRuleBroken r f x → IsRefusal r x
 rule_refused r x f h (inl memory) = inl memory

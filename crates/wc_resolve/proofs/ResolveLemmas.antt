@@ -1,18 +1,15 @@
 -- The tables of a `Resolve`, from the checks of its parts.
-use Rattle.std.proofs.Common.{◌≡◌, ◌↔◌, ℕ, ◌<◌, Bool, true, false, IsTrue, List, map, length, Result, Ok, Err, sym, ap, ◌∙◌, subst}
+use Rattle.std.proofs.Common.{◌≡◌, ◌↔◌, ℕ, ◌<◌, Bool, IsTrue, List, map, length, Result, Ok, Err, sym, ap, ◌∙◌, subst}
 use Rattle.std.specs.Prelude.{IfOk}
 use Rattle.std.specs.List.{Contains}
 use Rattle.std.proofs.lemmas.List.{length-map}
 use Rattle.wc_resolve.specs.declared.types.TypeDef.{TypeDef}
-use Rattle.wc_resolve.specs.Tables.{IsOrder}
+use Rattle.wc_resolve.specs.Validate.{IsOrder}
 use Rattle.wc_resolve.specs.Ranges.{AreIdsInRange, IsFunctionIn}
 use Rattle.wc_resolve.specs.Views.{FunctionView, TypeView, type_view}
-use Rattle.wc_resolve.specs.World.{ResolveView, HasCycle, IsChildrenFirst, SignatureHasOnly, children}
+use Rattle.wc_resolve.specs.Kinds.{ResolveView, HasCycle, IsChildrenFirst, SignatureHasOnly, children}
 use Rattle.wc_resolve.specs.WellFormed.{IsFree, IsUsable}
 use Rattle.wc_resolve.proofs.AcyclicLemmas.{acyclic, children_within, ids_of_types}
-
-pub refute : {P : Type 0} (b : Bool) → IsTrue b ↔ P → b ≡ false → P → ⊥
-refute b f e p = let t : true ≡ false = sym (f.1 p) ∙ e in let bad : ⊥ = cc t in bad
 
 pub no_cycle : (types : List TypeView) (order : List ℕ) → IsOrder types order → HasCycle types → ⊥
 no_cycle types order o = acyclic types order o.first o.all

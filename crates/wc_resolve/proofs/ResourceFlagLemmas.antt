@@ -7,7 +7,7 @@ use Rattle.std.proofs.lemmas.List.Elements.{Contains-push}
 use Rattle.wc_resolve.specs.declared.ids.TypeId.{TypeId}
 use Rattle.wc_resolve.specs.declared.types.WitType.TheVariants.{Id}
 use Rattle.wc_resolve.specs.Views.{KindView, resource_kind, alias_kind, TypeView}
-use Rattle.wc_resolve.specs.World.{IsResource, defined, aliased, IsChildrenFirst, children, kind_at, referenced_indices}
+use Rattle.wc_resolve.specs.Kinds.{IsResource, defined, aliased, IsChildrenFirst, children, kind_at, referenced_indices}
 use Rattle.wc_resolve.specs.Resources.{AreResourceFlags, is_resource_kind}
 use Rattle.wc_resolve.proofs.TableEntryLemmas.{AreEntries, table_start, table_step, table_end}
 

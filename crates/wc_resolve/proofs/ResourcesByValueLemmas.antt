@@ -8,8 +8,8 @@ use Rattle.wc_resolve.specs.declared.types.WitType.{WitType}
 use Rattle.wc_resolve.specs.declared.types.WitType.TheVariants.{Id}
 use Rattle.wc_resolve.specs.Views.{KindView, TypeView, FunctionView, ItemView, interface_item, function_item, type_item, WorldView, InterfaceView}
 use Rattle.wc_resolve.specs.Resources.{AreResourceFlags, IsNotResource}
-use Rattle.wc_resolve.specs.World.{ResolveView, IsResource, defined, aliased, kind_at, SignatureHasOnly, DoesItemPass, DoesWorldPass, DoesInterfacePass}
-use Rattle.wc_resolve.specs.World.{DoesTypePass, DoAllTypesPass, contained_types}
+use Rattle.wc_resolve.specs.Kinds.{ResolveView, IsResource, defined, aliased, kind_at, SignatureHasOnly, DoesItemPass, DoesWorldPass, DoesInterfacePass}
+use Rattle.wc_resolve.specs.Kinds.{DoesTypePass, DoAllTypesPass, contained_types}
 use Rattle.wc_resolve.specs.WellFormed.{IsFree}
 
 pub kind_none : (types : List TypeView) (x : ℕ) → length types ≤ x → kind_at types x ≡ None
@@ -91,13 +91,6 @@ all_weaker P Q h r x = (
   All-weaker (DoesWorldPass P) (DoesWorldPass Q) (world_weaker P Q h) r.worlds x.0,
   All-weaker (DoesInterfacePass P) (DoesInterfacePass Q) (interface_weaker P Q h) r.interfaces x.1,
   All-weaker (DoesTypePass P) (DoesTypePass Q) (type_weaker P Q h) r.types x.2,
-)
-
-pub all_free : (r : ResolveView) (resource_flags : List Bool) → AreResourceFlags r.types resource_flags
-    → DoAllTypesPass (IsNotResource resource_flags) r ↔ DoAllTypesPass (IsFree r.types) r
-all_free r resource_flags m = (
-  all_weaker (IsNotResource resource_flags) (IsFree r.types) (not_resource_free r.types resource_flags m) r,
-  all_weaker (IsFree r.types) (IsNotResource resource_flags) (free_not_resource r.types resource_flags m) r,
 )
 
 pub function_free : (types : List TypeView) (resource_flags : List Bool) (f : FunctionView) → AreResourceFlags types resource_flags

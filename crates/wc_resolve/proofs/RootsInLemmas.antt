@@ -9,7 +9,7 @@ use Rattle.wc_resolve.specs.declared.types.WitType.TheVariants.{Id}
 use Rattle.wc_resolve.specs.declared.functions.FunctionKind.{FunctionKind}
 use Rattle.wc_resolve.specs.declared.functions.FunctionKind.TheVariants.{Static, AsyncStatic}
 use Rattle.wc_resolve.specs.Views.{FunctionView, InterfaceView, ItemView, interface_item, function_item, type_item}
-use Rattle.wc_resolve.specs.World.{ResolveView, SignatureHasOnly}
+use Rattle.wc_resolve.specs.Kinds.{ResolveView, SignatureHasOnly}
 use Rattle.wc_resolve.specs.Ranges.{AreIdsInRange, AreNamesIn, IsFunctionIn, IsItemIn, IsKindIn, IsTypeIn}
 use Rattle.wc_resolve.specs.Roots.{type_roots, static_roots, passed_roots, function_roots, interface_roots, item_roots}
 use Rattle.wc_resolve.proofs.SearchLemmas.{contains_none}

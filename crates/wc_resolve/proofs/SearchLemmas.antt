@@ -6,7 +6,7 @@ use Rattle.std.proofs.lemmas.Bool.{cases_eq, cases_lt}
 use Rattle.std.proofs.lemmas.List.Elements.{Contains-append_left, Contains-append_right, Contains-append_cases, Contains-push, Contains-push_cases}
 use Rattle.std.proofs.lemmas.List.{map-append, get_or-set_same, get_or-set_other, get_or_append_left, get_or_default, length-map, length-replicate, take-append-le}
 use Rattle.std.proofs.Math.Seq.{take-append_seam, get_or-append_seam}
-use Rattle.wc_resolve.specs.World.{Leads, refers, further, IsChildrenFirst}
+use Rattle.wc_resolve.specs.Kinds.{Leads, refers, further, IsChildrenFirst}
 use Rattle.wc_resolve.specs.declared.validate.order.Progress.{Progress}
 use Rattle.wc_resolve.specs.declared.validate.order.Progress.TheVariants.{New, Open, Done}
 use Rattle.wc_resolve.specs.declared.validate.order.IndexStep.{IndexStep}
@@ -312,10 +312,6 @@ waits_enter : (next : ℕ → List ℕ) (progress : List Progress) (x : ℕ) →
     → IsDone (set progress x Open) c ⊎ Contains (map target (Leave x ∷ map Enter (next x))) c
 waits_enter next progress x new c (inl d) = inl (done_open progress x new c d)
 waits_enter next progress x new c (inr k) = inr (rw (← one_target (Enter x) c k) (contains_head (map target (map Enter (next x))) x))
-
-no_leaves : (xs : List ℕ) (y : ℕ) → Contains (map Enter xs) (Leave y) → ⊥
-no_leaves [] y h = contains_none (Leave y) h
-no_leaves (x ∷ xs) y h = elim (contains_cons (Enter x) (map Enter xs) (Leave y) h) [ inl same ↦ (let bad : ⊥ = cc same in bad) | inr rest ↦ no_leaves xs y rest ]
 
 pub walk_enter : (next : ℕ → List ℕ) (n x : ℕ) (progress : List Progress) (rest : List IndexStep) (order : List ℕ)
     → IsWalk next n progress (rest ++ Enter x ∷ []) order → progress_at progress x ≡ New → ((c : ℕ) → Contains (next x) c → c < n)

@@ -10,8 +10,8 @@ use Rattle.std.proofs.lemmas.Map.Keys.{IsDistinct-push}
 use Rattle.std.proofs.lemmas.Map.Steps.{length-le_from_distinct_below}
 use Rattle.std.proofs.lemmas.Map.Views.{Contains-from_any}
 use Rattle.wc_resolve.specs.Views.{TypeView}
-use Rattle.wc_resolve.specs.World.{IsChildrenFirst, children, kind_at}
-use Rattle.wc_resolve.specs.Tables.{IsOrder}
+use Rattle.wc_resolve.specs.Kinds.{IsChildrenFirst, children, kind_at}
+use Rattle.wc_resolve.specs.Validate.{IsOrder}
 use Rattle.wc_resolve.specs.TypeRules.{Rule, Follows, IsOnlyFollowing, repeated, value_by_rule}
 use Rattle.wc_resolve.proofs.AcyclicLemmas.{position_before}
 use Rattle.wc_resolve.proofs.SearchLemmas.{first_push}

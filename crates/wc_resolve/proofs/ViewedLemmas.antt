@@ -1,5 +1,5 @@
 -- What is true of each element of a list, and of each element's view.
-use Rattle.std.proofs.Common.{◌≡◌, ℕ, zero, suc, ◌<◌, ◌≤◌, ◌+◌, ◌↔◌, Bool, true, false, IsTrue, List, [], ◌∷◌, map, length, take, get_or, Some, None, Result, Ok, Err, refl, sym, ap, subst, ◌∙◌, arith}
+use Rattle.std.proofs.Common.{◌≡◌, ℕ, ◌<◌, ◌+◌, ◌↔◌, Bool, true, false, IsTrue, List, [], ◌∷◌, map, length, take, get_or, Some, Result, Ok, Err, sym, ap, subst, ◌∙◌, arith}
 use Rattle.std.specs.Prelude.{slice_get, IfOk}
 use Rattle.std.specs.Option.{option_map}
 use Rattle.std.proofs.lemmas.Option.{slice_get-map, slice_get-get_or}
@@ -32,11 +32,6 @@ not_all f P xs i x b small read test fail = (
 -- the view of the element at an index
 pub view_found : {X Y : Type 0} (f : X → Y) (xs : List X) (i : ℕ) (d : X) → i < length xs → slice_get (map f xs) i ≡ Some (f (get_or xs i d))
 view_found f xs i d small = slice_get-map f xs i ∙ ap (λ o. option_map f o) (slice_get-get_or xs i d small)
-
-pub view_none : {X Y : Type 0} (f : X → Y) (xs : List X) (i : ℕ) → length xs ≤ i → slice_get (map f xs) i ≡ None
-view_none f [] i h = refl
-view_none f (x ∷ xs) zero h = absurd (omega (arith, h))
-view_none f (x ∷ xs) (suc i) h = view_none f xs i (omega (arith, h))
 
 pub iff_trans : {A B C : Type 0} → A ↔ B → B ↔ C → A ↔ C
 iff_trans f g = ((λ a. g.0 (f.0 a)), (λ c. f.1 (g.1 c)))

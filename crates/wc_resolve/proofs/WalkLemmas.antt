@@ -12,7 +12,7 @@ use Rattle.wc_resolve.specs.declared.ids.TypeId.{TypeId}
 use Rattle.wc_resolve.specs.declared.walk.TypeStep.{TypeStep}
 use Rattle.wc_resolve.specs.declared.walk.TypeStep.TheVariants.{Enter, Leave}
 use Rattle.wc_resolve.specs.Views.{TypeView}
-use Rattle.wc_resolve.specs.World.{children, referenced_indices}
+use Rattle.wc_resolve.specs.Kinds.{children, referenced_indices}
 use Rattle.std.specs.Option.{option_map, option_map_or}
 use Rattle.std.specs.Result.{OnErr}
 use Rattle.wc_resolve.specs.TypeRules.{Follows}

@@ -4,11 +4,11 @@ use Rattle.std.proofs.Common.{◌≡◌, ℕ, zero, suc, ◌<◌, List, [], ◌�
 use Rattle.std.specs.Prelude.{slice_get}
 use Rattle.std.specs.Option.{IfSome, IsSome, option_and_then, option_map}
 use Rattle.std.proofs.lemmas.Option.{get_or_from_slice_get, slice_get_within}
-use Rattle.wc_resolve.specs.Queries.{VersionView, interface_id, key_text, member_text, package_of, qualified_name}
+use Rattle.wc_resolve.specs.Resolve.{VersionView, interface_id, key_text, member_text, package_of, qualified_name}
 use Rattle.wc_resolve.specs.Ranges.{AreIdsInRange, AreLinksIn, AreNamesIn, IsEntryIn, IsFunctionIn, IsInterfaceIn, IsItemIn, IsKeyIn, IsPackageIn, IsWorldIn}
 use Rattle.wc_resolve.specs.Views.{FunctionView, KeyView, plain_key, interface_key, ItemView, interface_item, function_item, type_item, InterfaceView, PackageNameView, PackageView, WorldView}
 use Rattle.wc_resolve.specs.WellFormed.{AreKeysIdentified, AreNamed, HasNoResourceByValue, IsFree, IsIdentified, IsKeyIdentified, IsUsable, IsWellFormed}
-use Rattle.wc_resolve.specs.World.{ResolveView, DoAllTypesPass, DoesInterfacePass, DoesItemPass, DoesWorldPass, SignatureHasOnly}
+use Rattle.wc_resolve.specs.Kinds.{ResolveView, DoAllTypesPass, DoesInterfacePass, DoesItemPass, DoesWorldPass, SignatureHasOnly}
 
 -- what holds of all holds of the one at an index
 pub all_get : {X : Type 0} (P : X → Type 0) (xs : List X) (i : ℕ) (x : X) → All P xs → slice_get xs i ≡ Some x → P x
@@ -142,9 +142,6 @@ module _ (r : ResolveView) (w : IsWellFormed r) (i : ℕ) (v : InterfaceView) (a
   -- its package, and the interface that it is a clone of
   pub package_in_range : (p : ℕ) → v.in_package ≡ Some p → p < length r.packages
   package_in_range p is = subst (λ (o : Option ℕ). IfSome o (λ q. q < length r.packages)) is (package_link r v (links_in r v (interface_in r i v w.in_range at)))
-
-  pub clone_in_range : (c : ℕ) → v.clone_of ≡ Some c → c < length r.interfaces
-  clone_in_range c is = subst (λ (o : Option ℕ). IfSome o (λ q. q < length r.interfaces)) is (clone_link r v (links_in r v (interface_in r i v w.in_range at)))
 
 -- the interfaces of a package
 pub package_interfaces_in : (r : ResolveView) → IsWellFormed r → (i : ℕ) (p : PackageView) → slice_get r.packages i ≡ Some p → All (λ (e : List ℕ × ℕ). e.1 < length r.interfaces) p.interfaces

@@ -8,7 +8,7 @@ use Rattle.wc_resolve.specs.declared.types.WitType.TheVariants.{String, Id}
 use Rattle.wc_resolve.specs.Futures.{carried_types}
 use Rattle.wc_resolve.specs.TypeRules.{Rule, value_by_rule}
 use Rattle.wc_resolve.specs.Views.{KindView, list_kind, TypeView}
-use Rattle.wc_resolve.specs.World.{ResolveView}
+use Rattle.wc_resolve.specs.Kinds.{ResolveView}
 
 -- a type has text: it is a string, or a defined type that has
 abbrev pub has_text : (ℕ → Bool) → WitType → Bool

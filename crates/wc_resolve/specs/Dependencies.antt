@@ -6,7 +6,7 @@ use Rattle.wc_resolve.specs.declared.ids.InterfaceId.{InterfaceId}
 use Rattle.wc_resolve.specs.declared.types.TypeOwner.{TypeOwner}
 use Rattle.wc_resolve.specs.declared.types.TypeOwner.TheVariants.{Interface as OfInterface}
 use Rattle.wc_resolve.specs.Views.{KindView, alias_kind, TypeView, InterfaceView}
-use Rattle.wc_resolve.specs.World.{ResolveView, kind_at, type_index}
+use Rattle.wc_resolve.specs.Kinds.{ResolveView, kind_at, type_index}
 
 abbrev pub id_of_interface : InterfaceId → ℕ
 id_of_interface id = id.0

@@ -8,7 +8,7 @@ use Rattle.wc_resolve.specs.declared.ids.TypeId.{TypeId}
 use Rattle.wc_resolve.specs.declared.types.WitType.{WitType}
 use Rattle.wc_resolve.specs.Live.{listing_from, listing_of}
 use Rattle.wc_resolve.specs.Views.{KindView, alias_kind, future_kind, stream_kind, FunctionView, TypeView}
-use Rattle.wc_resolve.specs.World.{ResolveView, contained_types, kind_at, type_index}
+use Rattle.wc_resolve.specs.Kinds.{ResolveView, contained_types, kind_at, type_index}
 use Rattle.wc_resolve.specs.TypeRules.{Rule, value_by_rule}
 use Rattle.wc_resolve.specs.Roots.{indices, passed_roots}
 

@@ -4,7 +4,7 @@ use Rattle.std.specs.Borrow.{Bor}
 use Rattle.std.specs.List.{flat_map, list_any}
 use Rattle.std.specs.Option.{option_map_or}
 use Rattle.wc_resolve.specs.Views.{TypeView}
-use Rattle.wc_resolve.specs.World.{ResolveView, children, referenced_indices}
+use Rattle.wc_resolve.specs.Kinds.{ResolveView, children, referenced_indices}
 use Rattle.wc_resolve.specs.TypeRules.{Rule, value_by_rule}
 
 -- the listing of a type: the listings of the types that it refers to, in order, and after them the type itself

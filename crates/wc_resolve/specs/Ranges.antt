@@ -8,7 +8,7 @@ use Rattle.wc_resolve.specs.declared.types.TypeOwner.TheVariants.{World as OfWor
 use Rattle.wc_resolve.specs.declared.functions.FunctionKind.{FunctionKind}
 use Rattle.wc_resolve.specs.declared.functions.FunctionKind.TheVariants.{Freestanding, AsyncFreestanding, Method, AsyncMethod, Static, AsyncStatic, Constructor}
 use Rattle.wc_resolve.specs.Views.{FunctionView, KeyView, plain_key, interface_key, ItemView, interface_item, function_item, type_item, WorldView, InterfaceView, TypeView, PackageView}
-use Rattle.wc_resolve.specs.World.{ResolveView, SignatureHasOnly, referenced_types}
+use Rattle.wc_resolve.specs.Kinds.{ResolveView, SignatureHasOnly, referenced_types}
 
 -- primitive, or a defined type with an index below a count
 abbrev pub IsTypeIn : ℕ → WitType → Type 0

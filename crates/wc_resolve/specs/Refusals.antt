@@ -8,13 +8,13 @@ use Rattle.wc_resolve.specs.declared.explain.Part.{Part}
 use Rattle.wc_resolve.specs.declared.explain.Part.TheVariants.{TypeDef, Package}
 use Rattle.wc_resolve.specs.declared.explain.Refusal.{Refusal}
 use Rattle.wc_resolve.specs.declared.validate.Checked.{Checked}
-use Rattle.wc_resolve.specs.Faults.{IsResolveCause}
-use Rattle.wc_resolve.specs.Places.{IsBreach, IsPlace, IsRepeatAt}
+use Rattle.wc_resolve.specs.Fault.{IsResolveCause}
+use Rattle.wc_resolve.specs.Explain.{IsBreach, IsPlace, IsRepeatAt}
 use Rattle.wc_resolve.specs.Resources.{AreResourceFlags}
-use Rattle.wc_resolve.specs.Tables.{AreNamesOf, IsOrder}
+use Rattle.wc_resolve.specs.Validate.{AreNamesOf, IsOrder}
 use Rattle.wc_resolve.specs.Views.{PackageView}
 use Rattle.wc_resolve.specs.WellFormed.{IsWellFormed}
-use Rattle.wc_resolve.specs.World.{ResolveView}
+use Rattle.wc_resolve.specs.Kinds.{ResolveView}
 
 -- an allocation failed: it is about no part
 abbrev pub IsMemoryRefusal : Refusal → Type 0

@@ -2,7 +2,7 @@
 use Rattle.std.specs.Prelude.{map}
 use Rattle.wc_resolve.specs.declared.resolve.Parts.{Parts}
 use Rattle.wc_resolve.specs.Views.{world_view, interface_view, type_view, package_view}
-use Rattle.wc_resolve.specs.World.{ResolveView}
+use Rattle.wc_resolve.specs.Kinds.{ResolveView}
 
 abbrev pub parts_view : Parts → ResolveView
 parts_view p = record {

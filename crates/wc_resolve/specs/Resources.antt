@@ -3,7 +3,7 @@ use Rattle.std.specs.Prelude.{◌≡◌, ◌↔◌, ℕ, ◌<◌, Bool, true, fa
 use Rattle.wc_resolve.specs.declared.types.WitType.{WitType}
 use Rattle.wc_resolve.specs.declared.types.WitType.TheVariants.{Id}
 use Rattle.wc_resolve.specs.Views.{KindView, resource_kind, alias_kind, TypeView}
-use Rattle.wc_resolve.specs.World.{IsResource}
+use Rattle.wc_resolve.specs.Kinds.{IsResource}
 
 -- whether a type is a resource, by the flags of others: it is one, or an alias of a type that is flagged
 abbrev pub is_resource_kind : List Bool → Option KindView → Bool

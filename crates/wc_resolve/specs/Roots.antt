@@ -10,7 +10,7 @@ use Rattle.wc_resolve.specs.declared.types.WitType.TheVariants.{Id}
 use Rattle.wc_resolve.specs.declared.functions.FunctionKind.{FunctionKind}
 use Rattle.wc_resolve.specs.declared.functions.FunctionKind.TheVariants.{Static, AsyncStatic}
 use Rattle.wc_resolve.specs.Views.{FunctionView, function_view, InterfaceView, ItemView, interface_item, function_item, type_item}
-use Rattle.wc_resolve.specs.World.{ResolveView}
+use Rattle.wc_resolve.specs.Kinds.{ResolveView}
 
 abbrev pub id_index : TypeId → ℕ
 id_index id = id.0

@@ -1,7 +1,7 @@
 -- Values of types, each made from the values of the types that it refers to.
 use Rattle.std.specs.Prelude.{◌≡◌, ℕ, zero, suc, ◌<◌, List, length, Option}
 use Rattle.wc_resolve.specs.Views.{KindView, TypeView}
-use Rattle.wc_resolve.specs.World.{kind_at}
+use Rattle.wc_resolve.specs.Kinds.{kind_at}
 
 -- how the value at an index is made: from the values at other indices, the index, and the kind of the type there
 abbrev pub Rule : Type 0 → Type 0

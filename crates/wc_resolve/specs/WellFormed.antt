@@ -7,7 +7,7 @@ use Rattle.wc_resolve.specs.declared.types.WitType.TheVariants.{Id}
 use Rattle.wc_resolve.specs.Views.{KindView, resource_kind, flags_kind, variant_kind, enum_kind, FunctionView, KeyView, plain_key, interface_key, ItemView, interface_item, function_item, type_item, WorldView, InterfaceView, TypeView, PackageView}
 use Rattle.wc_resolve.specs.Names.{IsName, IsFunctionName}
 use Rattle.wc_resolve.specs.Ranges.{AreIdsInRange, IsFunctionIn}
-use Rattle.wc_resolve.specs.World.{ResolveView, HasCycle, IsResource, DoAllTypesPass, SignatureHasOnly}
+use Rattle.wc_resolve.specs.Kinds.{ResolveView, HasCycle, IsResource, DoAllTypesPass, SignatureHasOnly}
 
 -- the name of the interface at an index
 abbrev pub interface_name : ResolveView → ℕ → Option (List ℕ)

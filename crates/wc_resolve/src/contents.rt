@@ -6,9 +6,9 @@ ghost use Rattle.std.specs.List.{list_any};
 ghost use Rattle.std.specs.Option.{option_map_or};
 ghost use Rattle.wc_resolve.specs.Contents.{AreTextFlags, has_text, is_list, text_flag, text_rule};
 ghost use Rattle.wc_resolve.specs.Futures.{carried_types};
-ghost use Rattle.wc_resolve.specs.Tables.{IsOrder};
+ghost use Rattle.wc_resolve.specs.Validate.{IsOrder};
 ghost use Rattle.wc_resolve.specs.Views.{kind_view, type_view};
-ghost use Rattle.wc_resolve.specs.World.{kind_at};
+ghost use Rattle.wc_resolve.specs.Kinds.{kind_at};
 
 use crate::{TypeDef, TypeDefKind, WitType};
 use std::alloc::{AllocError, Global};

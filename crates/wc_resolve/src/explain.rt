@@ -1,7 +1,7 @@
 //! The places of faults of parts: the first world, interface, type or package that breaks the fault's rule.
 
 ghost use Rattle.std.specs.Prelude.{IfOk};
-ghost use Rattle.wc_resolve.specs.Places.{IsExplained};
+ghost use Rattle.wc_resolve.specs.Explain.{IsExplained};
 ghost use Rattle.wc_resolve.specs.Refusals.{IsPlaceFor};
 ghost use Rattle.wc_resolve.specs.ResolveParts.{parts_view};
 

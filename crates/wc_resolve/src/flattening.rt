@@ -2,9 +2,9 @@
 
 ghost use Rattle.std.specs.Prelude.{◌≡◌, ◌<◌, ◌≤◌, ◌↔◌, ◌∷◌, [], IfOk, IsTrue, length, map, replicate};
 ghost use Rattle.wc_resolve.specs.Flat.{AreFlattened, cut, flat_cases, flat_fields, flat_flags, flat_kind, flat_rule, flat_types_kept, flatten_types, flat_variant, flats_in, lists};
-ghost use Rattle.wc_resolve.specs.Tables.{IsOrder};
+ghost use Rattle.wc_resolve.specs.Validate.{IsOrder};
 ghost use Rattle.wc_resolve.specs.Views.{kind_view, type_view};
-ghost use Rattle.wc_resolve.specs.World.{kind_at};
+ghost use Rattle.wc_resolve.specs.Kinds.{kind_at};
 
 use crate::flat::{KEPT_FLAT_TYPES, flat_payload, flatten_type, join_flat, put_flat};
 use crate::{TypeDef, TypeDefKind, WasmType, WitType};

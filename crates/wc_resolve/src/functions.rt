@@ -2,7 +2,7 @@
 
 ghost use Rattle.std.specs.Prelude.{◌≡◌, IfOk, string_bytes};
 ghost use Rattle.std.specs.Option.{option_copied};
-ghost use Rattle.wc_resolve.specs.Queries.{core_name};
+ghost use Rattle.wc_resolve.specs.Resolve.{core_name};
 
 use crate::{TypeId, WitType};
 use std::alloc::{AllocError, Global};

@@ -5,7 +5,7 @@ ghost use Rattle.std.specs.Option.{option_map, option_map_or};
 ghost use Rattle.std.specs.declared.alloc.Global.{Global};
 ghost use Rattle.wc_resolve.specs.declared.types.WitType.{WitType};
 ghost use Rattle.wc_resolve.specs.Futures.{AreFuturesEntries, IsEntryFor, IsPartWith, carried_indices, count_of, entry_at, entry_from, entry_view, ends_from, function_futures, futures_from, futures_of, is_carrier, max_count, no_futures, only_part, part_for, with_itself};
-ghost use Rattle.wc_resolve.specs.Tables.{IsOrder};
+ghost use Rattle.wc_resolve.specs.Validate.{IsOrder};
 ghost use Rattle.wc_resolve.specs.Ranges.{IsFunctionIn, IsTypeIn};
 ghost use Rattle.wc_resolve.specs.Roots.{id_index, indices, param_roots, type_roots};
 ghost use Rattle.wc_resolve.specs.Views.{function_view, kind_view, type_view};

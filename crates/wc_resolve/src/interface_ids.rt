@@ -3,7 +3,7 @@
 ghost use Rattle.std.specs.Prelude.{◌≡◌, IfOk, string_bytes};
 ghost use Rattle.semver.specs.Identifiers.{parts_text};
 ghost use Rattle.wc_resolve.specs.Names.{track};
-ghost use Rattle.wc_resolve.specs.Queries.{joined_id, member_text};
+ghost use Rattle.wc_resolve.specs.Resolve.{joined_id, member_text};
 ghost use Rattle.wc_resolve.specs.Views.{package_name_view};
 
 use crate::PackageName;

@@ -6,7 +6,7 @@ ghost use Rattle.std.specs.declared.alloc.Global.{Global};
 ghost use Rattle.wc_resolve.specs.declared.types.WitType.{WitType};
 ghost use Rattle.wc_resolve.specs.Views.{kind_view};
 ghost use Rattle.wc_resolve.specs.Futures.{carried_types};
-ghost use Rattle.wc_resolve.specs.World.{contained_types, referenced_indices, referenced_types, resource_of, type_index};
+ghost use Rattle.wc_resolve.specs.Kinds.{contained_types, referenced_indices, referenced_types, resource_of, type_index};
 ghost use Rattle.std.specs.Option.{option_to_list};
 
 use crate::{Handle, TypeDefKind, TypeId, WitType};

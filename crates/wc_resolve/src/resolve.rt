@@ -6,18 +6,18 @@ ghost use Rattle.semver.specs.Identifiers.{parts_text};
 ghost use Rattle.wc_resolve.specs.Contents.{holds_string, holds_string_or_list};
 ghost use Rattle.wc_resolve.specs.Views.{function_view, interface_view, item_view, key_view, package_name_view, package_view, type_view, world_view};
 ghost use Rattle.wc_resolve.specs.Dependencies.{AddsDependencies, aliased_at, dependency, direct_dependencies, id_of_interface, interface_ids, other_owner};
-ghost use Rattle.wc_resolve.specs.Faults.{IsResolveCause};
+ghost use Rattle.wc_resolve.specs.Fault.{IsResolveCause};
 ghost use Rattle.wc_resolve.specs.Flat.{flat_of, flat_rule};
 ghost use Rattle.wc_resolve.specs.TypeRules.{Follows};
 ghost use Rattle.wc_resolve.specs.Futures.{IsFuturesEntry, entry_view, futures_of, futures_rule};
 ghost use Rattle.wc_resolve.specs.Laws.{FlatTypesUnique, FuturesUnique, ListingsUnique, TextsFollow, TextsUnique};
 ghost use Rattle.wc_resolve.specs.Live.{listing_of, listing_rule};
 ghost use Rattle.wc_resolve.specs.ResolveParts.{parts_view};
-ghost use Rattle.wc_resolve.specs.Queries.{HasNoPackage, IsPackageAt, canonical_id, external_id, full_id, if_named, implemented, key_text, qualified_name};
+ghost use Rattle.wc_resolve.specs.Resolve.{HasNoPackage, IsPackageAt, canonical_id, external_id, full_id, if_named, implemented, key_text, qualified_name};
 ghost use Rattle.wc_resolve.specs.Ranges.{AreNamesIn, IsItemIn, IsKeyIn};
 ghost use Rattle.wc_resolve.specs.Refusals.{IsRefusal};
 ghost use Rattle.wc_resolve.specs.Roots.{id_index};
-ghost use Rattle.wc_resolve.specs.Signatures.{flatten_functype, signature_view};
+ghost use Rattle.wc_resolve.specs.Signature.{flatten_functype, signature_view};
 ghost use Rattle.wc_resolve.specs.WellFormed.{IsUsable, IsWellFormed};
 
 use crate::canonical_ids::is_canonical_member_id;
@@ -62,12 +62,12 @@ pub struct Parts {
 }
 
 impl Model for Resolve {
-    ghost use Rattle.wc_resolve.specs.World.{ResolveView};
+    ghost use Rattle.wc_resolve.specs.Kinds.{ResolveView};
 
     ghost Value = { ResolveView };
 
     ghost use Rattle.wc_resolve.specs.ResolveParts.{parts_view};
-    ghost use Rattle.wc_resolve.specs.Tables.{AreTables};
+    ghost use Rattle.wc_resolve.specs.Validate.{AreTables};
 
     ghost view = { λ r. parts_view r.parts };
 

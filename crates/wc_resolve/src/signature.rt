@@ -3,7 +3,7 @@
 
 ghost use Rattle.std.specs.Prelude.{◌≡◌, ◌<◌, IfOk, is_some};
 ghost use Rattle.wc_resolve.specs.Flat.{flats_in};
-ghost use Rattle.wc_resolve.specs.Signatures.{flatten_functype, core_of, first_as_pointer, has_indirect_result, is_export, max_flat_params_of, passed_types, returned_types, result_pointer, signature_view, is_exported_method};
+ghost use Rattle.wc_resolve.specs.Signature.{flatten_functype, core_of, first_as_pointer, has_indirect_result, is_export, max_flat_params_of, passed_types, returned_types, result_pointer, signature_view, is_exported_method};
 ghost use Rattle.wc_resolve.specs.Views.{function_view};
 
 use crate::flat::{MAX_FLAT_ASYNC_PARAMS, MAX_FLAT_PARAMS, MAX_FLAT_RESULTS, flat_payload};

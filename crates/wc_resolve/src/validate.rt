@@ -3,12 +3,12 @@
 ghost use Rattle.std.specs.Prelude.{IfErr, IfOk, MatchOption, false, map, true};
 ghost use Rattle.wc_resolve.specs.ResolveParts.{parts_view};
 ghost use Rattle.wc_resolve.specs.Contents.{AreTextFlags};
-ghost use Rattle.wc_resolve.specs.Faults.{IsOrderCause};
+ghost use Rattle.wc_resolve.specs.Fault.{IsOrderCause};
 ghost use Rattle.wc_resolve.specs.Flat.{AreFlattened, lists};
 ghost use Rattle.wc_resolve.specs.Futures.{AreFuturesEntries, entry_view};
-ghost use Rattle.wc_resolve.specs.Places.{AreFlagsFor, DoAllFollow, IsBreach};
+ghost use Rattle.wc_resolve.specs.Explain.{AreFlagsFor, DoAllFollow, IsBreach};
 ghost use Rattle.wc_resolve.specs.Refusals.{AreChecked, IsRefusal, IsRuleBroken};
-ghost use Rattle.wc_resolve.specs.Tables.{AreTables, IsOrder};
+ghost use Rattle.wc_resolve.specs.Validate.{AreTables, IsOrder};
 ghost use Rattle.wc_resolve.specs.Ranges.{AreIdsInRange};
 ghost use Rattle.wc_resolve.specs.Resources.{AreResourceFlags};
 

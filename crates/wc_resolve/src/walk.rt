@@ -3,7 +3,7 @@
 ghost use Rattle.std.specs.Prelude.{◌≡◌, ◌++◌, IfOk, OnOk, map, reverse};
 ghost use Rattle.std.specs.List.{filter_map};
 ghost use Rattle.wc_resolve.specs.Views.{kind_view};
-ghost use Rattle.wc_resolve.specs.World.{referenced_indices};
+ghost use Rattle.wc_resolve.specs.Kinds.{referenced_indices};
 ghost use Rattle.wc_resolve.specs.Roots.{indices, type_id};
 
 use crate::kinds::referenced_types;

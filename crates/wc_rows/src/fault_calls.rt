@@ -18,7 +18,7 @@ pub enum Call {
     Write,
     Dedupe,
     Gc,
-    Tool,
+    Wctrim,
 }
 
 /// Appends the answer of a call for the texts of faults.
@@ -28,7 +28,7 @@ pub fn answer(alloc: Global, call: Call, out: &mut Lines) {
         Call::Write => put_write_faults(alloc, out),
         Call::Dedupe => put_dedupe_faults(alloc, out),
         Call::Gc => put_gc_faults(alloc, out),
-        Call::Tool => put_tool_faults(alloc, out),
+        Call::Wctrim => put_wctrim_faults(alloc, out),
     }
 }
 
@@ -155,7 +155,7 @@ fn put_gc_faults(alloc: Global, out: &mut Lines) {
     }
 }
 
-fn put_tool_faults(alloc: Global, out: &mut Lines) {
+fn put_wctrim_faults(alloc: Global, out: &mut Lines) {
     put_text(alloc, &ToolFault::Memory, out);
     put_text(alloc, &ToolFault::Output, out);
     put_text(alloc, &ToolFault::Dedupe(DedupeFault::Memory), out);
@@ -164,11 +164,11 @@ fn put_tool_faults(alloc: Global, out: &mut Lines) {
         let fault = ToolFault::Trim(gc_fault(alloc, number, out));
         put_text(alloc, &fault, out);
     }
-    put_tool_reads(alloc, out);
+    put_wctrim_reads(alloc, out);
 }
 
 /// Those that carry a fault of the reader, or a fault that carries one.
-fn put_tool_reads(alloc: Global, out: &mut Lines) {
+fn put_wctrim_reads(alloc: Global, out: &mut Lines) {
     for fault in READ_FAULTS {
         put_text(alloc, &ToolFault::Read(fault), out);
         put_text(alloc, &ToolFault::Dedupe(DedupeFault::Read(fault)), out);

@@ -16,7 +16,7 @@ pub mod read_calls;
 pub mod seed_calls;
 pub mod set_calls;
 pub mod sink_calls;
-pub mod tool_calls;
 pub mod unfolding;
+pub mod wctrim_calls;
 pub mod why_calls;
 pub mod write_calls;

@@ -1,8 +1,8 @@
 //! Calls of sinks that fail: `WriterSink` over a writer that fails, and commands over a sink that does.
 
-ghost use Rattle.wctrim_command.specs.Command.{IsExecutable, command_value};
+ghost use Rattle.wctrim_command.specs.Command.{IsExecutable, command_view};
 
-use crate::tool_calls::{named_command, put_answer};
+use crate::wctrim_calls::{named_command, put_answer};
 use std::alloc::Global;
 use std::io::{self, Write};
 use wc_lines::input::{bad_row, bytes_of};
@@ -160,7 +160,7 @@ fn answer_on_bytes(alloc: Global, call: Call, row: &Row<'_>, input: &[u8], out: 
 }
 
 fn put_failing(alloc: Global, command: &Command<'_>, input: &[u8], puts: u32, out: &mut Lines)
-    requires { IsExecutable (command_value command.now) }
+    requires { IsExecutable (command_view command.now) }
 {
     let mut sink = FailAt {
         puts,
@@ -172,7 +172,7 @@ fn put_failing(alloc: Global, command: &Command<'_>, input: &[u8], puts: u32, ou
 }
 
 fn put_each_failing(alloc: Global, command: &Command<'_>, input: &[u8], out: &mut Lines)
-    requires { IsExecutable (command_value command.now) }
+    requires { IsExecutable (command_view command.now) }
 {
     for puts in 0..1000u32 {
         if !put_fails(alloc, command, input, puts, out) {
@@ -183,7 +183,7 @@ fn put_each_failing(alloc: Global, command: &Command<'_>, input: &[u8], out: &mu
 
 /// Whether the sink fails that takes so many puts.
 fn put_fails(alloc: Global, command: &Command<'_>, input: &[u8], puts: u32, out: &mut Lines) -> bool
-    requires { IsExecutable (command_value command.now) }
+    requires { IsExecutable (command_view command.now) }
 {
     let mut sink = FailAt {
         puts,

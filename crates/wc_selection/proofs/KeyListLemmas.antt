@@ -16,9 +16,9 @@ use Rattle.semver.specs.Identifiers.{parts_text}
 use Rattle.wc_resolve.specs.declared.worlds.WorldKey.{WorldKey}
 use Rattle.wc_resolve.specs.declared.worlds.WorldItem.{WorldItem}
 use Rattle.wc_resolve.specs.contracts.worlds.WorldKeyPartialEq.TheImpl.{eq-value as key_eq}
-use Rattle.wc_resolve.specs.Queries.{key_text}
+use Rattle.wc_resolve.specs.Resolve.{key_text}
 use Rattle.wc_resolve.specs.Views.{KeyView, item_view, key_view, world_entry}
-use Rattle.wc_resolve.specs.World.{ResolveView}
+use Rattle.wc_resolve.specs.Kinds.{ResolveView}
 use Rattle.wc_resolve.proofs.KeyLemmas.{keys_law}
 use Rattle.wc_selection.specs.Keys.{NamedKey, named_key, named_keys, with_text}
 

@@ -9,7 +9,7 @@ use Rattle.wc_names.specs.ExportViews.{ExportView, exported_func, exported_func_
 use Rattle.wc_names.specs.Exports.{AnyTypeName, ClassifiedExport, CoreExport, ExportKind, ExportMeaning, IsExportReadBy, IsExportRule, any_type, any_type_row, by_export_scheme, cabi_export_realloc, cabi_import_realloc, cabi_realloc_adapter, callback, callback_export, canonical_abi_realloc, destructor, export_kinds, function, function_export, function_table, initializer, is_export, memory, post_return, post_return_export, realloc, task_hook}
 use Rattle.wc_names.specs.First.{FirstOf}
 use Rattle.wc_names.specs.Imports.{NameScope}
-use Rattle.wc_names.specs.Schemes.{Scheme, initialize_name, task_hook_name}
+use Rattle.wc_names.specs.Mangling.{Scheme, initialize_name, task_hook_name}
 use Rattle.wc_selection.specs.TaskHook.{NoExportIsHook, no_task_hook}
 
 -- the task hook, and nothing else

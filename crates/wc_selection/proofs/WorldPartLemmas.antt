@@ -18,9 +18,6 @@ FoundBelow ws n whole = (index : ℕ) → index < n → HasAllParts ws index →
 abbrev pub PartsBelow : List WorldView → ℕ → ℕ → Type 0
 PartsBelow ws n whole = (other : ℕ) → other < n → IsOtherPart ws other whole
 
-pub no_world_yet : (ws : List WorldView) (whole : ℕ) → FoundBelow ws 0 whole
-no_world_yet ws whole index lt all = absurd (let e : ⊥ = omega (arith, lt) in e)
-
 pub none_below : (ws : List WorldView) (whole : ℕ) → PartsBelow ws 0 whole
 none_below ws whole other lt = absurd (let e : ⊥ = omega (arith, lt) in e)
 

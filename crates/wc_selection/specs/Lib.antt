@@ -1,5 +1,5 @@
 pub mod Texts
-pub mod Faults
+pub mod Fault
 pub mod Worlds
 pub mod WorldParts
 pub mod Keys

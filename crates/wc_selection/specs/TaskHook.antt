@@ -5,7 +5,7 @@ use Rattle.wc_resolve.specs.Views.{KeyView}
 use Rattle.wc_names.specs.Exports.{ClassifiedExport, CoreExport, is_export}
 use Rattle.wc_names.specs.ExportViews.{wasm_task_hook}
 use Rattle.wc_names.specs.Imports.{NameScope}
-use Rattle.wc_names.specs.Schemes.{initialize_name, legacy}
+use Rattle.wc_names.specs.Mangling.{initialize_name, legacy}
 
 -- the name of the initialiser
 abbrev pub no_task_hook : List ℕ

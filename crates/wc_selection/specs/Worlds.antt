@@ -5,7 +5,7 @@ use Rattle.std.specs.List.{range_with_len}
 use Rattle.std.specs.Str.{bytes_eq}
 use Rattle.semver.specs.Identifiers.{parts_text}
 use Rattle.wc_json.specs.Document.{DocumentView}
-use Rattle.wc_resolve.specs.Queries.{joined_id, member_text}
+use Rattle.wc_resolve.specs.Resolve.{joined_id, member_text}
 use Rattle.wc_resolve.specs.Views.{PackageNameView, PackageView, WorldView}
 use Rattle.wc_selection.specs.declared.fault.RequestFault.{RequestFault}
 use Rattle.wc_selection.specs.declared.fault.RequestFault.TheVariants.{Memory, PackageRange, UnknownWorld, SeveralWorlds}

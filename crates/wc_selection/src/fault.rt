@@ -26,7 +26,7 @@ pub enum RequestFault<'a> {
 }
 
 impl fmt::Display for RequestFault<'_> {
-    ghost use Rattle.wc_selection.specs.Faults.{request_fault_text};
+    ghost use Rattle.wc_selection.specs.Fault.{request_fault_text};
 
     ghost output = { λ fault. Some (request_fault_text fault) };
 

@@ -1,8 +1,7 @@
 //! The keys of a world's exports by their texts, for many modules: each text is looked up, and no module goes over all
 //! keys.
 
-ghost use Rattle.std.specs.Prelude.{◌≡◌, ◌<◌, ◌++◌, All, IfOk, List, OnOk, flat_map, length, map, ℕ};
-ghost use Rattle.std.specs.List.{AllPairs};
+ghost use Rattle.std.specs.Prelude.{◌≡◌, ◌<◌, ◌++◌, All, IfOk, List, OnOk, length, map, ℕ};
 ghost use Rattle.wc_resolve.specs.Views.{key_view};
 ghost use Rattle.wc_selection.specs.AdapterKeys.{AreAdapterKeys};
 ghost use Rattle.wc_selection.specs.KeyIndex.{AreApart, ArePositions, AreSorted, key_at, keys_under, listed_positions, viewed_key};

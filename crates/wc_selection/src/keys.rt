@@ -5,7 +5,7 @@ ghost use Rattle.std.specs.List.{list_any};
 ghost use Rattle.std.specs.Str.{bytes_eq};
 ghost use Rattle.std.specs.Option.{IsSome};
 ghost use Rattle.semver.specs.Identifiers.{parts_text};
-ghost use Rattle.wc_resolve.specs.Queries.{key_text};
+ghost use Rattle.wc_resolve.specs.Resolve.{key_text};
 ghost use Rattle.wc_resolve.specs.Ranges.{IsKeyIn};
 ghost use Rattle.wc_resolve.specs.Views.{world_entry};
 ghost use Rattle.wc_selection.specs.Keys.{AreKeysApart, export_keys, named_key, named_keys, texts_of};

@@ -4,7 +4,7 @@ ghost use Rattle.std.specs.Prelude.{◌≡◌, ◌<◌, ◌↔◌, All, IfErr, I
 ghost use Rattle.std.specs.Option.{option_map};
 ghost use Rattle.semver.specs.Identifiers.{parts_text};
 ghost use Rattle.wc_json.specs.Document.{document_view};
-ghost use Rattle.wc_resolve.specs.Queries.{joined_id, member_text};
+ghost use Rattle.wc_resolve.specs.Resolve.{joined_id, member_text};
 ghost use Rattle.wc_resolve.specs.Views.{package_name_view};
 ghost use Rattle.wc_selection.specs.Worlds.{ArePackagesIn, IsOnly, IsOnlyCause, IsPackageIn, IsSelected, IsWorldCause, is_full_name, is_named, is_short_name, package_name_of, world_name, worlds_named};
 

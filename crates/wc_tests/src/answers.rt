@@ -1,7 +1,7 @@
 //! A row's answer, from the library whose call it names.
 
 use crate::calls::{CALLS, Call};
-use crate::{law_calls, library_calls, plan_tool_calls, why_tool_calls};
+use crate::{law_calls, library_calls, wcplan_calls, wcwhy_calls};
 use std::alloc::Global;
 use wc_component_rows::{calls as world_calls, plans as plan_calls};
 use wc_example_rows::{examples, json_calls};
@@ -14,7 +14,7 @@ use wc_module_rows::validation::calls as validate_calls;
 use wc_name_rows::calls as scheme_calls;
 use wc_rows::{
     dedupe_calls, fault_calls, gc_calls, hostile_calls, machine_calls, machine_samples, read_calls,
-    seed_calls, set_calls, sink_calls, tool_calls, unfolding, why_calls, write_calls,
+    seed_calls, set_calls, sink_calls, unfolding, wctrim_calls, why_calls, write_calls,
 };
 
 /// Appends the lines of a row's answer.
@@ -53,7 +53,7 @@ fn answer_call(alloc: Global, call: Call, row: &Row<'_>, out: &mut Lines) {
         Call::Unfolding(call) => unfolding::answer(alloc, call, row, out),
         Call::Hostile(call) => hostile_calls::answer(alloc, call, row, out),
         Call::Fault(call) => fault_calls::answer(alloc, call, out),
-        Call::Tool(call) => tool_calls::answer(alloc, call, row, out),
+        Call::Wctrim(call) => wctrim_calls::answer(alloc, call, row, out),
         Call::Sink(call) => sink_calls::answer(alloc, call, row, out),
         Call::Law => law_calls::answer(alloc, row, out),
         Call::Resolve(call) => resolve_calls::answer(alloc, call, row, out),
@@ -65,8 +65,8 @@ fn answer_call(alloc: Global, call: Call, row: &Row<'_>, out: &mut Lines) {
         Call::World(call) => world_calls::answer(alloc, call, row, out),
         Call::Plan(call) => plan_calls::answer(alloc, call, row, out),
         Call::Library(call) => library_calls::answer(alloc, call, row, out),
-        Call::PlanTool(call) => plan_tool_calls::answer(alloc, call, row, out),
-        Call::WhyTool(call) => why_tool_calls::answer(alloc, call, row, out),
+        Call::Wcplan(call) => wcplan_calls::answer(alloc, call, row, out),
+        Call::Wcwhy(call) => wcwhy_calls::answer(alloc, call, row, out),
         Call::Example => examples::answer(alloc, row, out),
     }
 }

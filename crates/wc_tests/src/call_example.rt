@@ -3,7 +3,7 @@
 ghost use Rattle.std.specs.Prelude.{◌≡◌, ◌≢◌, [], ◌∷◌, Some, codes};
 ghost use Rattle.wc_calls.specs.Answers.{IsPut, done, failed};
 ghost use Rattle.wc_calls.specs.Trimming.{with_realloc};
-ghost use Rattle.wc_gc.specs.Liveness.{trim_input_for_names};
+ghost use Rattle.wc_gc.specs.LiveItems.{trim_input_for_names};
 ghost use Rattle.wc_gc.specs.TrimmedText.{IsTrimmed};
 
 use std::alloc::Global;

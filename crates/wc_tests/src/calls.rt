@@ -1,6 +1,6 @@
 //! The calls of rows, by their names.
 
-use crate::{library_calls, plan_tool_calls, why_tool_calls};
+use crate::{library_calls, wcplan_calls, wcwhy_calls};
 use wc_component_rows::{calls as world_calls, plans as plan_calls};
 use wc_fixtures::{encoder_calls, key_calls, name_calls, resolve_calls};
 use wc_module_rows::validation::calls as validate_calls;
@@ -9,7 +9,7 @@ use wc_name_rows::in_worlds::InWorld;
 use wc_name_rows::meanings::OnName;
 use wc_rows::{
     dedupe_calls, fault_calls, gc_calls, hostile_calls, machine_calls, machine_samples, read_calls,
-    set_calls, sink_calls, tool_calls, unfolding, why_calls, write_calls,
+    set_calls, sink_calls, unfolding, wctrim_calls, why_calls, write_calls,
 };
 
 /// A call, by what answers it.
@@ -27,7 +27,7 @@ pub(crate) enum Call {
     Unfolding(unfolding::Call),
     Hostile(hostile_calls::Call),
     Fault(fault_calls::Call),
-    Tool(tool_calls::Call),
+    Wctrim(wctrim_calls::Call),
     Sink(sink_calls::Call),
     Law,
     Resolve(resolve_calls::Call),
@@ -39,8 +39,8 @@ pub(crate) enum Call {
     World(world_calls::Call),
     Plan(plan_calls::Call),
     Library(library_calls::Call),
-    PlanTool(plan_tool_calls::Call),
-    WhyTool(why_tool_calls::Call),
+    Wcplan(wcplan_calls::Call),
+    Wcwhy(wcwhy_calls::Call),
     Example,
 }
 
@@ -126,10 +126,10 @@ pub(crate) const CALLS: [(&str, Call); 134] = [
     ("write_faults", Call::Fault(fault_calls::Call::Write)),
     ("dedupe_faults", Call::Fault(fault_calls::Call::Dedupe)),
     ("gc_faults", Call::Fault(fault_calls::Call::Gc)),
-    ("tool_faults", Call::Fault(fault_calls::Call::Tool)),
-    ("parse", Call::Tool(tool_calls::Call::Parse)),
-    ("execute", Call::Tool(tool_calls::Call::Execute)),
-    ("run_program", Call::Tool(tool_calls::Call::Program)),
+    ("tool_faults", Call::Fault(fault_calls::Call::Wctrim)),
+    ("parse", Call::Wctrim(wctrim_calls::Call::Parse)),
+    ("execute", Call::Wctrim(wctrim_calls::Call::Execute)),
+    ("run_program", Call::Wctrim(wctrim_calls::Call::Program)),
     ("writer_sink", Call::Sink(sink_calls::Call::Writer)),
     ("execute_failing", Call::Sink(sink_calls::Call::Failing)),
     (
@@ -323,17 +323,11 @@ pub(crate) const CALLS: [(&str, Call); 134] = [
         "validate_into",
         Call::Library(library_calls::Call::Validate),
     ),
-    ("parse_wcplan", Call::PlanTool(plan_tool_calls::Call::Parse)),
-    ("wcplan", Call::PlanTool(plan_tool_calls::Call::Program)),
-    ("wcplan_mute", Call::PlanTool(plan_tool_calls::Call::Mute)),
-    (
-        "wcplan_failing",
-        Call::PlanTool(plan_tool_calls::Call::Failing),
-    ),
-    ("wcwhy", Call::WhyTool(why_tool_calls::Call::Program)),
-    (
-        "wcwhy_failing",
-        Call::WhyTool(why_tool_calls::Call::Failing),
-    ),
+    ("parse_wcplan", Call::Wcplan(wcplan_calls::Call::Parse)),
+    ("wcplan", Call::Wcplan(wcplan_calls::Call::Program)),
+    ("wcplan_mute", Call::Wcplan(wcplan_calls::Call::Mute)),
+    ("wcplan_failing", Call::Wcplan(wcplan_calls::Call::Failing)),
+    ("wcwhy", Call::Wcwhy(wcwhy_calls::Call::Program)),
+    ("wcwhy_failing", Call::Wcwhy(wcwhy_calls::Call::Failing)),
     ("example", Call::Example),
 ];

@@ -6,10 +6,10 @@ mod call_example;
 mod calls;
 mod law_calls;
 mod library_calls;
-mod plan_tool_calls;
 mod program;
 mod program_runs;
-mod why_tool_calls;
+mod wcplan_calls;
+mod wcwhy_calls;
 
 use std::process::ExitCode;
 

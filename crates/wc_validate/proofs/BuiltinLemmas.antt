@@ -9,11 +9,11 @@ use Rattle.wc_read.specs.declared.types.FuncType.{FuncType}
 use Rattle.wc_read.specs.Types.{FuncTypeValue, func_type_value}
 use Rattle.wc_names.specs.declared.imports.Import.{Import}
 use Rattle.wc_names.specs.Builtins.{NamesBuiltin, IsThreadBuiltin, builtin_import, builtin_type}
-use Rattle.wc_names.specs.Schemes.{Scheme}
+use Rattle.wc_names.specs.Mangling.{Scheme}
 use Rattle.wc_validate.specs.Classifications.{FaultKind, IsImportClassification, of_imports}
 use Rattle.wc_names.specs.Views.{Builtin, error_context_drop, backpressure_inc, backpressure_dec, waitable_set_new, waitable_set_wait, waitable_set_poll, waitable_set_drop, waitable_join, subtask_drop, subtask_cancel, error_context_new, error_context_debug_message, context_get, context_set, thread_index, thread_new_indirect, thread_resume_later, thread_suspend, thread_yield, thread_suspend_then_resume, thread_yield_then_resume, thread_suspend_then_promote, thread_yield_then_promote}
 use Rattle.wc_validate.specs.Private.Imports.Builtins.{IsCheckedAs, IsMismatch, IsTypeMismatch, IsAnyBuiltin, IsLaterBuiltin, MeansBuiltin, thread_type}
-use Rattle.wc_validate.specs.Faults.{fault_kind}
+use Rattle.wc_validate.specs.Fault.{fault_kind}
 use Rattle.wc_validate.specs.declared.name_fault.NameFault.{NameFault}
 use Rattle.wc_validate.specs.declared.name_fault.NameFault.TheVariants.{Memory}
 use Rattle.wc_validate.proofs.ClassificationLemmas.{classified_as, type_failed, type_mismatch}

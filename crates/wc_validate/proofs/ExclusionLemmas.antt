@@ -5,9 +5,9 @@ use Rattle.wc_read.specs.Laws.{HasOneValue}
 use Rattle.wc_read.specs.Modules.{ModuleValue, SpellsModule}
 use Rattle.wc_read.specs.Sections.{IsComponent}
 use Rattle.wc_read.specs.Types.{FuncTypeValue}
-use Rattle.wc_dedupe.specs.Renaming.{RenameValue}
+use Rattle.wc_dedupe.specs.Renaming.{RenameView}
 use Rattle.wc_resolve.specs.Views.{KeyView}
-use Rattle.wc_resolve.specs.World.{ResolveView}
+use Rattle.wc_resolve.specs.Kinds.{ResolveView}
 use Rattle.wc_adapters.specs.Adapters.{LibraryView}
 use Rattle.wc_encoder.specs.EncoderParts.{EncoderView}
 use Rattle.wc_names.specs.Exports.{CoreExport, ExportMeaning, is_export}
@@ -20,13 +20,13 @@ use Rattle.wc_validate.specs.Classifications.{FaultKind, out_of_memory, wrong_si
 use Rattle.wc_names.specs.Views.{ImportView}
 use Rattle.wc_validate.specs.Imports.Entries.{Entry, Records}
 use Rattle.wc_validate.specs.Exports.Map.{ExportRecord}
-use Rattle.wc_validate.specs.Faults.{import_fault_kind}
+use Rattle.wc_validate.specs.Fault.{import_fault_kind}
 use Rattle.wc_validate.specs.Imports.Record.{ImportScope, AreEntries, IsEntry, IsEntryCause, IsEntryFault, IsFaultOfImport, IsImportFault, IsValidAfter, entry_faults, library_entry}
 use Rattle.wc_validate.specs.Laws.{RecordsExcludeFaults}
 use Rattle.wc_validate.specs.Exports.Record.{AreExports, HasMismatch, IsExportEntry, IsExportsFault, IsMismatched, core_exports}
 use Rattle.wc_validate.specs.Requirements.{AreMet, IsFirstUnmet, IsUnmetFault, Requirement, requirements}
 use Rattle.wc_validate.specs.Imports.Classify.{HasSignature, IsNameFault}
-use Rattle.wc_validate.specs.Validated.{HasNoCause, IsValidateCause, IsExportsCause, IsExportsRecord, IsImportsCause, IsImportsRecord, IsModuleCause, IsRecordOf, IsImportScopeFor, ValidationInput, ModuleRecord, module_record}
+use Rattle.wc_validate.specs.Validate.{HasNoCause, IsValidateCause, IsExportsCause, IsExportsRecord, IsImportsCause, IsImportsRecord, IsModuleCause, IsRecordOf, IsImportScopeFor, ValidationInput, ModuleRecord, module_record}
 use Rattle.wc_validate.specs.declared.validate.ValidatedModule.{ValidatedModule}
 use Rattle.wc_validate.specs.declared.fault.ValidateFault.{ValidateFault}
 use Rattle.wc_validate.specs.declared.fault.ValidateFault.TheVariants.{Memory, Read, NotAModule, SignatureMismatch}
@@ -71,13 +71,13 @@ module _ (r : ResolveView) (unique : MeaningsUnique r) where
   no_import_fault s before (i ∷ is) (x ∷ xs) f at p (inr q) =
       no_import_fault s (before ++ x ∷ []) is xs f at p.2 (subst (λ z. IsImportFault s (before ++ z ∷ []) is f) (one_entry r unique s i q.0 x at q.1 p.0) q.3)
 
-imports_cause : (e : EncoderView) (renames : Option (List RenameValue)) (library : Option LibraryView) (types : List FuncTypeValue) (is : List ImportValue)
+imports_cause : (e : EncoderView) (renames : Option (List RenameView)) (library : Option LibraryView) (types : List FuncTypeValue) (is : List ImportValue)
     (f : ValidateFault) → IsImportsCause e renames library types is f
     → (f ≡ Memory) ⊎ ((s : ImportScope) × IsImportScopeFor e renames library types s × IsImportFault s [] is f)
 imports_cause e renames library types is Memory h = inl refl
 imports_cause e renames library types is f h = inr h
 
-no_imports_cause : (e : EncoderView) (renames : Option (List RenameValue)) (library : Option LibraryView) (types : List FuncTypeValue) (is : List ImportValue)
+no_imports_cause : (e : EncoderView) (renames : Option (List RenameView)) (library : Option LibraryView) (types : List FuncTypeValue) (is : List ImportValue)
     (records : Records) (f : ValidateFault) → MeaningsUnique e.resolve
     → IsImportsRecord e renames library types is records → (s : ImportScope) × IsImportScopeFor e renames library types s × IsImportFault s [] is f → ⊥
 no_imports_cause e renames library types is records f unique p q =

@@ -16,19 +16,19 @@ use Rattle.wc_names.specs.ExportViews.{export_view, resource_dtor}
 use Rattle.wc_names.specs.declared.exports.Export.{Export}
 use Rattle.wc_names.specs.Exports.{AnyTypeName, ClassifiedExport, ExportKind, ExportMeaning, ExportRule, IsExportKind, IsExportReadBy, IsExportRule, IsLifted, NamesTarget, any_type, any_type_row, by_export_scheme, callback, export_kinds, export_rules, callback_export, callback_type, destructor, function, function_export, function_table, is_export, memory, post_return, post_return_export, post_return_type}
 use Rattle.wc_names.specs.Imports.{ExternType, IsFunction, NameScope, func_type, function_type, global_type, memory_type, table_type}
-use Rattle.wc_names.specs.Schemes.{Scheme, NamesCallback, NamesPostReturn, function_table_name, marker, memory_name}
+use Rattle.wc_names.specs.Mangling.{Scheme, NamesCallback, NamesPostReturn, function_table_name, marker, memory_name}
 use Rattle.wc_names.proofs.RangeLemmas.{function_usable}
 use Rattle.wc_names.specs.First.{FirstOf}
 use Rattle.wc_names.proofs.SearchLemmas.{NoneOf, first_kind, not_first}
 use Rattle.wc_validate.specs.declared.name_fault.NameFault.{NameFault}
 use Rattle.wc_validate.specs.Exports.Contexts.{core_export}
 use Rattle.wc_validate.specs.Private.Exports.Classify.{AreNamesBy, MeansExport, named_kinds, fixed_kinds, IsExportClassified}
-use Rattle.wc_validate.specs.NameScopes.{HasItsWorld}
+use Rattle.wc_validate.specs.NameScope.{HasItsWorld}
 use Rattle.wc_read.specs.declared.types.ValType.TheVariants.{I32}
 use Rattle.wc_validate.proofs.ImportRootLemmas.{first_mapped, first_unmapped, none_mapped}
 use Rattle.wc_validate.proofs.ClassificationLemmas.{classified_as, classified_nothing, classified_unchecked, group_skipped}
 use Rattle.wc_validate.specs.Classifications.{of_exports}
-use Rattle.wc_validate.specs.Faults.{fault_kind}
+use Rattle.wc_validate.specs.Fault.{fault_kind}
 use Rattle.wc_names.proofs.ExportMeaningLemmas.{lifted_unique, returned_unique, called_back_unique as called_unique}
 
 -- what is no function is of no kind of functions

@@ -33,7 +33,7 @@ use Rattle.wc_validate.specs.Classifications.{IsClassification, IsReason, of_exp
 use Rattle.wc_read.specs.Types.{func_type_value}
 use Rattle.wc_validate.specs.declared.name_fault.NameFault.{NameFault}
 use Rattle.wc_validate.specs.declared.name_fault.NameFault.TheVariants as naming
-use Rattle.wc_validate.specs.Faults.{fault_kind, of_name}
+use Rattle.wc_validate.specs.Fault.{fault_kind, of_name}
 use Rattle.wc_validate.specs.Private.Exports.Classify.{IsExportClassified}
 
 -- what the classification of an export says of its record

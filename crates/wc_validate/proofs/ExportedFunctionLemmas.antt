@@ -260,11 +260,6 @@ pub typed_found : (es : List (Text × Bor FuncType)) (m : List ℕ) (o : Option 
     → lookup (bytes_eq m) passed ≡ option_map (λ (t : Bor FuncType). func_type_value t.now) o
 typed_found es m o passed is same = sym (same m) ∙ (sym (typed_there es m) ∙ ap (option_map (λ (t : Bor FuncType). func_type_value t.now)) (sym is))
 
--- what is added for an export of another kind is nothing
-pub typed_other : (index passed : List (List ℕ × FuncTypeValue)) (name : List ℕ) (ty : ExternType) → typed_name (core_export name ty) ≡ None
-    → IsIndexOf index passed → IsIndexOf index (passed ++ option_to_list (typed_name (core_export name ty)))
-typed_other index passed name ty none same = subst (IsIndexOf index) (sym (ap (λ o. passed ++ option_to_list o) none ∙ append-nil passed)) same
-
 pub index_none : (es : List (Text × Bor FuncType)) (m : ModuleValue) → es ≡ [] → IsIndexOf (map typed_entry es) (filter_map typed_name (core_exports m []))
 unfolding core_exports
 index_none es m none = subst (λ z. IsIndexOf (map typed_entry z) []) (sym none) (λ name. refl)

@@ -14,7 +14,7 @@ use Rattle.wc_validate.specs.declared.imports.first_functions.FirstFunctions.{Fi
 use Rattle.wc_validate.specs.declared.imports.instances.ImportInstance.{ImportInstance}
 use Rattle.wc_validate.specs.Imports.AdapterTypes.{first_some}
 use Rattle.wc_validate.specs.Imports.Entries.{InstanceRecord, names_of}
-use Rattle.wc_validate.specs.Imports.FirstFunctions.{HasFirstFunctions, first_functions, function_at, placed_function, placed_functions, positions_under}
+use Rattle.wc_validate.specs.Imports.FirstFunctions.{HasFirstFunctions, first_functions, function_at, positioned_function, positioned_functions, positions_under}
 use Rattle.wc_resolve.specs.Views.{named_view}
 use Rattle.wc_validate.specs.Imports.Map.{first_of_names, function_of}
 use Rattle.wc_validate.specs.Imports.Instances.{import_entry, instance_entry, instance_view}
@@ -107,15 +107,15 @@ position_of v = v.0
 abbrev type_of : ℕ × FuncTypeValue → FuncTypeValue
 type_of v = v.1
 
-placed_at : (n : ℕ) (o : Option (List ℕ × FuncTypeValue)) (ds : Described) (ps : List (List ℕ × ℕ)) → map (on_value position_of) ds ≡ ps
+positioned_at : (n : ℕ) (o : Option (List ℕ × FuncTypeValue)) (ds : Described) (ps : List (List ℕ × ℕ)) → map (on_value position_of) ds ≡ ps
     → map (on_value position_of) (cons_option (option_map (λ (f : List ℕ × FuncTypeValue). (f.0, (n, f.1))) o) ds) ≡ cons_option
     (option_map (λ (f : List ℕ × FuncTypeValue). (f.0, n)) o) ps
-placed_at n None ds ps h = h
-placed_at n (Some f) ds ps h = ap (λ z. (f.0, n) ∷ z) h
+positioned_at n None ds ps h = h
+positioned_at n (Some f) ds ps h = ap (λ z. (f.0, n) ∷ z) h
 
-placed_is : (n : ℕ) (xs : Names) → map (on_value position_of) (described n xs) ≡ placed_functions n xs
-placed_is n [] = refl
-placed_is n (x ∷ xs) = placed_at n (function_of x) (described (suc n) xs) (placed_functions (suc n) xs) (placed_is (suc n) xs)
+positioned_is : (n : ℕ) (xs : Names) → map (on_value position_of) (described n xs) ≡ positioned_functions n xs
+positioned_is n [] = refl
+positioned_is n (x ∷ xs) = positioned_at n (function_of x) (described (suc n) xs) (positioned_functions (suc n) xs) (positioned_is (suc n) xs)
 
 typed_at : (n : ℕ) (o : Option (List ℕ × FuncTypeValue)) (ds : Described) (fs : List (List ℕ × FuncTypeValue)) → map (on_value type_of) ds ≡ fs
     → map (on_value type_of) (cons_option (option_map (λ (f : List ℕ × FuncTypeValue). (f.0, (n, f.1))) o) ds) ≡ cons_option o fs
@@ -176,10 +176,10 @@ functions_there names (d ∷ ds) h =
     ap (λ o. cons_option o (filter_map (function_by names) (map (on_value position_of) ds))) h.0 ∙ ap (λ z. (d.0, d.1.1) ∷ z) (functions_there names ds h.1)
 
 -- the functions at the positions of the first imports are the first of all
-pub required_there : (names : Names) → first_of_names (filter_map (function_by names) (first_of_names (placed_functions 0 names))) ≡ first_of_names
+pub required_there : (names : Names) → first_of_names (filter_map (function_by names) (first_of_names (positioned_functions 0 names))) ≡ first_of_names
     (filter_map function_of names)
 required_there names =
-    ap (λ z. first_of_names (filter_map (function_by names) (first_of_names z))) (sym (placed_is 0 names))
+    ap (λ z. first_of_names (filter_map (function_by names) (first_of_names z))) (sym (positioned_is 0 names))
     ∙ (ap (λ z. first_of_names (filter_map (function_by names) z)) (sym (firsts_image position_of (described 0 names)))
     ∙ (ap first_of_names (functions_there names (first_of_names (described 0 names)) (firsts_are_at names (described 0 names) (described_at [] names)))
     ∙ (sym (firsts_image type_of (first_of_names (described 0 names)))
@@ -194,7 +194,7 @@ by_entries names (e ∷ es) = ap (λ z. cons_option (function_at names e.1) z) (
 module _ (first : FirstFunctions) (es : List (String Global × ImportInstance)) (adapter : List ℕ) (instance : ImportInstance) (names : Names)
     (h : HasFirstFunctions first (map instance_entry es))
     (found : Some instance ≡ lookup (is_called adapter) es) (view : instance_view instance ≡ names_of names) where
-  under : positions_under first adapter ≡ first_of_names (placed_functions 0 names)
+  under : positions_under first adapter ≡ first_of_names (positioned_functions 0 names)
   under = h adapter ∙ (ap (λ o. option_map_or first_functions o []) (record_found es adapter instance (sym found)) ∙ ap first_functions view)
 
   pub required_kept : (positions : List (String Global × ℕ)) → positions_under first adapter ≡ map named_view positions
@@ -214,37 +214,37 @@ pub no_function_there : (es : List (String Global × Import)) (n : ℕ) → None
 no_function_there es n is = ap (option_and_then function_of) (sym (image_at import_entry es (Some n)) ∙ sym (ap (option_map import_entry) is))
 
 -- imports of a module that are gone through
-placed_pushed : (n : ℕ) (xs : Names) (x : List ℕ × ImportView)
-    → placed_functions n (xs ++ x ∷ []) ≡ placed_functions n xs ++ cons_option (placed_function (n + length xs) x) []
-placed_pushed n [] x = let e : n ≡ n + 0 = omega arith in ap (λ k. cons_option (placed_function k x) []) e
-placed_pushed n (y ∷ xs) x = at (placed_function n y) (placed_pushed (suc n) xs x) where
-  at : (o : Option (List ℕ × ℕ)) → placed_functions (suc n) (xs ++ x ∷ []) ≡ placed_functions (suc n) xs ++ cons_option (placed_function (suc n + length xs) x)
+positioned_pushed : (n : ℕ) (xs : Names) (x : List ℕ × ImportView)
+    → positioned_functions n (xs ++ x ∷ []) ≡ positioned_functions n xs ++ cons_option (positioned_function (n + length xs) x) []
+positioned_pushed n [] x = let e : n ≡ n + 0 = omega arith in ap (λ k. cons_option (positioned_function k x) []) e
+positioned_pushed n (y ∷ xs) x = at (positioned_function n y) (positioned_pushed (suc n) xs x) where
+  at : (o : Option (List ℕ × ℕ)) → positioned_functions (suc n) (xs ++ x ∷ []) ≡ positioned_functions (suc n) xs ++ cons_option (positioned_function (suc n + length xs) x)
       []
-      → cons_option o (placed_functions (suc n) (xs ++ x ∷ [])) ≡ cons_option o (placed_functions (suc n) xs) ++ cons_option
-      (placed_function (n + suc (length xs)) x) []
+      → cons_option o (positioned_functions (suc n) (xs ++ x ∷ [])) ≡ cons_option o (positioned_functions (suc n) xs) ++ cons_option
+      (positioned_function (n + suc (length xs)) x) []
   at None h =
-      h ∙ (let e : suc n + length xs ≡ n + suc (length xs) = omega arith in ap (λ k. placed_functions (suc n) xs ++ cons_option (placed_function k x) []) e)
+      h ∙ (let e : suc n + length xs ≡ n + suc (length xs) = omega arith in ap (λ k. positioned_functions (suc n) xs ++ cons_option (positioned_function k x) []) e)
   at (Some p) h =
       ap (λ z. p ∷ z) (h ∙ (let e : suc n + length xs ≡ n + suc (length xs) = omega arith in
-      ap (λ k. placed_functions (suc n) xs ++ cons_option (placed_function k x) []) e))
+      ap (λ k. positioned_functions (suc n) xs ++ cons_option (positioned_function k x) []) e))
 
-abbrev pub HasPlaced : List (String Global × Import) → List (String Global × ℕ) → Type 0
-HasPlaced passed positions = HasFirsts (map named_view positions) (placed_functions 0 (map import_entry passed))
+abbrev pub HasPositions : List (String Global × Import) → List (String Global × ℕ) → Type 0
+HasPositions passed positions = HasFirsts (map named_view positions) (positioned_functions 0 (map import_entry passed))
 
-pub placed_none : (positions : List (String Global × ℕ)) → positions ≡ [] → HasPlaced [] positions
-placed_none positions none = (ap (map named_view) none, λ name. ap (λ z. lookup (bytes_eq name) (map named_view z)) none)
+pub positions_none : (positions : List (String Global × ℕ)) → positions ≡ [] → HasPositions [] positions
+positions_none positions none = (ap (map named_view) none, λ name. ap (λ z. lookup (bytes_eq name) (map named_view z)) none)
 
-pub placed_more : (passed : List (String Global × Import)) (e : String Global × Import) (old new : List (String Global × ℕ)) (position : ℕ)
+pub positions_more : (passed : List (String Global × Import)) (e : String Global × Import) (old new : List (String Global × ℕ)) (position : ℕ)
     → ((before : List (List ℕ × ℕ)) → HasFirsts (map named_view old) before → HasFirsts (map named_view new)
-    (before ++ cons_option (placed_function position (import_entry e)) []))
-    → HasPlaced passed old → position ≡ length passed → HasPlaced (passed ++ e ∷ []) new
-placed_more passed e old new position more h at =
+    (before ++ cons_option (positioned_function position (import_entry e)) []))
+    → HasPositions passed old → position ≡ length passed → HasPositions (passed ++ e ∷ []) new
+positions_more passed e old new position more h at =
     let at_position : position ≡ 0 + length (map import_entry passed) = at
     ∙ (sym (length-map passed import_entry) ∙ (let z : length (map import_entry passed) ≡ 0 + length (map import_entry passed) = omega arith in z)) in
     subst (λ z. HasFirsts (map named_view new) z)
-    (ap (λ n. placed_functions 0 (map import_entry passed) ++ cons_option (placed_function n (import_entry e)) []) at_position
-    ∙ (sym (placed_pushed 0 (map import_entry passed) (import_entry e)) ∙ ap (placed_functions 0) (sym (map-append import_entry passed (e ∷ [])))))
-    (more (placed_functions 0 (map import_entry passed)) h)
+    (ap (λ n. positioned_functions 0 (map import_entry passed) ++ cons_option (positioned_function n (import_entry e)) []) at_position
+    ∙ (sym (positioned_pushed 0 (map import_entry passed) (import_entry e)) ∙ ap (positioned_functions 0) (sym (map-append import_entry passed (e ∷ [])))))
+    (more (positioned_functions 0 (map import_entry passed)) h)
 
 -- a module's positions
 module _ {X : Type 0} where

@@ -72,7 +72,7 @@ image_at f xs (Some n) = at xs n where
   at (y ∷ ys) (suc k) = at ys k
 
 -- a list that is gone through with a position: what holds of those that were passed
-pub record Placed {E F : Type 0} (Holds : List E → F → Type 0) (all rest : List E) (found : F) (position : ℕ) : Type 0 where
+pub record HasPosition {E F : Type 0} (Holds : List E → F → Type 0) (all rest : List E) (found : F) (position : ℕ) : Type 0 where
   pub passed : List E
   pub split : passed ++ rest ≡ all
   pub count : position ≡ length passed
@@ -80,9 +80,9 @@ pub record Placed {E F : Type 0} (Holds : List E → F → Type 0) (all rest : L
   pub holds : Holds passed found
 
 module _ {E F : Type 0} (Holds : List E → F → Type 0) where
-  pub placed_start : (all items rest : List E) (count : ℕ) (found : F) → rest ≡ items → items ≡ all → length items ≡ count → count < 2 ^ 63 → Holds [] found
-      → Placed Holds all rest found zero
-  placed_start all items rest count found rests is long fits h = record {
+  pub position_start : (all items rest : List E) (count : ℕ) (found : F) → rest ≡ items → items ≡ all → length items ≡ count → count < 2 ^ 63 → Holds [] found
+      → HasPosition Holds all rest found zero
+  position_start all items rest count found rests is long fits h = record {
     passed = [];
     split = rests ∙ is;
     count = refl;
@@ -90,10 +90,10 @@ module _ {E F : Type 0} (Holds : List E → F → Type 0) where
     holds = h;
   }
 
-  pub placed_next : (all left rest : List E) (x : E) (old new : F) (position : ℕ) → (p : Placed Holds all left old position) → left ≡ x ∷ rest
+  pub position_next : (all left rest : List E) (x : E) (old new : F) (position : ℕ) → (p : HasPosition Holds all left old position) → left ≡ x ∷ rest
       → (Holds p.passed old → position ≡ length p.passed → Holds (p.passed ++ x ∷ []) new)
-      → Placed Holds all rest new (position + 1)
-  placed_next all left rest x old new position p is step = record {
+      → HasPosition Holds all rest new (position + 1)
+  position_next all left rest x old new position p is step = record {
     passed = p.passed ++ x ∷ [];
     split = append_assoc p.passed (x ∷ []) rest ∙ (ap (λ z. p.passed ++ z) (sym is) ∙ p.split);
     count = ap (λ n. n + 1) p.count ∙ sym (length-append p.passed (x ∷ []));
@@ -101,12 +101,12 @@ module _ {E F : Type 0} (Holds : List E → F → Type 0) where
     holds = step p.holds p.count;
   }
 
-  pub placed_end : (all left : List E) (found : F) (position : ℕ) → Placed Holds all left found position → left ≡ [] → Holds all found
-  placed_end all left found position p none = subst (λ z. Holds z found) (sym (append-nil p.passed) ∙ (ap (λ z. p.passed ++ z) (sym none) ∙ p.split)) p.holds
+  pub position_end : (all left : List E) (found : F) (position : ℕ) → HasPosition Holds all left found position → left ≡ [] → Holds all found
+  position_end all left found position p none = subst (λ z. Holds z found) (sym (append-nil p.passed) ∙ (ap (λ z. p.passed ++ z) (sym none) ∙ p.split)) p.holds
 
   -- a position can be counted on
-  pub placed_fits : (all left : List E) (found : F) (position : ℕ) → Placed Holds all left found position → position < 2 ^ 63
-  placed_fits all left found position p =
+  pub position_fits : (all left : List E) (found : F) (position : ℕ) → HasPosition Holds all left found position → position < 2 ^ 63
+  position_fits all left found position p =
       let total : length p.passed + length left ≡ length all = sym (length-append p.passed left) ∙ ap length p.split in
       let at_position : position ≡ length p.passed = p.count in
       let bound : length all < 2 ^ 63 = p.fits in

@@ -10,7 +10,7 @@ use Rattle.wc_names.specs.Imports.{NameScope, CoreFunction, export_unknown, expo
 use Rattle.wc_names.specs.Interfaces.{FoundInterface, NamesInterface}
 use Rattle.wc_names.specs.Keys.{function_named}
 use Rattle.wc_names.specs.Meanings.{Meaning, means}
-use Rattle.wc_names.specs.Schemes.{Scheme, interface_prefix, export_prefix}
+use Rattle.wc_names.specs.Mangling.{Scheme, interface_prefix, export_prefix}
 use Rattle.wc_validate.specs.Classifications.{FaultKind, IsImportClassification, of_imports}
 use Rattle.wc_names.specs.Views.{interface_func}
 use Rattle.wc_names.specs.WitIntrinsics.{wit_intrinsics, IsWitIntrinsic}
@@ -18,7 +18,7 @@ use Rattle.wc_names.proofs.SearchLemmas.{NoneOf}
 use Rattle.wc_validate.proofs.ClassificationLemmas.{classified_as}
 use Rattle.wc_validate.specs.Private.Imports.Lookups.{lookup_scope_in}
 use Rattle.wc_validate.specs.Private.Imports.Kinds.{MeansFunction, MeansIntrinsic, export_kinds, function_import}
-use Rattle.wc_validate.specs.NameScopes.{imported_function}
+use Rattle.wc_validate.specs.NameScope.{imported_function}
 use Rattle.wc_validate.proofs.ImportInterfaceLemmas.{interface_unique}
 use Rattle.wc_validate.proofs.ImportRootLemmas.{function_unique, none_append, none_mapped, classified_mapped}
 

@@ -15,17 +15,17 @@ use Rattle.wc_names.specs.Environment.{environment_module}
 use Rattle.wc_names.specs.First.{FirstOf}
 use Rattle.wc_names.specs.Imports.{Classified, NameScope, ExternType, adapter_meaning, func_type, memory_type, extern_kind, kinds, IsReadBy, main_memory, main_item, not_function, adapter_function, by_scheme, rules, IsFunction, IsRule}
 use Rattle.wc_names.specs.Meanings.{Meaning, means}
-use Rattle.wc_names.specs.Schemes.{Scheme}
+use Rattle.wc_names.specs.Mangling.{Scheme}
 use Rattle.wc_validate.specs.Classifications.{FaultKind, out_of_memory, wrong_signature, refused_name, other_fault, IsReason, IsClassification, of_imports}
 use Rattle.wc_names.specs.Views.{import_view, main_module_memory, main_module_export, adapter_export}
 use Rattle.wc_names.proofs.SearchLemmas.{NoneOf, first_after}
 use Rattle.wc_validate.proofs.ClassificationLemmas.{classified_fault, classified_unchecked}
 use Rattle.wc_validate.specs.declared.name_fault.NameFault.{NameFault}
 use Rattle.wc_validate.specs.declared.name_fault.NameFault.TheVariants.{Memory, NotAFunction, TypedReference}
-use Rattle.wc_validate.specs.Faults.{fault_kind}
+use Rattle.wc_validate.specs.Fault.{fault_kind}
 use Rattle.wc_validate.specs.Private.Imports.Kinds.{MeansAmong, MeansByScheme}
 use Rattle.wc_validate.specs.Imports.Classify.{answer_of, core_import, HasSignature, IsClassified, IsSomeClassification, IsNameReason}
-use Rattle.wc_validate.specs.NameScopes.{adapter_name}
+use Rattle.wc_validate.specs.NameScope.{adapter_name}
 use Rattle.wc_validate.proofs.ImportSchemeLemmas.{of_scheme}
 
 -- a classification by the scheme that reads the module's name

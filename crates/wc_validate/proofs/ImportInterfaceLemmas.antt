@@ -7,12 +7,12 @@ use Rattle.wc_resolve.specs.declared.ids.InterfaceId.{InterfaceId}
 use Rattle.wc_resolve.specs.Ranges.{AreIdsInRange, IsEntryIn, IsItemIn, IsKeyIn, IsPackageIn}
 use Rattle.wc_resolve.specs.Views.{KeyView, plain_key, interface_key, ItemView, interface_item, function_item, type_item, PackageView, PackageNameView, WorldView}
 use Rattle.wc_resolve.specs.WellFormed.{IsWellFormed}
-use Rattle.wc_resolve.specs.World.{ResolveView}
+use Rattle.wc_resolve.specs.Kinds.{ResolveView}
 use Rattle.wc_adapters.specs.Entries.{Entries}
 use Rattle.wc_names.specs.First.{FirstOf}
 use Rattle.wc_names.specs.Interfaces.{FoundInterface, IsMemberOf, IsOnTrack, IsCloneOf, IsEntryOf, IdMatch, exact_version, clone, same_track, id_matches, IsIdMatch, TextMatch, by_plain_key, by_id, text_matches, IsTextMatch, IsCanonicalEntry, NamesInterface}
 use Rattle.wc_names.specs.Keys.{as_interface, item_under, world_entries}
-use Rattle.wc_names.specs.Schemes.{Scheme, standard, legacy}
+use Rattle.wc_names.specs.Mangling.{Scheme, standard, legacy}
 use Rattle.wc_names.proofs.InterfaceLemmas.{id_unique, member_unique}
 use Rattle.wc_resolve.proofs.WellFormedLemmas.{all_get}
 use Rattle.wc_names.proofs.SearchLemmas.{first_unique}

@@ -12,7 +12,7 @@ use Rattle.wc_validate.specs.declared.fault.ValidateFault.TheVariants.{Memory}
 use Rattle.wc_validate.specs.declared.name_fault.NameFault.{NameFault}
 use Rattle.wc_validate.specs.declared.name_fault.NameFault.TheVariants as naming
 use Rattle.wc_read.specs.Types.{func_type_value}
-use Rattle.wc_validate.specs.Faults.{of_name}
+use Rattle.wc_validate.specs.Fault.{of_name}
 use Rattle.wc_validate.specs.declared.imports.recorder.Recorder.{Recorder}
 use Rattle.wc_validate.specs.Private.Imports.Contexts.{AreRecorded, IsImportRecorded, IsImportRefusal, IsImportsRefusal}
 use Rattle.wc_validate.specs.Imports.Entries.{Entry, single}

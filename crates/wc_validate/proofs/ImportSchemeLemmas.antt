@@ -7,7 +7,7 @@ use Rattle.wc_names.specs.Environment.{environment_module, names_value_type, Nam
 use Rattle.wc_names.specs.Views.{ImportView, import_view}
 use Rattle.wc_names.specs.Imports.{NameScope, Kind, root_intrinsic, root_other_item, root_unknown, environment, export_root_intrinsic, without_prefix, kinds, IsKind, IsReadBy, by_scheme, func_type, IsRule}
 use Rattle.wc_names.specs.Meanings.{Meaning, refuses, no_root_import, typed_reference, unknown_intrinsic}
-use Rattle.wc_names.specs.Schemes.{Scheme, standard, legacy, marker, root_module, interface_prefix, export_prefix}
+use Rattle.wc_names.specs.Mangling.{Scheme, standard, legacy, marker, root_module, interface_prefix, export_prefix}
 use Rattle.wc_names.specs.Keys.{world_scope}
 use Rattle.wc_validate.specs.Classifications.{FaultKind, IsReason, refused_name, IsImportClassification, of_imports}
 use Rattle.wc_names.specs.WitIntrinsics.{wit_intrinsics, IsWitIntrinsic}
@@ -15,7 +15,7 @@ use Rattle.wc_names.proofs.SearchLemmas.{NoneOf, not_first}
 use Rattle.wc_validate.proofs.ClassificationLemmas.{group_next, classified_fault, classified_next, classified_nothing, classified_unchecked}
 use Rattle.wc_validate.specs.Private.Imports.Lookups.{lookup_scope_in}
 use Rattle.wc_validate.specs.Private.Imports.Kinds.{MeansAmong, MeansByScheme, MeansEnvironment, MeansIntrinsic, export_kinds, export_root_kinds, interface_kinds, other_kinds, root_kinds}
-use Rattle.wc_validate.specs.NameScopes.{imported_function}
+use Rattle.wc_validate.specs.NameScope.{imported_function}
 use Rattle.wc_validate.proofs.ImportRootLemmas.{group_total, none_append, none_mapped, classified_mapped}
 
 module _ {F : Type 0} (kind : F → FaultKind) (s : Scheme) (e : NameScope) (name : List ℕ) (ty : FuncTypeValue) where

@@ -8,7 +8,7 @@ use Rattle.wc_names.specs.declared.imports.Import.{Import}
 use Rattle.wc_names.specs.Builtins.{signature}
 use Rattle.wc_names.specs.Keys.{scope_key}
 use Rattle.wc_names.specs.Meanings.{Meaning, means, refuses, no_such_export}
-use Rattle.wc_names.specs.Schemes.{Scheme, standard, legacy, ResourceOperation, resource_drop, resource_new, resource_rep, NamesResource, NamesTaskReturn}
+use Rattle.wc_names.specs.Mangling.{Scheme, standard, legacy, ResourceOperation, resource_drop, resource_new, resource_rep, NamesResource, NamesTaskReturn}
 use Rattle.wc_validate.specs.Classifications.{FaultKind, IsImportClassification, of_imports}
 use Rattle.wc_names.specs.Views.{ImportView, exported_task_return}
 use Rattle.wc_names.specs.WitIntrinsics.{of_resource, task_return, no_task_return, resource_row}

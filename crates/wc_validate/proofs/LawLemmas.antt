@@ -6,9 +6,9 @@ use Rattle.wc_read.specs.Imports.{ImportValue}
 use Rattle.wc_read.specs.Laws.{HasOneValue}
 use Rattle.wc_read.specs.Modules.{ModuleValue, SpellsModule}
 use Rattle.wc_read.specs.Types.{FuncTypeValue}
-use Rattle.wc_dedupe.specs.Renaming.{RenameValue}
+use Rattle.wc_dedupe.specs.Renaming.{RenameView}
 use Rattle.wc_resolve.specs.Views.{KeyView, WorldView}
-use Rattle.wc_resolve.specs.World.{ResolveView}
+use Rattle.wc_resolve.specs.Kinds.{ResolveView}
 use Rattle.wc_adapters.specs.Adapters.{InstanceView, module_instance, item_instance, LibraryItemView, LibraryView}
 use Rattle.wc_encoder.specs.EncoderParts.{EncoderView}
 use Rattle.wc_names.specs.Exports.{CoreExport, ExportMeaning, is_export}
@@ -23,7 +23,7 @@ use Rattle.wc_validate.specs.Imports.Record.{ImportScope, IsCoreImport, AreEntri
 use Rattle.wc_validate.specs.Laws.{EntriesInRange, EntriesUnique, RecordsUnique, SignaturesFixed}
 use Rattle.wc_validate.specs.Exports.Record.{AreExports, IsExportEntry, core_exports, entry_of}
 use Rattle.wc_validate.specs.Imports.Classify.{HasSignature}
-use Rattle.wc_validate.specs.Validated.{IsExportsRecord, IsImportsRecord, IsImportScopeFor, IsNameScopeOf, ModuleRecord, encoder_scope}
+use Rattle.wc_validate.specs.Validate.{IsExportsRecord, IsImportsRecord, IsImportScopeFor, IsNameScopeOf, ModuleRecord, encoder_scope}
 
 some_same : {X : Type 0} {x y : X} → Some x ≡ Some y → x ≡ y
 some_same e = cc e
@@ -72,13 +72,13 @@ module _ (r : ResolveView) (unique : MeaningsUnique r) where
       let same = one_entry s i x y at p.0 q.0 in
       ap (λ z. z ∷ xs) same ∙ ap (λ z. y ∷ z) (entries_same s (before ++ y ∷ []) is xs ys at (subst (λ z. AreEntries s (before ++ z ∷ []) is xs) same p.2) q.2)
 
-abbrev scope_by : NameScope → Option LibraryView → Option (List RenameValue) → List FuncTypeValue → ImportScope
+abbrev scope_by : NameScope → Option LibraryView → Option (List RenameView) → List FuncTypeValue → ImportScope
 scope_by e l n t = record { name_scope = e; library = l; renames = n; types = t }
 
 pub one_name_scope : (e : EncoderView) (p q : NameScope) → IsNameScopeOf e p → IsNameScopeOf e q → p ≡ q
 one_name_scope e p q a b = a.2 ∙ (ap (encoder_scope e) (some_same (sym a.1 ∙ b.1)) ∙ sym b.2)
 
-pub import_scopes_same : (e : EncoderView) (renames : Option (List RenameValue)) (library : Option LibraryView) (types : List FuncTypeValue) (s t : ImportScope)
+pub import_scopes_same : (e : EncoderView) (renames : Option (List RenameView)) (library : Option LibraryView) (types : List FuncTypeValue) (s t : ImportScope)
     → IsImportScopeFor e renames library types s → IsImportScopeFor e renames library types t → s ≡ t
 import_scopes_same e renames library types s t p q =
     ap (λ z. scope_by z s.library s.renames s.types) (one_name_scope e s.name_scope t.name_scope p.has_name_scope q.has_name_scope)
@@ -103,7 +103,7 @@ exports_alike s keys (x ∷ xs) p q unique a b =
     a.4 ∙ (ap (λ o. entry_of x.name o ++ a.1) (same_entries s keys x a.0 b.0 unique a.2 b.2)
     ∙ (ap (λ z. entry_of x.name b.0 ++ z) (exports_alike s keys xs a.1 b.1 unique a.3 b.3) ∙ sym b.4))
 
-same_imports : (e : EncoderView) (renames : Option (List RenameValue)) (library : Option LibraryView) (m : ModuleValue) (p q : Records)
+same_imports : (e : EncoderView) (renames : Option (List RenameView)) (library : Option LibraryView) (m : ModuleValue) (p q : Records)
     → MeaningsUnique e.resolve → IsImportsRecord e renames library m.types m.imports p
     → IsImportsRecord e renames library m.types m.imports q → p ≡ q
 same_imports e renames library m p q unique a b =

@@ -42,7 +42,7 @@ pub mod FirstByKeyLemmas
 pub mod FirstPositionLemmas
 pub mod FirstExportLemmas
 pub mod FirstFunctionLemmas
-pub mod PlaceLemmas
+pub mod ExplainLemmas
 pub mod MissingLemmas
 pub mod PlaceLawLemmas
 pub mod WorldInterfaceLemmas

@@ -16,14 +16,14 @@ use Rattle.wc_read.specs.Sections.{import_id}
 use Rattle.wc_read.specs.Types.{FuncTypeValue, names_types}
 use Rattle.wc_resolve.proofs.SearchLemmas.{contains_cons, contains_none}
 use Rattle.wc_resolve.specs.Views.{KeyView, WorldView}
-use Rattle.wc_resolve.specs.World.{ResolveView}
+use Rattle.wc_resolve.specs.Kinds.{ResolveView}
 use Rattle.wc_adapters.specs.Adapters.{InstanceView, LibraryItemView, item_instance, module_instance}
 use Rattle.wc_names.specs.Builtins.{builtin_import}
 use Rattle.wc_names.specs.Environment.{EnvironmentFunction, NamesEnvironment, environment_row, get_stack_pointer, get_tls_base, names_value_type, set_stack_pointer, set_tls_base}
 use Rattle.wc_names.specs.Imports.{Classified, CoreFunction, CoreImport, ExternType, IsKind, IsRule, Kind, Rule, NameScope, adapter_function, by_scheme, environment, export_intrinsic, export_other_name, export_root_intrinsic, export_unknown, func_type, interface_function, interface_intrinsic, interface_other_name, interface_unknown, main_item, main_memory, memory_type, not_function, root_builtin, root_function, root_intrinsic, root_other_item, root_unknown, rules, scope_of, without_prefix}
 use Rattle.wc_names.specs.Keys.{Scope, scope_key, world_scope}
 use Rattle.wc_names.specs.Meanings.{Meaning, means, refuses, typed_reference}
-use Rattle.wc_names.specs.Schemes.{ResourceOperation, Scheme, legacy, resource_drop, resource_new, resource_rep, standard}
+use Rattle.wc_names.specs.Mangling.{ResourceOperation, Scheme, legacy, resource_drop, resource_new, resource_rep, standard}
 use Rattle.wc_names.specs.Views.{Builtin, ImportView, adapter_export, waitable_set_poll, waitable_set_wait}
 use Rattle.wc_names.specs.WitIntrinsics.{IsWitIntrinsic, WitIntrinsic, no_task_return, of_async_value, of_resource, resource_row, task_cancel, task_return}
 use Rattle.wc_names.proofs.SearchLemmas.{first_kind}

@@ -1,5 +1,5 @@
 -- What is missing among the exports of a module: the first that something does not hold of.
-use Rattle.std.proofs.Common.{◌≡◌, ◌≢◌, ◌↔◌, ◌≤◌, ◌+◌, ℕ, Bool, true, false, cond, is_some, arith, List, [], ◌∷◌, ◌++◌, map, All, Contains, IsTrue, MatchOption, Option, Some, None, IfOk, Result, Ok, Err, String, refl, sym, ap, subst, ◌∙◌, append_assoc, append-nil, inl, inr}
+use Rattle.std.proofs.Common.{◌≡◌, ◌≢◌, ◌↔◌, ◌≤◌, ◌+◌, ℕ, Bool, true, false, cond, is_some, arith, List, [], ◌∷◌, ◌++◌, map, All, IsTrue, MatchOption, Option, Some, None, IfOk, Result, Ok, Err, String, refl, sym, ap, subst, ◌∙◌, append_assoc, append-nil, inl, inr}
 use Rattle.std.specs.Borrow.{Bor}
 use Rattle.std.specs.Map.{lookup}
 use Rattle.std.specs.Option.{IsSome, option_and_then, option_to_list}
@@ -18,11 +18,10 @@ use Rattle.wc_read.specs.Types.{FuncTypeValue, func_type_value, names_types}
 use Rattle.wc_resolve.specs.declared.ids.InterfaceId.{InterfaceId}
 use Rattle.wc_resolve.specs.declared.worlds.WorldItem.{WorldItem}
 use Rattle.wc_resolve.specs.declared.worlds.WorldKey.{WorldKey}
-use Rattle.wc_resolve.specs.Queries.{key_text}
-use Rattle.wc_resolve.specs.Views.{FunctionView, ItemView, KeyView, function_item, interface_item, interface_key, key_view, plain_key, world_entry}
+use Rattle.wc_resolve.specs.Views.{ItemView, KeyView, function_item, interface_item, interface_key, key_view, plain_key, world_entry}
 use Rattle.wc_resolve.specs.WellFormed.{IsWellFormed}
 use Rattle.wc_resolve.proofs.WellFormedLemmas.{export_keys_have_texts, export_keys_in}
-use Rattle.wc_resolve.specs.World.{ResolveView}
+use Rattle.wc_resolve.specs.Kinds.{ResolveView}
 use Rattle.wc_adapters.specs.Entries.{Entries}
 use Rattle.wc_names.specs.declared.exports.Export.{Export}
 use Rattle.wc_names.specs.Exports.{CoreExport}
@@ -41,15 +40,15 @@ use Rattle.wc_validate.specs.declared.validate.ValidationInput.{ValidationInput 
 use Rattle.wc_validate.specs.Exports.Map.{ExportRecord, export_entry, is_memory}
 use Rattle.wc_validate.specs.Exports.Record.{AreExports, AreExportsAdded, AreRecordedBy, exports_in}
 use Rattle.wc_validate.specs.Imports.Map.{required_entry}
-use Rattle.wc_validate.specs.Places.{IsFirstFailing, IsFirstLacking, IsFirstUnexported, IsFunctionLack, IsFunctionPlace, IsKeyPlace, IsLack, IsSecondMemory, PlaceView, an_export, SubjectView, difference_of, missing_export, missing_function, place_view}
-use Rattle.wc_validate.specs.Private.Explained.{HasRecordedImports, IsNotExported, IsOfKey, IsSaidApart, IsCallbackExplained, IsFunctionLackAt, IsLackAt, IsLackNamed, IsLackOf, IsMemoryExplained, IsMissingExplained, IsMissingFrom, IsModuleExplained, IsSaidAs, IsSecondNamed, IsUncalled, IsUnexported}
-use Rattle.wc_validate.specs.NameScopes.{HasItsWorld, name_scope_of}
+use Rattle.wc_validate.specs.Explain.{IsFirstFailing, IsFirstLacking, IsFirstUnexported, IsFunctionLack, IsFunctionPlace, IsKeyPlace, IsLack, IsSecondMemory, PlaceView, an_export, SubjectView, difference_of, missing_export, place_view}
+use Rattle.wc_validate.specs.Private.Explain.{HasRecordedImports, IsNotExported, IsOfKey, IsSaidApart, IsCallbackExplained, IsFunctionLackAt, IsLackAt, IsLackNamed, IsLackOf, IsMemoryExplained, IsMissingExplained, IsMissingFrom, IsModuleExplained, IsSaidAs, IsSecondNamed, IsUncalled, IsUnexported}
+use Rattle.wc_validate.specs.NameScope.{HasItsWorld, name_scope_of}
 use Rattle.wc_validate.specs.Private.Requirements.{HasKeysNamed}
 use Rattle.wc_validate.specs.Texts.{name_not_exported}
 use Rattle.wc_validate.specs.Private.ExportedFunctions.{IsExportIndexOf}
 use Rattle.wc_validate.specs.Private.ValidationInputs.{validation_input_of}
-use Rattle.wc_validate.specs.Requirements.{AreMet, IsFirstUnmet, IsMet, IsShortfall, IsUnmetFault, Requirement, callback_name, callbacks, exported_type, function_names, functions_of, interface_functions, is_called_back, item_requirement, key_requirement, key_requirements, memory_count, one_memory, type_requirement, typed_function, world_function}
-use Rattle.wc_validate.specs.Validated.{IsNameScopeOf}
+use Rattle.wc_validate.specs.Requirements.{AreMet, IsFirstUnmet, IsMet, IsShortfall, IsUnmetFault, Requirement, callback_name, callbacks, exported_type, interface_functions, is_called_back, item_requirement, key_requirement, key_requirements, memory_count, one_memory, type_requirement, typed_function, world_function}
+use Rattle.wc_validate.specs.Validate.{IsNameScopeOf}
 use Rattle.wc_validate.proofs.RequirementLemmas.{keys_next, met_append}
 
 -- a list that is gone through as long as something holds
@@ -244,14 +243,6 @@ world_keys s formed world = λ k d small. (
   export_keys_in s.resolve formed world.0 s.world world.1 k d small,
   export_keys_have_texts s.resolve formed world.0 s.world world.1 parts_text k d small,
 )
-
-pub lack_in_interface : (r : ResolveView) (recorded : ExportRecord) (key : KeyView) (i : ℕ) (module_name name own : List ℕ)
-    → key_text parts_text r key ≡ Some module_name → name ≡ own
-    → (f : List ℕ × FunctionView) × (f.0 ≡ own)
-    × IsFirstFailing (λ (g : List ℕ × FunctionView). Contains (function_names recorded) (Some i, g.0)) (functions_of r i) f
-    → IsLack r recorded key (interface_functions i) (missing_function module_name name)
-lack_in_interface r recorded key i module_name name own text called h =
-    (module_name, h.0, text, h.2, ap (missing_function module_name) (called ∙ sym h.1))
 
 pub named_lack : {F : Type 0} (r : ResolveView) (functions : List (Option InterfaceId × String Global)) (exports : List (WorldKey × WorldItem)) (key : WorldKey)
     (need : Requirement) (result : Result (Option Subject) F) → key_requirement (map world_entry exports) (key_view key) ≡ Some need

@@ -7,7 +7,7 @@ use Rattle.wc_read.specs.Imports.{ImportValue}
 use Rattle.wc_read.specs.Modules.{ModuleValue, SpellsModule}
 use Rattle.wc_read.specs.Types.{FuncTypeValue}
 use Rattle.wc_resolve.specs.Views.{KeyView}
-use Rattle.wc_resolve.specs.World.{ResolveView}
+use Rattle.wc_resolve.specs.Kinds.{ResolveView}
 use Rattle.wc_adapters.specs.Entries.{Entries}
 use Rattle.wc_names.specs.Exports.{CoreExport}
 use Rattle.wc_names.specs.ExportViews.{ExportView}
@@ -19,10 +19,10 @@ use Rattle.wc_validate.specs.Imports.Record.{ImportScope, AreEntries, IsFaultOfI
 use Rattle.wc_validate.specs.Exports.Map.{ExportRecord}
 use Rattle.wc_validate.specs.Exports.Record.{AreExports, HasMismatch, IsMismatched, core_exports, typed_export}
 use Rattle.wc_validate.specs.Laws.{PlacesAreCauses}
-use Rattle.wc_validate.specs.Places.{IsExportPlace, IsFirstLacking, IsFirstUnexported, IsImportPlace, IsMissingPlace, IsModulePlace, IsOfImport, PlaceView}
+use Rattle.wc_validate.specs.Explain.{IsExportPlace, IsFirstLacking, IsFirstUnexported, IsImportPlace, IsMissingPlace, IsModulePlace, IsOfImport, PlaceView}
 use Rattle.wc_validate.specs.Requirements.{IsFirstUnmet, IsShortfall, IsUnmetFault, Requirement, callbacks, interface_functions, is_called_back, key_requirements, one_memory, requirements, type_requirement, typed_function, world_function}
-use Rattle.wc_validate.specs.Validated.{IsValidateCause, IsCauseOfExports, IsCauseOfImports, IsImportScopeFor, IsModuleCause, IsNameScopeOf, ValidationInput}
-use Rattle.wc_validate.proofs.PlaceLemmas.{fault_of_import}
+use Rattle.wc_validate.specs.Validate.{IsValidateCause, IsCauseOfExports, IsCauseOfImports, IsImportScopeFor, IsModuleCause, IsNameScopeOf, ValidationInput}
+use Rattle.wc_validate.proofs.ExplainLemmas.{fault_of_import}
 use Rattle.wc_validate.proofs.MissingLemmas.{keys_cut, not_all, two_memories}
 use Rattle.wc_validate.proofs.RequirementLemmas.{first_left, first_right}
 

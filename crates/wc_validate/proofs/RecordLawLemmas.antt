@@ -6,7 +6,7 @@ use Rattle.std.proofs.lemmas.List.Elements.{All-append, All-cons, All-head, All-
 use Rattle.wc_read.specs.Imports.{ImportValue}
 use Rattle.wc_resolve.proofs.SearchLemmas.{contains_head, contains_tail}
 use Rattle.wc_resolve.specs.Views.{KeyView, WorldView}
-use Rattle.wc_resolve.specs.World.{ResolveView}
+use Rattle.wc_resolve.specs.Kinds.{ResolveView}
 use Rattle.wc_adapters.specs.Adapters.{WhichView}
 use Rattle.wc_encoder.specs.EncoderParts.{EncoderView, IsWorldOf}
 use Rattle.wc_names.specs.Exports.{CoreExport, is_export}
@@ -21,8 +21,8 @@ use Rattle.wc_validate.specs.Imports.Map.{imports_in, singles_of}
 use Rattle.wc_validate.specs.Imports.Record.{ImportScope, AreEntries, IsEntry}
 use Rattle.wc_validate.specs.Laws.{EntriesInRange, IsRecordedImport, RecordedExportsInRange, RecordsAreImports, RecordsInRange}
 use Rattle.wc_validate.specs.Exports.Record.{AreExports, IsExportEntry, core_exports, entry_of}
-use Rattle.wc_validate.specs.NameScopes.{HasItsWorld}
-use Rattle.wc_validate.specs.Validated.{IsRecordOf, IsImportScopeFor, IsNameScopeOf, ValidationInput, ModuleRecord, encoder_scope}
+use Rattle.wc_validate.specs.NameScope.{HasItsWorld}
+use Rattle.wc_validate.specs.Validate.{IsRecordOf, IsImportScopeFor, IsNameScopeOf, ValidationInput, ModuleRecord, encoder_scope}
 use Rattle.wc_validate.proofs.InstanceLemmas.{same}
 
 -- a fact of single imports, of an entry

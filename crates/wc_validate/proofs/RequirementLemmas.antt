@@ -17,7 +17,7 @@ use Rattle.wc_names.specs.Keys.{item_under, key_eq}
 use Rattle.wc_names.proofs.KeyLemmas.{item_viewed}
 use Rattle.std.specs.Option.{IsSome, option_and_then, option_map, option_map_or, option_to_list}
 use Rattle.wc_read.specs.Types.{FuncTypeValue, names_types}
-use Rattle.wc_resolve.specs.World.{ResolveView}
+use Rattle.wc_resolve.specs.Kinds.{ResolveView}
 use Rattle.wc_names.specs.Exports.{CoreExport}
 use Rattle.wc_validate.specs.declared.fault.ValidateFault.{ValidateFault}
 use Rattle.wc_validate.specs.declared.fault.ValidateFault.TheVariants.{AdapterExportType, Memory, AdapterModuleDidNotExport as missing, TypedReference}

@@ -8,7 +8,7 @@ use Rattle.wc_read.specs.declared.types.MemoryType.{MemoryType}
 use Rattle.wc_read.specs.Imports.{ImportValue}
 use Rattle.wc_read.specs.Modules.{ModuleValue}
 use Rattle.wc_read.specs.Types.{FuncTypeValue}
-use Rattle.wc_dedupe.specs.Renaming.{RenameValue}
+use Rattle.wc_dedupe.specs.Renaming.{RenameView}
 use Rattle.wc_resolve.proofs.SearchLemmas.{contains_cons, contains_head, contains_none, contains_tail}
 use Rattle.wc_names.specs.SameButIndices.{AreSameButIndices, without_indices}
 use Rattle.wc_names.specs.Imports.{Classified, CoreImport, ExternType, NameScope, extern_kind}
@@ -22,7 +22,7 @@ use Rattle.wc_names.proofs.SearchLemmas.{first_kind}
 use Rattle.wc_validate.specs.declared.fault.ValidateFault.{ValidateFault}
 use Rattle.wc_validate.specs.declared.fault.ValidateFault.TheVariants.{AdapterTypesDiffer, DuplicateImport, Mixed, SeveralMemoryImports}
 use Rattle.wc_validate.specs.Imports.Entries.{Entry, IsNameRecorded, adapter_type_in, adapter_type_of, by_modules, memory_of, memory_type_of, single}
-use Rattle.wc_validate.specs.Faults.{import_fault_kind}
+use Rattle.wc_validate.specs.Fault.{import_fault_kind}
 use Rattle.wc_validate.specs.Imports.Record.{AreEntries, ImportScope, IsCoreImport, IsEntry, IsEntryCause, IsFaultOfImport, IsImportFault, entry_faults, extern_type, original_name}
 use Rattle.wc_validate.specs.Restriction.{AreDistinct, HasCollision, HasOrigin, IsSameImport, main_module}
 use Rattle.wc_validate.specs.Imports.Classify.{HasSignature, IsNameFault}
@@ -34,11 +34,11 @@ use Rattle.wc_validate.proofs.SingleEntryLemmas.{AreCompatible, IsSingle, adapte
 use Rattle.wc_validate.proofs.ValidPairLemmas.{entry_at, pairs_compatible}
 
 -- what imports of a module are recorded by that is no library
-abbrev pub name_scope_of : NameScope → Option (List RenameValue) → ModuleValue → ImportScope
+abbrev pub name_scope_of : NameScope → Option (List RenameView) → ModuleValue → ImportScope
 name_scope_of e renames m = record { name_scope = e; library = None; renames = renames; types = m.types }
 
 -- an entry by an import's name
-pub record IsNamedEntry (e : NameScope) (renames : Option (List RenameValue)) (m : ModuleValue) (i : ImportValue) (x : Entry) : Type 0 where
+pub record IsNamedEntry (e : NameScope) (renames : Option (List RenameView)) (m : ModuleValue) (i : ImportValue) (x : Entry) : Type 0 where
   pub core : CoreImport
   pub view : ImportView
   pub required_type : Option FuncTypeValue
@@ -47,13 +47,13 @@ pub record IsNamedEntry (e : NameScope) (renames : Option (List RenameValue)) (m
   pub signed : HasSignature core.ty required_type
   pub is_entry : x ≡ single i.module_name i.name view
 
-pub named_entry : (e : NameScope) (renames : Option (List RenameValue)) (m : ModuleValue) (i : ImportValue) (x : Entry)
+pub named_entry : (e : NameScope) (renames : Option (List RenameView)) (m : ModuleValue) (i : ImportValue) (x : Entry)
     → IsEntry (name_scope_of e renames m) i x
     → IsNamedEntry e renames m i x
 named_entry e renames m i x (inl h) = absurd (let bad : ⊥ = cc h in bad)
 named_entry e renames m i x (inr h) = record { core = h.1; view = h.2; required_type = h.3; is_core = h.4; is_meant = h.5; signed = h.6; is_entry = h.7 }
 
-pub alone : (e : NameScope) (renames : Option (List RenameValue)) (m : ModuleValue) (i : ImportValue) (x : Entry) → IsEntry (name_scope_of e renames m) i x
+pub alone : (e : NameScope) (renames : Option (List RenameView)) (m : ModuleValue) (i : ImportValue) (x : Entry) → IsEntry (name_scope_of e renames m) i x
     → IsSingle x
 alone e renames m i x h = subst IsSingle (sym (named_entry e renames m i x h).is_entry) tt
 
@@ -146,7 +146,7 @@ abbrev IsMainEntry : Entry → Type 0
 IsMainEntry x = (name n : List ℕ) × (k : ExportKind) × (x ≡ single main_module name (main_module_export n k))
 
 -- an import before one: both are not from one position
-record IsEarlier (e : NameScope) (renames : Option (List RenameValue)) (v m : ModuleValue) (o : Option ℕ) (front : List ImportValue) (y : Entry) : Type 0 where
+record IsEarlier (e : NameScope) (renames : Option (List RenameView)) (v m : ModuleValue) (o : Option ℕ) (front : List ImportValue) (y : Entry) : Type 0 where
   pub origin : Option ℕ
   pub import : ImportValue
   pub there : Contains front import
@@ -162,7 +162,7 @@ record Collides (front : List ImportValue) (i : ImportValue) : Type 0 where
   pub same_module : first.module_name ≡ i.module_name
   pub same_name : first.name ≡ i.name
 
-module _ (e : NameScope) (renames : Option (List RenameValue)) (v m : ModuleValue) where
+module _ (e : NameScope) (renames : Option (List RenameView)) (v m : ModuleValue) where
   further : (o : Option ℕ) (k : ImportValue) (front : List ImportValue) (y : Entry) → IsEarlier e renames v m o front y
       → IsEarlier e renames v m o (k ∷ front) y
   further o k front y r =

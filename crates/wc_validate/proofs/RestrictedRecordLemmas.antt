@@ -11,7 +11,7 @@ use Rattle.wc_validate.specs.Imports.Entries.{Entry, by_modules, single}
 use Rattle.wc_validate.specs.Imports.Map.{imports_in}
 use Rattle.wc_validate.specs.Imports.Record.{AreEntries, IsEntry}
 use Rattle.wc_validate.specs.Restriction.{HasOrigin, IsRecordedFrom, IsRestrictedImport, main_module}
-use Rattle.wc_validate.specs.Validated.{ModuleRecord}
+use Rattle.wc_validate.specs.Validate.{ModuleRecord}
 use Rattle.wc_validate.proofs.ContainedLemmas.{contains_at, position_of, some_same, zipped, zipped_at}
 use Rattle.wc_validate.proofs.RecordLawLemmas.{entries_all}
 use Rattle.wc_validate.proofs.RestrictedImportLemmas.{alone, entry_of, main_is, named_entry, name_scope_of}

@@ -6,7 +6,7 @@ use Rattle.wc_read.specs.Exports.{ExportValue}
 use Rattle.wc_read.specs.Imports.{ImportValue}
 use Rattle.wc_read.specs.Modules.{IsModule, ModuleValue}
 use Rattle.wc_read.specs.Types.{FuncTypeValue}
-use Rattle.wc_dedupe.specs.Renaming.{RenameValue}
+use Rattle.wc_dedupe.specs.Renaming.{RenameView}
 use Rattle.wc_resolve.specs.Views.{KeyView}
 use Rattle.wc_adapters.specs.Adapters.{LibraryView}
 use Rattle.wc_encoder.specs.EncoderParts.{EncoderView}
@@ -25,7 +25,7 @@ use Rattle.wc_validate.specs.Imports.Record.{AreEntries, ImportScope, IsImportFa
 use Rattle.wc_validate.specs.Exports.Record.{AreExports, IsExportsFault, core_exports, item_type, typed_export}
 use Rattle.wc_validate.specs.Requirements.{IsUnmetFault, requirements}
 use Rattle.wc_validate.specs.Restriction.{AreNeeded, HasCollision, IsKeptExport, IsModuleRecord, IsOldExport, IsRestrictedImport, IsRestriction, IsSameExport, RestrictionsRecorded, RestrictionsValid}
-use Rattle.wc_validate.specs.Validated.{IsExportsCause, IsImportsCause, IsImportScopeFor, IsNameScopeOf, ValidationInput, ModuleRecord}
+use Rattle.wc_validate.specs.Validate.{IsExportsCause, IsImportsCause, IsImportScopeFor, IsNameScopeOf, ValidationInput, ModuleRecord}
 use Rattle.wc_validate.proofs.DistinctNameLemmas.{HaveDistinctNames, distinct_kept, distinct_unmapped}
 use Rattle.wc_validate.proofs.ContainedLemmas.{kept_from, kept_there, mapped_from, none_some, some_same}
 use Rattle.wc_validate.proofs.LawLemmas.{one_name_scope}
@@ -79,7 +79,7 @@ core_kept v m names kept x there named =
     (same.0, kept_there (typed_export m) m.exports is.0 same.0 is.1 same.1, same.2, same.3)
 
 -- the cause of a fault that is not Memory
-imports_cause : (e : EncoderView) (renames : Option (List RenameValue)) (library : Option LibraryView) (types : List FuncTypeValue) (imports : List ImportValue)
+imports_cause : (e : EncoderView) (renames : Option (List RenameView)) (library : Option LibraryView) (types : List FuncTypeValue) (imports : List ImportValue)
     (f : ValidateFault) → f ≢ Memory
     → IsImportsCause e renames library types imports f → (s : ImportScope) × IsImportScopeFor e renames library types s × IsImportFault s [] imports f
 imports_cause e renames library types imports Memory other h = absurd (other refl)
@@ -96,7 +96,7 @@ exports_cause e keys required m Memory other h = absurd (other refl)
 exports_cause e keys required m f other h = h
 
 -- what imports are recorded by, of a module that is no library
-scope_is : (e : EncoderView) (renames : Option (List RenameValue)) (library : Option LibraryView) (m : ModuleValue) (s : ImportScope) (g : NameScope)
+scope_is : (e : EncoderView) (renames : Option (List RenameView)) (library : Option LibraryView) (m : ModuleValue) (s : ImportScope) (g : NameScope)
     → IsImportScopeFor e renames library m.types s → library ≡ None → s.name_scope ≡ g
     → s ≡ name_scope_of g renames m
 scope_is e renames library m s g is none same =

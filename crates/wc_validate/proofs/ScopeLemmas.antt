@@ -7,7 +7,7 @@ use Rattle.std.proofs.lemmas.List.Elements.{All-head, All-tail, All-weaker}
 use Rattle.wc_resolve.specs.Ranges.{AreIdsInRange, AreNamesIn, IsEntryIn, IsFunctionIn, IsInterfaceIn, IsItemIn, IsKeyIn, IsWorldIn}
 use Rattle.wc_resolve.specs.Views.{KeyView, plain_key, ItemView, function_item, type_item, FunctionView, InterfaceView, WorldView}
 use Rattle.wc_resolve.specs.WellFormed.{IsFree, IsUsable, IsWellFormed}
-use Rattle.wc_resolve.specs.World.{ResolveView, DoAllTypesPass, DoesInterfacePass, DoesItemPass, DoesWorldPass, SignatureHasOnly}
+use Rattle.wc_resolve.specs.Kinds.{ResolveView, DoAllTypesPass, DoesInterfacePass, DoesItemPass, DoesWorldPass, SignatureHasOnly}
 use Rattle.wc_names.specs.Keys.{as_type, function_at, item_under, type_named, world_entries}
 use Rattle.wc_maps.specs.Names.{under_name}
 use Rattle.wc_resolve.proofs.WellFormedLemmas.{all_get}

@@ -7,7 +7,7 @@ use Rattle.wc_names.specs.Meanings.{Meaning}
 use Rattle.wc_validate.proofs.ClassificationLemmas.{classified_as, classified_err, classified_memory, group_err}
 use Rattle.wc_validate.specs.declared.name_fault.NameFault.{NameFault}
 use Rattle.wc_validate.specs.declared.name_fault.NameFault.TheVariants.{Memory}
-use Rattle.wc_validate.specs.Faults.{fault_kind}
+use Rattle.wc_validate.specs.Fault.{fault_kind}
 use Rattle.wc_validate.specs.Imports.Classify.{answer_of}
 use Rattle.wc_validate.specs.Classifications.{IsImportClassification, of_imports}
 

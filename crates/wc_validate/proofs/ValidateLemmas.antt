@@ -11,7 +11,7 @@ use Rattle.wc_read.specs.declared.fault.ReadFault.TheVariants as read
 use Rattle.wc_read.specs.declared.types.FuncType.{FuncType}
 use Rattle.wc_read.specs.declared.types.Import.{Import}
 use Rattle.wc_read.specs.declared.core_module.Module.{Module}
-use Rattle.wc_read.specs.Faults.{SpellsNothing}
+use Rattle.wc_read.specs.Fault.{SpellsNothing}
 use Rattle.wc_read.specs.Imports.{ImportValue, import_value, import_values}
 use Rattle.wc_read.specs.Items.{FuncValue, imported}
 use Rattle.wc_read.specs.Modules.{ModuleValue, SpellsModule, module_value}
@@ -23,8 +23,8 @@ use Rattle.wc_resolve.specs.Ranges.{IsItemIn}
 use Rattle.wc_resolve.specs.Views.{ItemView, KeyView, WorldView, key_view}
 use Rattle.wc_resolve.specs.WellFormed.{IsWellFormed}
 use Rattle.wc_resolve.proofs.WellFormedLemmas.{export_items_in}
-use Rattle.wc_resolve.specs.World.{ResolveView}
-use Rattle.wc_dedupe.specs.Renaming.{RenameValue}
+use Rattle.wc_resolve.specs.Kinds.{ResolveView}
+use Rattle.wc_dedupe.specs.Renaming.{RenameView}
 use Rattle.wc_adapters.specs.declared.adapters.Adapter.{Adapter}
 use Rattle.wc_adapters.specs.Adapters.{AdapterView, LibraryView, adapter_entry}
 use Rattle.wc_encoder.specs.EncoderParts.{EncoderView}
@@ -33,19 +33,19 @@ use Rattle.wc_names.specs.ExportIndex.{ExportNamesView, names_view}
 use Rattle.wc_names.specs.ExportNames.{export_syntax, world_exports}
 use Rattle.wc_names.specs.Exports.{CoreExport}
 use Rattle.wc_names.specs.Imports.{CoreImport, NameScope}
-use Rattle.wc_names.specs.Schemes.{Scheme}
+use Rattle.wc_names.specs.Mangling.{Scheme}
 use Rattle.wc_validate.specs.declared.fault.ValidateFault.{ValidateFault}
 use Rattle.wc_validate.specs.declared.fault.ValidateFault.TheVariants.{Memory, Read, NotAModule}
 use Rattle.wc_validate.specs.declared.imports.record.ImportContext.{ImportContext}
 use Rattle.wc_validate.specs.declared.imports.recorder.Recorder.{Recorder}
 use Rattle.wc_validate.specs.Private.Imports.Contexts.{AreRecorded, IsImportsRefusal, IsTypeIn, import_scope}
 use Rattle.wc_validate.specs.Imports.Entries.{Entry, Records}
-use Rattle.wc_validate.specs.Faults.{import_fault_kind, of_read}
+use Rattle.wc_validate.specs.Fault.{import_fault_kind, of_read}
 use Rattle.wc_validate.specs.Imports.Record.{ImportScope, IsEntryFault, IsImportFault}
 use Rattle.wc_validate.specs.Imports.Instances.{instance_entry}
 use Rattle.wc_validate.specs.Imports.Classify.{IsNameFault}
 use Rattle.wc_validate.specs.Imports.Map.{memory_in}
-use Rattle.wc_validate.specs.NameScopes.{HasItsWorld, adapter_name, name_scope_of}
+use Rattle.wc_validate.specs.NameScope.{HasItsWorld, adapter_name, name_scope_of}
 use Rattle.wc_names.specs.declared.exports.Export.{Export as ClassifiedExport}
 use Rattle.wc_validate.specs.declared.exports.classify.ExportContext.{ExportContext}
 use Rattle.wc_validate.specs.declared.requirements.RequiredExports.{RequiredExports}
@@ -56,7 +56,7 @@ use Rattle.wc_validate.specs.Exports.Record.{AreExports, AreRecordedBy, AreRefus
 use Rattle.wc_validate.specs.Requirements.{IsFirstUnmet, IsShortfall, IsUnmetFault, Requirement, callbacks, interface_functions, one_memory, requirements, typed_function, world_function}
 use Rattle.wc_validate.specs.Private.ValidationInputs.{HasRecordedExports, HasRefusedExports}
 use Rattle.wc_validate.specs.Private.Requirements.{AreMetBy, IsUnmetBy}
-use Rattle.wc_validate.specs.Validated.{IsValidateCause, IsExportsRecord, IsImportsCause, IsImportsRecord, IsModuleCause, IsRecordOf, IsImportScopeFor, IsNameScopeOf, ValidationInput, module_record}
+use Rattle.wc_validate.specs.Validate.{IsValidateCause, IsExportsRecord, IsImportsCause, IsImportsRecord, IsModuleCause, IsRecordOf, IsImportScopeFor, IsNameScopeOf, ValidationInput, module_record}
 
 -- what names are looked up in, for an encoder
 names_are : (es : List (String Global × Adapter)) → map adapter_name es ≡ map (λ (a : List ℕ × AdapterView). a.0) (map adapter_entry es)
@@ -82,7 +82,7 @@ scope_is e r w es b h index resolve at there adapters flag hook =
     )
 
 -- imports that are recorded, or are not
-module _ (e : EncoderView) (c : ImportContext) (renames : Option (List RenameValue)) (library : Option LibraryView) (types : List FuncType)
+module _ (e : EncoderView) (c : ImportContext) (renames : Option (List RenameView)) (library : Option LibraryView) (types : List FuncType)
     (passed imports : List Import) (has_name_scope : IsNameScopeOf e (name_scope_of c.names)) (same_renames : option_copied c.renames ≡ renames)
     (same_types : c.types.now ≡ types) (same : passed ≡ imports) where
   import_scope_for : IsImportScopeFor e renames library (map func_type_value types) (import_scope c library)

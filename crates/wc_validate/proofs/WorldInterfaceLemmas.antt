@@ -3,9 +3,9 @@ use Rattle.std.proofs.Common.{◌≡◌, ◌∙◌, Option, Some, None, IfSome, 
 use Rattle.std.specs.Borrow.{Bor}
 use Rattle.wc_encoder.specs.EncoderParts.{EncoderView}
 use Rattle.wc_names.specs.Imports.{NameScope}
-use Rattle.wc_validate.specs.NameScopes.{AreInterfacesOf}
+use Rattle.wc_validate.specs.NameScope.{AreInterfacesOf}
 use Rattle.wc_validate.specs.Private.WorldInterfaces.{AreInterfacesFor, AreInterfacesThere}
-use Rattle.wc_validate.specs.Validated.{IsNameScopeOf, encoder_scope}
+use Rattle.wc_validate.specs.Validate.{IsNameScopeOf, encoder_scope}
 use Rattle.wc_validate.specs.declared.name_scope.Interfaces.{Interfaces}
 
 -- an encoder has one scope of names

@@ -4,7 +4,7 @@ use Rattle.wc_read.specs.Imports.{ImportValue}
 use Rattle.wc_read.specs.Modules.{ModuleValue, SpellsModule}
 use Rattle.wc_read.specs.Types.{FuncTypeValue}
 use Rattle.wc_resolve.specs.Views.{WorldView}
-use Rattle.wc_resolve.specs.World.{ResolveView}
+use Rattle.wc_resolve.specs.Kinds.{ResolveView}
 use Rattle.wc_encoder.specs.EncoderParts.{EncoderView, IsWorldOf}
 use Rattle.wc_names.specs.ExportViews.{ExportView}
 use Rattle.wc_names.specs.Imports.{CoreImport, Classified, func_type}
@@ -14,10 +14,10 @@ use Rattle.wc_names.specs.Views.{ImportView}
 use Rattle.wc_validate.specs.Imports.Entries.{Entry, single}
 use Rattle.wc_validate.specs.Imports.Map.{imports_in}
 use Rattle.wc_validate.specs.Imports.Record.{ImportScope, IsCoreImport, IsEntry, library_entry}
-use Rattle.wc_validate.specs.NameScopes.{HasItsWorld}
-use Rattle.wc_validate.specs.Places.{IsPlace}
-use Rattle.wc_validate.specs.PlaceViews.{PlaceView}
-use Rattle.wc_validate.specs.Validated.{HasNoCause, IsValidateCause, IsRecordOf, IsImportScopeFor, ValidationInput, ModuleRecord}
+use Rattle.wc_validate.specs.NameScope.{HasItsWorld}
+use Rattle.wc_validate.specs.Explain.{IsPlace}
+use Rattle.wc_validate.specs.Place.{PlaceView}
+use Rattle.wc_validate.specs.Validate.{HasNoCause, IsValidateCause, IsRecordOf, IsImportScopeFor, ValidationInput, ModuleRecord}
 use Rattle.wc_validate.specs.declared.fault.ValidateFault.{ValidateFault}
 
 -- of a module there is one record at most, for one validation input

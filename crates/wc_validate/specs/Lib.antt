@@ -1,11 +1,11 @@
 -- What contracts of this crate cite.
-pub mod PlaceViews
+pub mod Place
 pub mod Texts
 pub mod Classifications
-pub mod Faults
-pub mod NameScopes
+pub mod Fault
+pub mod NameScope
 pub mod Imports
-pub mod Validated
+pub mod Validate
 pub mod Laws
 pub mod Restriction
 pub mod MemoryTypes
@@ -13,5 +13,5 @@ pub mod Exports
 pub mod FirstPositions
 pub mod FirstByKey
 pub mod Requirements
-pub mod Places
+pub mod Explain
 pub mod Private

@@ -3,7 +3,7 @@ use Rattle.std.specs.Prelude.{◌≡◌, ◌≤◌, ℕ, List, Some}
 use Rattle.wc_read.specs.declared.types.MemoryType.{MemoryType}
 use Rattle.wc_read.specs.Limits.{IsMemory, page_size_log2_of}
 use Rattle.wc_validate.specs.Imports.Map.{memory_in}
-use Rattle.wc_validate.specs.Validated.{IsRecordOf, ValidationInput, ModuleRecord}
+use Rattle.wc_validate.specs.Validate.{IsRecordOf, ValidationInput, ModuleRecord}
 
 -- a recorded memory has a type as modules have them, so the exponent of its pages is 16 at most
 abbrev pub RecordedMemoriesValid : Type 0

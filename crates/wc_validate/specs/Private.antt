@@ -1,6 +1,6 @@
 -- Words of contracts of private functions. No contract of a public function cites these, directly or through others.
 pub mod ExportedFunctions
-pub mod Explained
+pub mod Explain
 pub mod Exports
 pub mod Externs
 pub mod Imports

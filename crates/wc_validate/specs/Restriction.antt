@@ -18,7 +18,7 @@ use Rattle.wc_validate.specs.declared.fault.ValidateFault.TheVariants.{Duplicate
 use Rattle.wc_validate.specs.Imports.Map.{imports_in}
 use Rattle.wc_validate.specs.Imports.Record.{extern_type}
 use Rattle.wc_validate.specs.Exports.Record.{item_type}
-use Rattle.wc_validate.specs.Validated.{IsExportsRecord, IsImportsRecord, IsModuleCause, ValidationInput, ModuleRecord}
+use Rattle.wc_validate.specs.Validate.{IsExportsRecord, IsImportsRecord, IsModuleCause, ValidationInput, ModuleRecord}
 
 -- the name by which modules import from the main module
 abbrev pub main_module : List ℕ

@@ -4,7 +4,7 @@ use Rattle.wc_read.specs.declared.types.ValType.{ValType}
 use Rattle.wc_read.specs.declared.types.ValType.TheVariants.{I32, I64, F32, F64, V128, FuncRef, ExternRef, FuncRefNonNull, ExternRefNonNull, TypeRef}
 use Rattle.wc_read.specs.Types.{FuncTypeValue}
 use Rattle.wc_validate.specs.declared.fault.AdapterModuleDidNotExport.{AdapterModuleDidNotExport}
-use Rattle.wc_validate.specs.PlaceViews.{DifferenceView, PlaceView, SubjectView, an_import, an_export, missing_function, missing_export}
+use Rattle.wc_validate.specs.Place.{DifferenceView, PlaceView, SubjectView, an_import, an_export, missing_function, missing_export}
 
 -- the name of what an adapter doesn't export
 abbrev pub name_not_exported : AdapterModuleDidNotExport → List ℕ

@@ -1,14 +1,14 @@
-//! The places of faults of core modules: the first import or export at which a fault's cause stands.
+//! The places of faults of core modules: the first import or export at which a fault's cause is.
 
 ghost use Rattle.std.specs.Prelude.{◌≡◌, ◌↔◌, IfOk, IsTrue, option_copied};
 ghost use Rattle.wc_read.specs.Modules.{IsModule, module_value};
 ghost use Rattle.wc_validate.specs.Exports.Contexts.{IsExportContext};
-ghost use Rattle.wc_validate.specs.Places.{IsExplained};
-ghost use Rattle.wc_validate.specs.Private.Explained.{HasRecordedImports, IsMissingFrom, IsModuleExplained};
+ghost use Rattle.wc_validate.specs.Explain.{IsExplained};
+ghost use Rattle.wc_validate.specs.Private.Explain.{HasRecordedImports, IsMissingFrom, IsModuleExplained};
 ghost use Rattle.wc_validate.specs.Private.Imports.Contexts.{HasTypedImports};
 ghost use Rattle.wc_validate.specs.Private.ValidationInputs.{validation_input_of};
 ghost use Rattle.wc_validate.specs.Private.WorldInterfaces.{AreInterfacesFor};
-ghost use Rattle.wc_validate.specs.Validated.{adapter_input_of, main_input};
+ghost use Rattle.wc_validate.specs.Validate.{adapter_input_of, main_input};
 
 mod exports;
 mod functions;

@@ -154,7 +154,7 @@ impl<T: Drop> From<AllocFailed<T>> for ValidateFault {
 }
 
 impl From<ReadFault> for ValidateFault {
-    ghost use Rattle.wc_validate.specs.Faults.{of_read};
+    ghost use Rattle.wc_validate.specs.Fault.{of_read};
 
     ghost from_gives = { λ f e. e ≡ of_read f };
 

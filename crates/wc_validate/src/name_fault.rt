@@ -45,7 +45,7 @@ impl<T: Drop> From<AllocFailed<T>> for NameFault {
 
 impl From<NameFault> for ValidateFault {
     ghost use Rattle.std.specs.Prelude.{◌≡◌};
-    ghost use Rattle.wc_validate.specs.Faults.{of_name};
+    ghost use Rattle.wc_validate.specs.Fault.{of_name};
 
     ghost from_gives = { λ f e. e ≡ of_name f };
 

@@ -3,7 +3,7 @@
 ghost use Rattle.std.specs.Prelude.{IfOk};
 ghost use Rattle.wc_names.specs.Imports.{NameScope};
 ghost use Rattle.wc_names.specs.Interfaces.{InterfaceTexts, interface_texts};
-ghost use Rattle.wc_validate.specs.NameScopes.{AreInterfacesBy, AreInterfacesOf, HasItsWorld, name_scope_of};
+ghost use Rattle.wc_validate.specs.NameScope.{AreInterfacesBy, AreInterfacesOf, HasItsWorld, name_scope_of};
 
 use std::alloc::{AllocError, Global};
 use wc_encoder::Adapter;

@@ -31,7 +31,7 @@ pub enum Subject {
 }
 
 impl fmt::Display for Subject {
-    ghost use Rattle.wc_validate.specs.PlaceViews.{subject_view};
+    ghost use Rattle.wc_validate.specs.Place.{subject_view};
     ghost use Rattle.wc_validate.specs.Texts.{subject_text};
 
     ghost output = { λ subject. Some (subject_text (subject_view subject)) };
@@ -63,7 +63,7 @@ pub struct TypeDifference {
 }
 
 impl fmt::Display for TypeDifference {
-    ghost use Rattle.wc_validate.specs.PlaceViews.{difference_view};
+    ghost use Rattle.wc_validate.specs.Place.{difference_view};
     ghost use Rattle.wc_validate.specs.Texts.{difference_text};
 
     ghost output = { λ d. Some (difference_text (difference_view d)) };
@@ -84,7 +84,7 @@ pub struct Place {
 }
 
 impl fmt::Display for Place {
-    ghost use Rattle.wc_validate.specs.PlaceViews.{place_view};
+    ghost use Rattle.wc_validate.specs.Place.{place_view};
     ghost use Rattle.wc_validate.specs.Texts.{place_text};
 
     ghost output = { λ place. Some (place_text (place_view place)) };

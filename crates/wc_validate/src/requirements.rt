@@ -8,7 +8,7 @@ ghost use Rattle.wc_names.specs.ExportViews.{export_view};
 ghost use Rattle.wc_validate.specs.Exports.Map.{export_entry, is_memory};
 ghost use Rattle.wc_validate.specs.Requirements.{is_called_back, is_callback_for, memory_count, needs_callback};
 ghost use Rattle.wc_validate.specs.Private.Requirements.{AreMetBy, HasItemsInRange, IsUnmetBy, requirement_of_key, requirements_of_keys, AreCalledBack, FailsAlone, FailsByNames, MeetsAlone, MeetsByNames};
-ghost use Rattle.wc_validate.specs.NameScopes.{name_scope_of};
+ghost use Rattle.wc_validate.specs.NameScope.{name_scope_of};
 ghost use Rattle.wc_validate.specs.Exports.Record.{AreExportsIn};
 
 pub(crate) mod exported_functions;

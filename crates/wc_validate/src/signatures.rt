@@ -3,7 +3,7 @@
 ghost use Rattle.std.specs.Prelude.{◌≡◌, ◌↔◌, Err, IfOk, IsTrue, Ok, Option, Some, false, map};
 ghost use Rattle.std.specs.List.{list_any};
 ghost use Rattle.wc_read.specs.Types.{FuncTypeValue, func_type_value, names_type, names_types};
-ghost use Rattle.wc_resolve.specs.Signatures.{signature_view};
+ghost use Rattle.wc_resolve.specs.Signature.{signature_view};
 ghost use Rattle.wc_resolve.specs.Views.{function_view};
 ghost use Rattle.wc_resolve.specs.WellFormed.{IsUsable};
 ghost use Rattle.wc_names.specs.Builtins.{signature};
@@ -12,7 +12,7 @@ ghost use Rattle.wc_names.specs.Imports.{function_type, signature_type, val_type
 ghost use Rattle.wc_names.specs.Views.{import_view};
 ghost use Rattle.wc_validate.specs.Private.Imports.Builtins.{async_value_type, thread_type, IsCheckedAs, IsCheckedBy, IsMismatch, IsMismatchBy, IsTypeMismatch};
 ghost use Rattle.wc_validate.specs.Classifications.{IsTypeChecked};
-ghost use Rattle.wc_validate.specs.Faults.{fault_kind};
+ghost use Rattle.wc_validate.specs.Fault.{fault_kind};
 
 use crate::name_fault::NameFault;
 use std::alloc::{AllocError, Global};

@@ -5,9 +5,9 @@ ghost use Rattle.wc_read.specs.Modules.{IsModule, module_value};
 ghost use Rattle.wc_resolve.specs.Views.{key_view};
 ghost use Rattle.wc_validate.specs.Private.Imports.Contexts.{HasLibrary, HasTypedImports};
 ghost use Rattle.wc_validate.specs.Exports.Contexts.{IsExportContext};
-ghost use Rattle.wc_validate.specs.NameScopes.{AreInterfacesOf, name_scope_of};
+ghost use Rattle.wc_validate.specs.NameScope.{AreInterfacesOf, name_scope_of};
 ghost use Rattle.wc_validate.specs.Private.WorldInterfaces.{AreInterfacesFor, AreInterfacesThere};
-ghost use Rattle.wc_validate.specs.Validated.{HasNoCause, IsValidateCause, IsCauseOfExports, IsCauseOfImports, IsModuleCause, IsNameScopeOf, IsRecordOf, IsRecordOfExports, IsRecordOfImports, adapter_input_of, library_of, main_input, module_record};
+ghost use Rattle.wc_validate.specs.Validate.{HasNoCause, IsValidateCause, IsCauseOfExports, IsCauseOfImports, IsModuleCause, IsNameScopeOf, IsRecordOf, IsRecordOfExports, IsRecordOfImports, adapter_input_of, library_of, main_input, module_record};
 ghost use Rattle.wc_validate.specs.Private.ValidationInputs.{main_input_requiring, validation_input_of, AreExportsRecorded, AreExportsRefused};
 
 use crate::ValidateFault;

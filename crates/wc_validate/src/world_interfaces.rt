@@ -1,7 +1,7 @@
 //! The interfaces of an encoder's world, made once for several modules.
 
 ghost use Rattle.std.specs.Prelude.{◌≡◌, IfErr, IfOk, OnOk};
-ghost use Rattle.wc_validate.specs.Validated.{HasNoCause, IsRecordOf, IsValidateCause, adapter_input_of, module_record};
+ghost use Rattle.wc_validate.specs.Validate.{HasNoCause, IsRecordOf, IsValidateCause, adapter_input_of, module_record};
 
 use crate::ValidateFault;
 use crate::name_scope::{FEW_LOOKUPS, Interfaces};

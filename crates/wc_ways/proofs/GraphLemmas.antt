@@ -1,7 +1,7 @@
 -- The graph of an adapter, of its parts.
 use Rattle.std.proofs.Common.{◌≡◌, ℕ, Bool, List, ◌++◌, Result, Ok, Err, IfOk, String, Global, string_bytes, ◌∙◌, ap}
-use Rattle.wc_ways.specs.Private.Graphs.{AreImportArrows, AreItemNodes, AreMainArrows, AreWalkMarks, IsWalkGraph, walk_cluster}
-use Rattle.wc_ways.specs.Private.Walks.{IsWalk}
+use Rattle.wc_ways.specs.Private.Graph.{AreImportArrows, AreItemNodes, AreMainArrows, AreWalkMarks, IsWalkGraph, walk_cluster}
+use Rattle.wc_ways.specs.Private.Adapters.{IsWalk}
 use Rattle.wc_ways.specs.declared.originals.Walk.{Walk}
 
 -- a text of three parts, of which it is known what they are

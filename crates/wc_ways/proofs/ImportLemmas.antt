@@ -7,10 +7,10 @@ use Rattle.wc_read.specs.Imports.{ImportValue, import_value}
 use Rattle.wc_read.specs.declared.types.Import.{Import}
 use Rattle.wc_gc.specs.Decoded.{ItemIndex}
 use Rattle.wc_gc.specs.LiveChains.{AreImportChains, IsChainAt}
-use Rattle.wc_gc.specs.Restriction.{IsImportItem}
+use Rattle.wc_gc.specs.RestrictionLaws.{IsImportItem}
 use Rattle.wc_gc.specs.declared.import_chains.Chain.{Chain}
 use Rattle.wc_gc.specs.declared.import_chains.ImportChains.{ImportChains}
-use Rattle.wcwhy_command.proofs.ItemLemmas.{place_there}
+use Rattle.wcwhy_command.proofs.ItemLemmas.{index_there}
 use Rattle.wc_ways.specs.Asked.{FunctionName}
 use Rattle.wc_ways.specs.Originals.{Original, asked_of, required_of, wanted_of}
 use Rattle.wc_ways.specs.Ways.{IsImportWay, IsItemWay, IsWayAt}
@@ -53,15 +53,15 @@ module _ (a : Original) (position : ℕ) (j : ImportValue) (at : slice_get a.val
   pub position_read : (p : Option ℕ) → p ≡ get_or c.imports.items position p → slice_get c.imports.items position ≡ Some p
   position_read p is = slice_get_read c.imports.items (length c.imports.items) position p refl in_positions is
 
-  -- its item is at a place
-  pub in_order : (place : ℕ) → slice_get c.imports.items position ≡ Some (Some place) → place < length c.order.items
-  in_order place e = place_there (required_of a) a.value c position place j are at e
+  -- its item is at an item index
+  pub in_order : (item_index : ℕ) → slice_get c.imports.items position ≡ Some (Some item_index) → item_index < length c.order.items
+  in_order item_index e = index_there (required_of a) a.value c position item_index j are at e
 
-  pub reached_item : {E : Type 0} (say : AdapterWords) (f : FunctionName) (r : Result (String Global) E) (place : ℕ) → slice_get c.imports.items position ≡ Some (Some place)
-      → IfOk r (λ s. (x : ItemIndex) → slice_get c.order.items place ≡ Some x → IsItemWay say a f j x (string_bytes s))
+  pub reached_item : {E : Type 0} (say : AdapterWords) (f : FunctionName) (r : Result (String Global) E) (item_index : ℕ) → slice_get c.imports.items position ≡ Some (Some item_index)
+      → IfOk r (λ s. (x : ItemIndex) → slice_get c.order.items item_index ≡ Some x → IsItemWay say a f j x (string_bytes s))
       → IfOk r (λ s. (x : ItemIndex) → IsImportItem a.value.imports position x → IsItemWay say a f j x (string_bytes s))
-  reached_item say f (Ok s) place e h = λ x item. h x (are.imports.at position x (Some place) item e)
-  reached_item say f (Err e) place h k = tt
+  reached_item say f (Ok s) item_index e h = λ x item. h x (are.imports.at position x (Some item_index) item e)
+  reached_item say f (Err e) item_index h k = tt
 
   -- or it is not reached
   pub dead_item : (say : AdapterWords) (f : FunctionName) (way : List ℕ) → slice_get c.imports.items position ≡ Some None → way ≡ [] → (x : ItemIndex) → IsImportItem a.value.imports position x
@@ -69,9 +69,9 @@ module _ (a : Original) (position : ℕ) (j : ImportValue) (at : slice_get a.val
   dead_item say f way e none x item = inl (are.imports.at position x None item e, none)
 
 -- the way by the chain that was taken
-pub chain_item : {E : Type 0} (say : AdapterWords) (a : Original) (f : FunctionName) (j : ImportValue) (chains : ImportChains) (place : ℕ) (c : Chain) (r : Result (String Global) E)
-    → AreImportChains (required_of a) a.value chains → IsChainAt chains place c
+pub chain_item : {E : Type 0} (say : AdapterWords) (a : Original) (f : FunctionName) (j : ImportValue) (chains : ImportChains) (item_index : ℕ) (c : Chain) (r : Result (String Global) E)
+    → AreImportChains (required_of a) a.value chains → IsChainAt chains item_index c
     → IfOk r (λ s. string_bytes s ≡ say (wanted_of a) a.name a.names f c.export.now c.items.items j.module_name j.name)
-    → IfOk r (λ s. (x : ItemIndex) → slice_get chains.order.items place ≡ Some x → IsItemWay say a f j x (string_bytes s))
-chain_item say a f j chains place c (Ok s) are found h = λ x e. inr (c, found (required_of a) a.value x are e, h)
-chain_item say a f j chains place c (Err e) are found h = tt
+    → IfOk r (λ s. (x : ItemIndex) → slice_get chains.order.items item_index ≡ Some x → IsItemWay say a f j x (string_bytes s))
+chain_item say a f j chains item_index c (Ok s) are found h = λ x e. inr (c, found (required_of a) a.value x are e, h)
+chain_item say a f j chains item_index c (Err e) are found h = tt

@@ -8,11 +8,11 @@ use Rattle.wc_read.specs.Names.{GlobalNameValue}
 use Rattle.wc_read.specs.Reading.Names.{AreFunctionNames}
 use Rattle.wc_adapters.specs.Adapters.{AdapterView}
 use Rattle.wc_gc.specs.LiveChains.{AreWhyImports}
-use Rattle.wc_gc.specs.Liveness.{IsFault, TrimInput}
+use Rattle.wc_gc.specs.LiveItems.{IsFault, TrimInput}
 use Rattle.wc_gc.specs.declared.fault.GcFault.{GcFault}
 use Rattle.wc_gc.specs.declared.fault.GcFault.TheVariants.{Memory}
 use Rattle.wc_gc.specs.declared.import_chains.ImportChains.{ImportChains}
-use Rattle.wc_validate.specs.Validated.{ModuleRecord}
+use Rattle.wc_validate.specs.Validate.{ModuleRecord}
 use Rattle.wc_world.specs.Views.{ComponentWorldView, NamedWorldAdapter}
 use Rattle.wc_ways.specs.Originals.{original_of}
 use Rattle.wc_ways.specs.Said.{IsSaidIn, IsSaidOfTrimmed, Saying}

@@ -4,7 +4,7 @@ use Rattle.std.proofs.Math.ListN.{length-append}
 use Rattle.std.proofs.lemmas.Option.{same_Some}
 use Rattle.std.specs.List.{slice_get}
 use Rattle.wc_resolve.proofs.SearchLemmas.{contains_head, contains_tail}
-use Rattle.wc_validate.proofs.FirstPositionLemmas.{Placed}
+use Rattle.wc_validate.proofs.FirstPositionLemmas.{HasPosition}
 use Rattle.wcwhy_command.specs.Joined.{AreJoined}
 use Rattle.wcwhy_command.proofs.JoinedLemmas.{none_joined, one_joined}
 
@@ -39,7 +39,7 @@ said_more IsAt passed x index text more new is p h at =
     (joined_more IsAt (length passed) text more new is h (subst (λ (n : ℕ). IsAt n more) at p))
 
 -- the thing that comes next
-module _ {X F : Type 0} (Holds : List X → F → Type 0) (all left rest : List X) (x : X) (found : F) (index : ℕ) (p : Placed Holds all left found index)
+module _ {X F : Type 0} (Holds : List X → F → Type 0) (all left rest : List X) (x : X) (found : F) (index : ℕ) (p : HasPosition Holds all left found index)
     (is : left ≡ x ∷ rest) where
   cut : p.passed ++ x ∷ rest ≡ all
   cut = ap (λ z. p.passed ++ z) (sym is) ∙ p.split

@@ -3,7 +3,7 @@ pub mod Words
 pub mod Originals
 pub mod Said
 pub mod Ways
-pub mod WaysGraph
+pub mod Nodes
 pub mod WaysJson
 pub mod WaysFaults
 pub mod Private

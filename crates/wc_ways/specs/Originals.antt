@@ -6,12 +6,12 @@ use Rattle.std.specs.Str.{bytes_eq}
 use Rattle.wc_read.specs.Imports.{ImportValue}
 use Rattle.wc_read.specs.Modules.{ModuleValue}
 use Rattle.wc_read.specs.Names.{GlobalNameValue}
-use Rattle.wc_resolve.specs.World.{ResolveView}
+use Rattle.wc_resolve.specs.Kinds.{ResolveView}
 use Rattle.wc_names.specs.Views.{ImportView}
 use Rattle.wc_validate.specs.Imports.Entries.{InstanceRecord, Records, all_of, names_of}
 use Rattle.wc_validate.specs.Imports.Map.{required_in}
-use Rattle.wc_validate.specs.Validated.{ModuleRecord}
-use Rattle.wc_world.specs.Adapters.{required_names}
+use Rattle.wc_validate.specs.Validate.{ModuleRecord}
+use Rattle.wc_world.specs.Trimming.{required_names}
 use Rattle.wc_world.specs.Views.{ComponentWorldView}
 use Rattle.wc_ways.specs.Asked.{FunctionName, asked_function}
 use Rattle.wc_ways.specs.Words.{WantedFunctions}

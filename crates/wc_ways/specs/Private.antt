@@ -1,4 +1,4 @@
 -- Words of contracts of private functions. No contract of a public function cites these, directly or through others.
-pub mod Walks
-pub mod Graphs
+pub mod Adapters
+pub mod Graph
 pub mod Modules

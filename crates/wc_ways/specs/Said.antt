@@ -7,7 +7,7 @@ use Rattle.wc_read.specs.Modules.{ModuleValue, SpellsModule}
 use Rattle.wc_read.specs.Names.{GlobalNameValue}
 use Rattle.wc_read.specs.Reading.Names.{AreFunctionNames}
 use Rattle.wc_adapters.specs.Adapters.{AdapterView, LibraryView}
-use Rattle.wc_validate.specs.Validated.{ModuleRecord}
+use Rattle.wc_validate.specs.Validate.{ModuleRecord}
 use Rattle.wc_world.specs.Views.{ComponentWorldView, NamedWorldAdapter}
 use Rattle.wc_ways.specs.Originals.{Original, original_of}
 

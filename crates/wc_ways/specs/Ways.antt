@@ -4,14 +4,14 @@ use Rattle.std.specs.List.{flat_map, slice_get}
 use Rattle.std.specs.Option.{option_map_or}
 use Rattle.wc_json.specs.Escape.{escaped}
 use Rattle.wc_read.specs.Imports.{ImportValue}
-use Rattle.wc_resolve.specs.World.{ResolveView}
+use Rattle.wc_resolve.specs.Kinds.{ResolveView}
 use Rattle.wc_names.specs.Views.{ImportView}
 use Rattle.wc_validate.specs.Imports.Entries.{Records}
 use Rattle.wc_validate.specs.Imports.Map.{imports_in}
 use Rattle.wc_gc.specs.Decoded.{ItemIndex}
 use Rattle.wc_gc.specs.LiveChains.{IsChainTo}
-use Rattle.wc_gc.specs.Liveness.{IsLive}
-use Rattle.wc_gc.specs.Restriction.{IsImportItem}
+use Rattle.wc_gc.specs.LiveItems.{IsLive}
+use Rattle.wc_gc.specs.RestrictionLaws.{IsImportItem}
 use Rattle.wc_gc.specs.declared.import_chains.Chain.{Chain}
 use Rattle.wc_world.specs.Views.{ComponentWorldView, NamedWorldAdapter}
 use Rattle.wcwhy_command.specs.Joined.{AreJoined}

@@ -2,15 +2,15 @@
 
 ghost use Rattle.std.specs.Prelude.{◌≡◌, ◌⊎◌, All, IfErr, IfOk, string_bytes};
 ghost use Rattle.wc_plan.specs.Calls.{IsNameable};
-ghost use Rattle.wc_plan.specs.Faults.{AreNameable};
+ghost use Rattle.wc_plan.specs.Fault.{AreNameable};
 ghost use Rattle.wc_validate.specs.Imports.Map.{imports_in};
-ghost use Rattle.wc_validate.specs.Validated.{module_record};
+ghost use Rattle.wc_validate.specs.Validate.{module_record};
 ghost use Rattle.wc_world.specs.Slots.{imports_of};
 ghost use Rattle.wc_world.specs.WorldViews.{adapter_view, world_view};
 ghost use Rattle.wc_ways.specs.Private.Modules.{module_said};
-ghost use Rattle.wc_ways.specs.Private.Walks.{AreAllSaid, IsNameableIn, IsSaidBy, IsSaidOfThis, library_said};
+ghost use Rattle.wc_ways.specs.Private.Adapters.{AreAllSaid, IsNameableIn, IsSaidBy, IsSaidOfThis, library_said};
 ghost use Rattle.wc_ways.specs.WaysFaults.{IsAdapterFault, IsOriginalFault, IsWaysFault};
-ghost use Rattle.wc_ways.specs.WaysGraph.{module_graph};
+ghost use Rattle.wc_ways.specs.Nodes.{module_graph};
 
 use crate::nodes::{cluster_text, module_node, recorded_arrows};
 use crate::originals::{Adapter, Form, said_in};
@@ -90,13 +90,13 @@ fn library_said(alloc: Global, form: Form, asked: &Adapter<'_, '_>) -> Result<St
     let name = adapter_text(alloc, asked.name)?;
     let index = asked.index;
     let id = format!(in alloc; "adapter{index}")?;
-    let module = Module {
+    let alone = Module {
         name: &name,
         id: &id,
         adapter: Some(asked.name),
         imports: &asked.info.imports,
     };
-    module_said(alloc, form, asked.world, asked.key, module)
+    module_said(alloc, form, asked.world, asked.key, alone)
 }
 
 /// The ways of a module of which only its imports are known.
@@ -105,24 +105,24 @@ pub(crate) fn module_said(
     form: Form,
     world: &ComponentWorld<'_>,
     key: &str,
-    module: Module<'_>,
+    alone: Module<'_>,
 ) -> Result<String, AllocError>
     requires { All (IsNameable (world_view world.now).encoder.resolve)
-        (imports_of (imports_in module.imports.now)) }
+        (imports_of (imports_in alone.imports.now)) }
     ensures { IfOk result (λ s. string_bytes s
-        ≡ module_said form (world_view world.now) key.now module.entry) }
+        ≡ module_said form (world_view world.now) key.now alone.entry) }
 {
     let metadata = world.encoder.metadata();
     let resolve = &metadata.resolve;
     match form {
         Form::Lines => {
-            let importer = Importer::Lines(module.name);
-            recorded_ways(alloc, resolve, key, importer, module.imports)
+            let importer = Importer::Lines(alone.name);
+            recorded_ways(alloc, resolve, key, importer, alone.imports)
         }
-        Form::Graph => module_graph(alloc, resolve, key, module),
+        Form::Graph => module_graph(alloc, resolve, key, alone),
         Form::Json => {
-            let importer = Importer::Json(module.adapter);
-            recorded_ways(alloc, resolve, key, importer, module.imports)
+            let importer = Importer::Json(alone.adapter);
+            recorded_ways(alloc, resolve, key, importer, alone.imports)
         }
     }
 }
@@ -132,15 +132,15 @@ fn module_graph(
     alloc: Global,
     resolve: &Resolve,
     key: &str,
-    module: Module<'_>,
+    alone: Module<'_>,
 ) -> Result<String, AllocError>
-    requires { All (IsNameable resolve.now) (imports_of (imports_in module.imports.now)) }
+    requires { All (IsNameable resolve.now) (imports_of (imports_in alone.imports.now)) }
     ensures { IfOk result (λ s. string_bytes s ≡ module_graph resolve.now key.now
-        module.entry.id.now module.entry.name.now module.entry.imports.now) }
+        alone.entry.id.now alone.entry.name.now alone.entry.imports.now) }
 {
-    let node = module_node(alloc, module.id, module.name)?;
-    let cluster = cluster_text(alloc, module.id, module.name, &node)?;
-    let arrows = recorded_arrows(alloc, resolve, key, module.id, module.imports)?;
+    let node = module_node(alloc, alone.id, alone.name)?;
+    let cluster = cluster_text(alloc, alone.id, alone.name, &node)?;
+    let arrows = recorded_arrows(alloc, resolve, key, alone.id, alone.imports)?;
     format!(in alloc; "{cluster}{arrows}")
 }
 

@@ -6,7 +6,7 @@ ghost use Rattle.wc_names.specs.Views.{import_view};
 ghost use Rattle.wc_plan.specs.Calls.{IsNameable};
 ghost use Rattle.wc_selection.specs.KeyNames.{unversioned_text};
 ghost use Rattle.wc_ways.specs.Asked.{asked_function, asked_name, is_asked};
-ghost use Rattle.wc_ways.specs.Private.Walks.{function_value};
+ghost use Rattle.wc_ways.specs.Private.Adapters.{function_value};
 
 use std::alloc::{AllocError, Global};
 use wc_names::Import;

@@ -1,9 +1,9 @@
 //! The ways through an adapter as a graph, in the language of Graphviz.
 
 ghost use Rattle.std.specs.Prelude.{◌≡◌, ◌<◌, IfOk, length, string_bytes};
-ghost use Rattle.wc_ways.specs.Private.Graphs.{AreImportArrows, AreItemNodes, AreMainArrows, AreWalkMarks, IsArrowOf, IsImportArrowOf, IsItemNodeOf, IsMainArrowOf, IsNodeOf, IsWalkGraph, walk_cluster};
-ghost use Rattle.wc_ways.specs.Private.Walks.{IsWalk};
-ghost use Rattle.wc_ways.specs.WaysGraph.{export_node};
+ghost use Rattle.wc_ways.specs.Private.Graph.{AreImportArrows, AreItemNodes, AreMainArrows, AreWalkMarks, IsArrowOf, IsImportArrowOf, IsItemNodeOf, IsMainArrowOf, IsNodeOf, IsWalkGraph, walk_cluster};
+ghost use Rattle.wc_ways.specs.Private.Adapters.{IsWalk};
+ghost use Rattle.wc_ways.specs.Nodes.{export_node};
 
 use crate::marks::marks_of;
 use crate::nodes::{
@@ -59,64 +59,77 @@ fn item_nodes(alloc: Global, walk: &Walk<'_, '_, '_>, marks: &[bool]) -> Result<
     ensures { IfOk result (λ s. AreItemNodes walk.now marks.now (string_bytes s)) }
 {
     let mut nodes = String::new(alloc);
-    for place in 0..marks.len() {
-        let node = marked_node(alloc, walk, marks, place)?;
+    for item_index in 0..marks.len() {
+        let node = marked_node(alloc, walk, marks, item_index)?;
         nodes.push_str(&node)?;
     }
     Ok(nodes)
 }
 
-/// The node of the item at a place, if it is marked.
+/// The node of the item at an index, if it is marked.
 fn marked_node(
     alloc: Global,
     walk: &Walk<'_, '_, '_>,
     marks: &[bool],
-    place: usize,
+    item_index: usize,
 ) -> Result<String, AllocError>
     requires sized { length marks.now ≡ length walk.now.chains.now.order.items }
-    requires there { place < length marks.now }
-    ensures { IfOk result (λ s. IsNodeOf walk.now marks.now place (string_bytes s)) }
+    requires there { item_index < length marks.now }
+    ensures { IfOk result (λ s. IsNodeOf walk.now marks.now item_index (string_bytes s)) }
 {
-    if marks[place] {
-        item_node(alloc, walk, place)
+    if marks[item_index] {
+        item_node(alloc, walk, item_index)
     } else {
         Ok(String::new(alloc))
     }
 }
 
-/// The node of the item at a place, and the arrow to it.
-fn item_node(alloc: Global, walk: &Walk<'_, '_, '_>, place: usize) -> Result<String, AllocError>
-    requires { place < length walk.now.chains.now.order.items }
-    ensures { IfOk result (λ s. IsItemNodeOf walk.now place (string_bytes s)) }
+/// The node of the item at an index, and the arrow to it.
+fn item_node(
+    alloc: Global,
+    walk: &Walk<'_, '_, '_>,
+    item_index: usize,
+) -> Result<String, AllocError>
+    requires { item_index < length walk.now.chains.now.order.items }
+    ensures { IfOk result (λ s. IsItemNodeOf walk.now item_index (string_bytes s)) }
 {
-    let id = item_id(alloc, walk.adapter.index, place)?;
-    let label = item_text(alloc, walk.names, walk.chains.order[place])?;
-    let arrow = item_arrow(alloc, walk, place)?;
+    let id = item_id(alloc, walk.adapter.index, item_index)?;
+    let label = item_text(alloc, walk.names, walk.chains.order[item_index])?;
+    let arrow = item_arrow(alloc, walk, item_index)?;
     labelled_node(alloc, &id, &label, &arrow)
 }
 
-/// The arrow to the item at a place: from its finder, or from the export that names it, whose node is before it.
-fn item_arrow(alloc: Global, walk: &Walk<'_, '_, '_>, place: usize) -> Result<String, AllocError>
-    requires { place < length walk.now.chains.now.order.items }
-    ensures { IfOk result (λ s. IsArrowOf walk.now place (string_bytes s)) }
+/// The arrow to the item at an index: from its finder, or from the export that names it, whose node is before it.
+fn item_arrow(
+    alloc: Global,
+    walk: &Walk<'_, '_, '_>,
+    item_index: usize,
+) -> Result<String, AllocError>
+    requires { item_index < length walk.now.chains.now.order.items }
+    ensures { IfOk result (λ s. IsArrowOf walk.now item_index (string_bytes s)) }
 {
     let index = walk.adapter.index;
-    let finder = walk.chains.finder[place];
-    if finder == place {
-        export_node(alloc, index, place, walk.chains.exports[place])
+    let finder = walk.chains.finder[item_index];
+    if finder == item_index {
+        export_node(alloc, index, item_index, walk.chains.exports[item_index])
     } else {
-        found_arrow(alloc, index, finder, place)
+        found_arrow(alloc, index, finder, item_index)
     }
 }
 
-/// The node of an export, and the arrow from it to the item at a place.
-fn export_node(alloc: Global, index: usize, place: usize, name: &str) -> Result<String, AllocError>
-    ensures { IfOk result (λ s. string_bytes s ≡ export_node index place name.now) }
+/// The node of an export, and the arrow from it to the item at an index.
+fn export_node(
+    alloc: Global,
+    index: usize,
+    item_index: usize,
+    name: &str,
+) -> Result<String, AllocError>
+    ensures { IfOk result (λ s. string_bytes s ≡ export_node index item_index name.now) }
 {
     let name = escaped(alloc, name)?;
     let label = graph_text(alloc, &name)?;
-    let id = export_id(alloc, index, place)?;
-    let arrow = export_arrow(alloc, index, place)?;
+    let id = export_id(alloc, index, item_index)?;
+    let arrow = export_arrow(alloc, index, item_index)?;
     format!(in alloc; "    {id} [label=\"export {label}\", shape=box];\n{arrow}")
 }
 
@@ -127,29 +140,29 @@ fn main_arrows(alloc: Global, walk: &Walk<'_, '_, '_>, marks: &[bool]) -> Result
     ensures { IfOk result (λ s. AreMainArrows walk.now marks.now (string_bytes s)) }
 {
     let mut arrows = String::new(alloc);
-    for place in 0..walk.chains.exports.len() {
-        let arrow = main_arrow(alloc, walk, marks, place)?;
+    for item_index in 0..walk.chains.exports.len() {
+        let arrow = main_arrow(alloc, walk, marks, item_index)?;
         arrows.push_str(&arrow)?;
     }
     Ok(arrows)
 }
 
-/// The arrow from the main module to the export that names the item at a place, if it imports it, and the place is marked.
+/// The arrow from the main module to the export that names the item at an index, if it imports it, and the item index is marked.
 fn main_arrow(
     alloc: Global,
     walk: &Walk<'_, '_, '_>,
     marks: &[bool],
-    place: usize,
+    item_index: usize,
 ) -> Result<String, AllocError>
     requires walk { IsWalk walk.now }
     requires sized { length marks.now ≡ length walk.now.chains.now.order.items }
-    requires there { place < length walk.now.chains.now.exports.items }
-    ensures { IfOk result (λ s. IsMainArrowOf walk.now marks.now place (string_bytes s)) }
+    requires there { item_index < length walk.now.chains.now.exports.items }
+    ensures { IfOk result (λ s. IsMainArrowOf walk.now marks.now item_index (string_bytes s)) }
 {
     let index = walk.adapter.index;
-    let export = walk.chains.exports[place];
-    if marks[place] && is_wanted(walk, export) {
-        let to = export_id(alloc, index, place)?;
+    let export = walk.chains.exports[item_index];
+    if marks[item_index] && is_wanted(walk, export) {
+        let to = export_id(alloc, index, item_index)?;
         arrow_text(alloc, "main", &to)
     } else {
         Ok(String::new(alloc))
@@ -180,12 +193,12 @@ fn import_arrow(
     ensures { IfOk result (λ s. IsImportArrowOf walk.now position (string_bytes s)) }
 {
     let import = &walk.original.imports[position];
-    let Some(place) = walk.chains.imports[position] else {
+    let Some(item_index) = walk.chains.imports[position] else {
         return Ok(String::new(alloc));
     };
     match asked_import(alloc, walk.adapter, import)? {
         Some(function) => {
-            let from = item_id(alloc, walk.adapter.index, place)?;
+            let from = item_id(alloc, walk.adapter.index, item_index)?;
             function_arrow(alloc, &from, &function)
         }
         None => Ok(String::new(alloc)),

@@ -3,16 +3,16 @@
 ghost use Rattle.std.specs.Prelude.{◌≡◌, ◌<◌, IfOk, Some, length, string_bytes};
 ghost use Rattle.std.specs.List.{slice_get};
 ghost use Rattle.wc_gc.specs.Decoded.{ItemIndex};
-ghost use Rattle.wc_gc.specs.Restriction.{IsImportItem};
+ghost use Rattle.wc_gc.specs.RestrictionLaws.{IsImportItem};
 ghost use Rattle.wc_read.specs.Imports.{import_value};
 ghost use Rattle.wc_ways.specs.Originals.{wanted_of};
-ghost use Rattle.wc_ways.specs.Private.Walks.{IsWalk, function_value, original_in, way_in, words_of};
+ghost use Rattle.wc_ways.specs.Private.Adapters.{IsWalk, function_value, original_in, way_in, words_of};
 ghost use Rattle.wc_ways.specs.Ways.{AreOriginalWays, IsItemWay, IsWayAt};
 ghost use Rattle.wc_ways.specs.Words.{adapter_way, export_lines};
 
 use crate::asked::Function;
 use crate::originals::{Form, Walk, asked_import, is_wanted};
-use crate::steps::object_way;
+use crate::ways_json::object_way;
 use crate::words::{adapter_text, export_line, function_line, import_line};
 use std::alloc::{AllocError, Global};
 use wc_gc::Chain;
@@ -64,26 +64,26 @@ fn item_way(
         (function_value function.now) (import_value import.now) x (string_bytes s)) }
 {
     match walk.chains.imports[position] {
-        Some(place) => reached_way(alloc, walk, place, import, function),
+        Some(item_index) => reached_way(alloc, walk, item_index, import, function),
         None => Ok(String::new(alloc)),
     }
 }
 
-/// The way to an import, which is this function, and whose item is at a place among those that are reached.
+/// The way to an import, which is this function, and whose item is at an item index among those that are reached.
 fn reached_way(
     alloc: Global,
     walk: &Walk<'_, '_, '_>,
-    place: usize,
+    item_index: usize,
     import: &Import<'_>,
     function: &Function<'_>,
 ) -> Result<String, AllocError>
     requires walk { IsWalk walk.now }
-    requires there { place < length walk.now.chains.now.order.items }
-    ensures { IfOk result (λ s. (x : ItemIndex) → slice_get walk.now.chains.now.order.items place
+    requires there { item_index < length walk.now.chains.now.order.items }
+    ensures { IfOk result (λ s. (x : ItemIndex) → slice_get walk.now.chains.now.order.items item_index
         ≡ Some x → IsItemWay (words_of walk.now.form) (original_in walk.now)
         (function_value function.now) (import_value import.now) x (string_bytes s)) }
 {
-    let chain = walk.chains.chain(alloc, place)?;
+    let chain = walk.chains.chain(alloc, item_index)?;
     chain_way(alloc, walk, import, function, &chain)
 }
 

@@ -1,15 +1,15 @@
 //! Which items of an adapter are on ways to imports that are asked about.
 
 ghost use Rattle.std.specs.Prelude.{◌≡◌, ◌<◌, IfOk, IfSome, false, length, replicate};
-ghost use Rattle.wc_ways.specs.Private.Graphs.{AreHere, AreWalkMarks};
-ghost use Rattle.wc_ways.specs.Private.Walks.{IsWalk, key_in, original_in};
-ghost use Rattle.wc_ways.specs.WaysGraph.{asked_place};
+ghost use Rattle.wc_ways.specs.Private.Graph.{AreHere, AreWalkMarks};
+ghost use Rattle.wc_ways.specs.Private.Adapters.{IsWalk, key_in, original_in};
+ghost use Rattle.wc_ways.specs.Nodes.{asked_index};
 
 use crate::originals::{Walk, asked_import};
 use std::alloc::{AllocError, Global};
 use wcwhy_command::with_finders;
 
-/// For each place whether its item is on the way to an import that is asked about.
+/// For each item index whether its item is on the way to an import that is asked about.
 pub(crate) fn marks_of(alloc: Global, walk: &Walk<'_, '_, '_>) -> Result<Vec<bool>, AllocError>
     requires { IsWalk walk.now }
     ensures { IfOk result (λ v. AreWalkMarks walk.now v.items) }
@@ -19,7 +19,7 @@ pub(crate) fn marks_of(alloc: Global, walk: &Walk<'_, '_, '_>) -> Result<Vec<boo
     Ok(with_finders(walk.chains, here))
 }
 
-/// Marks the places of the imports that are asked about.
+/// Marks the item indices of the imports that are asked about.
 fn with_imports(
     alloc: Global,
     walk: &Walk<'_, '_, '_>,
@@ -32,23 +32,23 @@ fn with_imports(
 {
     let mut marks = marks;
     for position in 0..walk.original.imports.len() {
-        if let Some(place) = asked_place(alloc, walk, position)? {
-            marks[place] = true;
+        if let Some(item_index) = asked_index(alloc, walk, position)? {
+            marks[item_index] = true;
         }
     }
     Ok(marks)
 }
 
-/// The place of the item of the import at a position, if the import is asked about and reached.
-fn asked_place(
+/// The item index of the item of the import at a position, if the import is asked about and reached.
+fn asked_index(
     alloc: Global,
     walk: &Walk<'_, '_, '_>,
     position: usize,
 ) -> Result<Option<usize>, AllocError>
     requires walk { IsWalk walk.now }
     requires there { position < length walk.now.original.now.imports.items }
-    ensures place { IfOk result (λ p. p
-        ≡ asked_place (original_in walk.now) (key_in walk.now) walk.now.chains.now position) }
+    ensures item_index { IfOk result (λ p. p
+        ≡ asked_index (original_in walk.now) (key_in walk.now) walk.now.chains.now position) }
     ensures there { IfOk result (λ p. IfSome p (λ q. q < length walk.now.chains.now.order.items)) }
 {
     let import = &walk.original.imports[position];

@@ -6,8 +6,8 @@ ghost use Rattle.wc_plan.specs.Calls.{IsNameable};
 ghost use Rattle.wc_validate.specs.Imports.Iter.{import_shown};
 ghost use Rattle.wc_validate.specs.Imports.Map.{imports_in};
 ghost use Rattle.wc_world.specs.Slots.{imports_of};
-ghost use Rattle.wc_ways.specs.Private.Walks.{function_value};
-ghost use Rattle.wc_ways.specs.WaysGraph.{arrow_text, cluster_text, export_id, function_arrow, function_id, function_label, inner_arrow, item_id, labelled_node, module_node, recorded_arrow, recorded_arrows};
+ghost use Rattle.wc_ways.specs.Private.Adapters.{function_value};
+ghost use Rattle.wc_ways.specs.Nodes.{arrow_text, cluster_text, export_id, function_arrow, function_id, function_label, inner_arrow, item_id, labelled_node, module_node, recorded_arrow, recorded_arrows};
 
 use crate::asked::{Function, asked_function};
 use crate::words::two_words;
@@ -31,18 +31,22 @@ pub(crate) fn inner_arrow(alloc: Global, from: &str, to: &str) -> Result<String,
     format!(in alloc; "    {from} -> {to};\n")
 }
 
-/// The identifier of the node of the item at a place.
-pub(crate) fn item_id(alloc: Global, index: usize, place: usize) -> Result<String, AllocError>
-    ensures { IfOk result (λ s. string_bytes s ≡ item_id index place) }
+/// The identifier of the node of the item at an index.
+pub(crate) fn item_id(alloc: Global, index: usize, item_index: usize) -> Result<String, AllocError>
+    ensures { IfOk result (λ s. string_bytes s ≡ item_id index item_index) }
 {
-    format!(in alloc; "adapter{index}_item{place}")
+    format!(in alloc; "adapter{index}_item{item_index}")
 }
 
-/// The identifier of the node of the export that names the item at a place.
-pub(crate) fn export_id(alloc: Global, index: usize, place: usize) -> Result<String, AllocError>
-    ensures { IfOk result (λ s. string_bytes s ≡ export_id index place) }
+/// The identifier of the node of the export that names the item at an index.
+pub(crate) fn export_id(
+    alloc: Global,
+    index: usize,
+    item_index: usize,
+) -> Result<String, AllocError>
+    ensures { IfOk result (λ s. string_bytes s ≡ export_id index item_index) }
 {
-    format!(in alloc; "adapter{index}_export{place}")
+    format!(in alloc; "adapter{index}_export{item_index}")
 }
 
 /// An arrow between two items of an adapter.
@@ -50,13 +54,13 @@ pub(crate) fn found_arrow(
     alloc: Global,
     index: usize,
     finder: usize,
-    place: usize,
+    item_index: usize,
 ) -> Result<String, AllocError>
     ensures { IfOk result (λ s. string_bytes s
-        ≡ inner_arrow (item_id index finder) (item_id index place)) }
+        ≡ inner_arrow (item_id index finder) (item_id index item_index)) }
 {
     let from = item_id(alloc, index, finder)?;
-    let to = item_id(alloc, index, place)?;
+    let to = item_id(alloc, index, item_index)?;
     inner_arrow(alloc, &from, &to)
 }
 
@@ -73,13 +77,17 @@ pub(crate) fn labelled_node(
     format!(in alloc; "    {id} [label=\"{label}\"];\n{arrow}")
 }
 
-/// An arrow from an export to the item at a place, which it names.
-pub(crate) fn export_arrow(alloc: Global, index: usize, place: usize) -> Result<String, AllocError>
+/// An arrow from an export to the item at an index, which it names.
+pub(crate) fn export_arrow(
+    alloc: Global,
+    index: usize,
+    item_index: usize,
+) -> Result<String, AllocError>
     ensures { IfOk result (λ s. string_bytes s
-        ≡ inner_arrow (export_id index place) (item_id index place)) }
+        ≡ inner_arrow (export_id index item_index) (item_id index item_index)) }
 {
-    let from = export_id(alloc, index, place)?;
-    let to = item_id(alloc, index, place)?;
+    let from = export_id(alloc, index, item_index)?;
+    let to = item_id(alloc, index, item_index)?;
     inner_arrow(alloc, &from, &to)
 }
 

@@ -2,14 +2,14 @@
 
 ghost use Rattle.std.specs.Prelude.{◌≡◌, IfErr, IfOk, string_bytes};
 ghost use Rattle.std.specs.Option.{option_map};
-ghost use Rattle.wc_gc.specs.Liveness.{IsFault, names_of};
+ghost use Rattle.wc_gc.specs.LiveItems.{IsFault, names_of};
 ghost use Rattle.wc_names.specs.Views.{import_view};
 ghost use Rattle.wc_read.specs.Imports.{import_value};
-ghost use Rattle.wc_validate.specs.Validated.{module_record};
+ghost use Rattle.wc_validate.specs.Validate.{module_record};
 ghost use Rattle.wc_world.specs.WorldViews.{world_view};
 ghost use Rattle.wc_validate.specs.Imports.Instances.{instance_view};
 ghost use Rattle.wc_ways.specs.Originals.{asked_in, recorded_at, recorded_in, wanted_of};
-ghost use Rattle.wc_ways.specs.Private.Walks.{AreChainsFor, IsNameableIn, IsSaidFor, IsSaidOfWalk, IsWalk, function_value, original_in, required_in};
+ghost use Rattle.wc_ways.specs.Private.Adapters.{AreChainsFor, IsNameableIn, IsSaidFor, IsSaidOfWalk, IsWalk, function_value, original_in, required_in};
 ghost use Rattle.wc_ways.specs.WaysFaults.{search_input};
 ghost use Rattle.wc_ways.specs.Words.{is_wanted};
 

@@ -7,11 +7,11 @@ ghost use Rattle.wc_validate.specs.Imports.Iter.{import_shown};
 ghost use Rattle.wc_validate.specs.Imports.Map.{imports_in};
 ghost use Rattle.wc_world.specs.Slots.{imports_of};
 ghost use Rattle.wc_ways.specs.Private.Modules.{import_words};
-ghost use Rattle.wc_ways.specs.Private.Walks.{function_value};
+ghost use Rattle.wc_ways.specs.Private.Adapters.{function_value};
 ghost use Rattle.wc_ways.specs.Ways.{recorded_way, recorded_ways};
 
 use crate::asked::{Function, asked_function};
-use crate::steps::import_object;
+use crate::ways_json::import_object;
 use crate::words::import_way;
 use std::alloc::{AllocError, Global};
 use wc_names::Import;

@@ -1,17 +1,17 @@
 //! The ways to the functions that a component imports.
 
 ghost use Rattle.std.specs.Prelude.{◌≡◌, [], IfErr, IfOk, string_bytes};
-ghost use Rattle.wc_plan.specs.Faults.{AreNameable};
+ghost use Rattle.wc_plan.specs.Fault.{AreNameable};
 ghost use Rattle.wc_world.specs.WorldViews.{world_view};
-ghost use Rattle.wc_ways.specs.Private.Walks.{main_said};
+ghost use Rattle.wc_ways.specs.Private.Adapters.{main_said};
 ghost use Rattle.wc_ways.specs.Ways.{IsWaysText, or_none};
 ghost use Rattle.wc_ways.specs.WaysFaults.{IsWaysFault};
-ghost use Rattle.wc_ways.specs.WaysGraph.{IsWaysGraph};
+ghost use Rattle.wc_ways.specs.Nodes.{IsWaysGraph};
 ghost use Rattle.wc_ways.specs.WaysJson.{IsWaysJson};
 
 use crate::adapters::{Module, all_said, module_said};
 use crate::originals::Form;
-use crate::steps::list_line;
+use crate::ways_json::list_line;
 use std::alloc::{AllocError, Global};
 use wc_gc::GcFault;
 use wc_json::escaped;

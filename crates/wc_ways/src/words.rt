@@ -1,8 +1,8 @@
 //! The lines of ways.
 
-ghost use Rattle.std.specs.Prelude.{◌≡◌, ◌++◌, IfOk, codes, string_bytes};
+ghost use Rattle.std.specs.Prelude.{◌≡◌, IfOk, string_bytes};
 ghost use Rattle.wc_ways.specs.Words.{adapter_text, export_line, function_line, import_line, import_way, two_words};
-ghost use Rattle.wc_ways.specs.Private.Walks.{function_value};
+ghost use Rattle.wc_ways.specs.Private.Adapters.{function_value};
 
 use crate::asked::Function;
 use std::alloc::{AllocError, Global};

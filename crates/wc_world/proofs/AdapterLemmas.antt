@@ -11,17 +11,17 @@ use Rattle.std.proofs.lemmas.List.Elements.{All-from_recursion, filter-append, r
 use Rattle.std.proofs.lemmas.Slice.Eq.{bytes_eq-Decides}
 use Rattle.indexmap.specs.IndexMap.{insert_entry}
 use Rattle.wc_read.specs.Types.{FuncTypeValue}
-use Rattle.wc_resolve.specs.World.{ResolveView}
+use Rattle.wc_resolve.specs.Kinds.{ResolveView}
 use Rattle.wc_resolve.proofs.KeyLemmas.{texts_law}
 use Rattle.wc_adapters.specs.declared.adapters.Adapter.{Adapter}
 use Rattle.wc_adapters.specs.Adapters.{adapter_entry as input_entry}
 use Rattle.wc_encoder.specs.EncoderParts.{EncoderView, world_exports}
 use Rattle.wc_adapters.specs.Entries.{Entries}
 use Rattle.wc_validate.specs.Imports.Map.{required_in}
-use Rattle.wc_validate.specs.Validated.{IsValidateCause, IsRecordOf, ModuleRecord, main_input}
+use Rattle.wc_validate.specs.Validate.{IsValidateCause, IsRecordOf, ModuleRecord, main_input}
 use Rattle.wc_validate.specs.declared.fault.ValidateFault.{ValidateFault}
-use Rattle.wc_world.specs.Adapters.{HasOtherName, NamedAdapter, is_adapter_needed, is_needed, needed_adapters}
-use Rattle.wc_world.specs.Causes.{IsComponentWorldCause, IsFaultOf, IsFirst, IsFirstFault, IsFirstStop, IsNeededStop, IsMemory, IsMemoryOf, IsReachedMemory, IsValidAdapter, IsStopOf}
+use Rattle.wc_world.specs.Trimming.{HasOtherName, NamedAdapter, is_adapter_needed, is_needed, needed_adapters}
+use Rattle.wc_world.specs.Causes.{IsComponentWorldCause, IsFaultOf, IsFirst, IsFirstFault, IsFirstStop, IsNeededStop, IsMemory, IsMemoryOf, IsReachedMemory, IsValidAdapter}
 use Rattle.wc_world.specs.Views.{NamedWorldAdapter}
 use Rattle.wc_world.specs.World.{AreAdaptersAmong, IsAdapterOf}
 use Rattle.wc_world.specs.WorldViews.{adapter_entry}
@@ -78,11 +78,6 @@ put_last [] e others = refl
 put_last (old ∷ es) e others = put_at old e es (bytes_eq e.0.now old.0.now) (λ same. others.0 (sym ((bytes_eq-Decides e.0.now old.0.now).0 same))) (put_last es e others.1)
 
 module _ (e : EncoderView) (main : ModuleRecord) (x : NamedAdapter) (passed : List NamedAdapter) where
-  -- an adapter that is not needed
-  pub passed_over : (ys : List NamedWorldAdapter) → is_adapter_needed e main x ≡ false → AreAdaptersAmong e main passed ys
-      → AreAdaptersAmong e main (passed ++ x ∷ []) ys
-  passed_over ys not_needed h = subst (λ z. AllZip (IsAdapterOf e main) z ys) (sym (kept_push (is_adapter_needed e main) passed x false not_needed ∙ append-nil (filter (is_adapter_needed e main) passed))) h
-
   -- one that is
   pub adapter_last : (old new : List RawAdapter) (key : Bor (List ℕ)) (a : WorldAdapter) → is_adapter_needed e main x ≡ true → key.now ≡ x.0 → new ≡ insert_entry (λ (a c : Bor (List ℕ)). bytes_eq a.now c.now) old key a
       → IsAdapterOf e main x (adapter_entry (key, a)) → All (HasOtherName x.0) passed → AreAdaptersAmong e main passed (map adapter_entry old) → AreAdaptersAmong e main (passed ++ x ∷ []) (map adapter_entry new)
@@ -163,10 +158,6 @@ pub needed_by : (e : EncoderView) (main : ModuleRecord) (x : NamedAdapter) (r : 
     → is_adapter_needed e main x ≡ is_needed r exports x.1 required
 needed_by e main x r exports required same are is =
     ap (λ z. is_needed e.resolve (world_exports e) x.1 z) (sym is) ∙ (ap (λ z. is_needed e.resolve z x.1 required) are ∙ ap (λ z. is_needed z exports x.1 required) (sym same))
-
-pub needed_or_memory : (e : EncoderView) (main : ModuleRecord) (x : NamedAdapter) (f : WorldFault) → is_adapter_needed e main x ≡ true → (f ≡ Memory) ⊎ IsStopOf e main x f → (f ≡ Memory) ⊎ IsNeededStop e main x f
-needed_or_memory e main x f needed (inl memory) = inl memory
-needed_or_memory e main x f needed (inr fault) = inr (needed, fault)
 
 -- the fault of the adapters has its cause, the main module being valid
 pub adapters_cause : (e : EncoderView) (main : ModuleRecord) (f : WorldFault) → IsRecordOf (main_input e e.module_import_map) e.module_bytes main → IsFirstFault e main f → IsComponentWorldCause e f

@@ -7,7 +7,7 @@ use Rattle.std.specs.String.{string_eq}
 use Rattle.std.proofs.lemmas.Bool.{cases_Bool}
 use Rattle.std.proofs.lemmas.Slice.Eq.{bytes_eq-Decides}
 use Rattle.wc_resolve.specs.Live.{AddsListings, IsComplete, listing_from}
-use Rattle.wc_resolve.specs.World.{ResolveView}
+use Rattle.wc_resolve.specs.Kinds.{ResolveView}
 use Rattle.wc_resolve.proofs.KeyLemmas.{nat_from}
 use Rattle.wc_resolve.proofs.ListUnionLemmas.{list_union_has, list_union_keeps, list_union_there}
 use Rattle.wc_world.specs.Live.{named_function_roots}

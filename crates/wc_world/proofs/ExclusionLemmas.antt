@@ -5,24 +5,24 @@ use Rattle.std.specs.Option.{IfSome}
 use Rattle.wc_read.specs.declared.types.MemoryType.{MemoryType}
 use Rattle.wc_read.specs.Laws.{HasOneValue}
 use Rattle.wc_read.specs.Modules.{ModuleValue, SpellsModule}
-use Rattle.wc_write.specs.ModuleText.{built_text}
+use Rattle.wc_write.specs.Modules.{built_text}
 use Rattle.wc_adapters.specs.Adapters.{LibraryView}
 use Rattle.wc_encoder.specs.EncoderParts.{EncoderView}
 use Rattle.wc_gc.specs.Causes.{DecidesLive}
 use Rattle.wc_gc.specs.Decoded.{ItemIndex, decode}
-use Rattle.wc_gc.specs.Edited.{edit}
+use Rattle.wc_gc.specs.Edit.{edit}
 use Rattle.wc_gc.specs.EditedImage.{edited_image}
-use Rattle.wc_gc.specs.KeptExports.{kept_exports}
-use Rattle.wc_gc.specs.Liveness.{IsLive, TrimInput}
-use Rattle.wc_gc.specs.Parts.{SettingsValue}
-use Rattle.wc_gc.specs.Trimming.{IsImageText, IsTrimCause, IsTrimFault}
+use Rattle.wc_gc.specs.Exports.{kept_exports}
+use Rattle.wc_gc.specs.LiveItems.{IsLive, TrimInput}
+use Rattle.wc_gc.specs.Parts.{SettingsView}
+use Rattle.wc_gc.specs.Trim.{IsImageText, IsTrimCause, IsTrimFault}
 use Rattle.wc_gc.specs.declared.fault.GcFault.{GcFault}
 use Rattle.wc_gc.specs.declared.fault.GcFault.TheVariants.{Memory as trim_memory}
 use Rattle.wc_validate.specs.Imports.Map.{memory_in}
 use Rattle.wc_validate.specs.Laws.{RecordsExcludeFaults, RecordsUnique}
-use Rattle.wc_validate.specs.Validated.{IsRecordOf, ValidationInput, ModuleRecord, main_input}
+use Rattle.wc_validate.specs.Validate.{IsRecordOf, ValidationInput, ModuleRecord, main_input}
 use Rattle.wc_validate.specs.declared.fault.ValidateFault.{ValidateFault}
-use Rattle.wc_world.specs.Adapters.{NamedAdapter, validation_input_of, main_page_size, page_size}
+use Rattle.wc_world.specs.Trimming.{NamedAdapter, validation_input_of, main_page_size, page_size}
 use Rattle.wc_world.specs.Causes.{IsAdaptersCause, IsFaultOf, IsFirstFault, IsMinimizedFault, IsPageFault, IsRefused, IsUntrimmed}
 use Rattle.wc_world.specs.Laws.{WorldsExcludeFaults}
 use Rattle.wc_world.specs.Options.{OptionsOf}
@@ -47,7 +47,7 @@ if_some : {X : Type 0} (o : Option X) (x : X) (P : X → Type 0) → o ≡ Some 
 if_some o x P is h = let here : IfSome (Some x) P = subst (λ z. IfSome z P) is h in here
 
 -- an adapter is trimmed to one text
-abbrev image_text : SettingsValue → List (List ℕ) → ModuleValue → (ItemIndex → Bool) → List ℕ
+abbrev image_text : SettingsView → List (List ℕ) → ModuleValue → (ItemIndex → Bool) → List ℕ
 image_text s required m live = built_text (edited_image (edit s (decode m) (kept_exports required m.exports) live))
 
 same_live : (required : List (List ℕ)) (m n : ModuleValue) (a b : ItemIndex → Bool) → m ≡ n → DecidesLive required m a → DecidesLive required n b → a ≡ b
@@ -55,13 +55,13 @@ same_live required m n a b same p q =
     let at : (x : ItemIndex) → a x ≡ b x = λ x. same_test (a x) (b x) (IsLive required n x) (subst (λ z. IsTrue (a x) ↔ IsLive required z x) same (p x)) (q x) in
     λ k x. at x k
 
-same_text : HasOneValue SpellsModule → (s : SettingsValue) (w : TrimInput) (text other : List ℕ) → IsImageText s w text → IsImageText s w other → text ≡ other
+same_text : HasOneValue SpellsModule → (s : SettingsView) (w : TrimInput) (text other : List ℕ) → IsImageText s w text → IsImageText s w other → text ≡ other
 same_text one s w text other p q =
     let values = one w.bytes p.value q.value p.spelled q.spelled in
     p.written ∙ (ap (λ m. image_text s w.required m p.live) values ∙ (ap (image_text s w.required q.value) (same_live w.required p.value q.value p.live q.live values p.decides q.decides) ∙ sym q.written))
 
 -- where no fault of trimming has a cause, there is none but Memory
-no_trim_fault : (s : SettingsValue) (w : TrimInput) (f : GcFault) → IsTrimFault s w f → f ≢ trim_memory → ¬ ((g : GcFault) → ¬ IsTrimCause s w g)
+no_trim_fault : (s : SettingsView) (w : TrimInput) (f : GcFault) → IsTrimFault s w f → f ≢ trim_memory → ¬ ((g : GcFault) → ¬ IsTrimCause s w g)
 no_trim_fault s w f (inl memory) other never = other memory
 no_trim_fault s w f (inr cause) other never = never f cause.0
 

@@ -8,23 +8,23 @@ use Rattle.wc_read.specs.declared.types.MemoryType.{MemoryType}
 use Rattle.wc_read.specs.Limits.{page_size_log2_of}
 use Rattle.wc_adapters.specs.declared.adapters.LibraryInfo.{LibraryInfo}
 use Rattle.wc_adapters.specs.Adapters.{LibraryView, library_view}
-use Rattle.wc_gc.specs.Liveness.{TrimInput, names_of, trim_input}
-use Rattle.wc_gc.specs.Parts.{SettingsValue, settings}
+use Rattle.wc_gc.specs.LiveItems.{TrimInput, names_of, trim_input}
+use Rattle.wc_gc.specs.Parts.{SettingsView, settings}
 use Rattle.wc_gc.specs.TrimmedText.{IsTrimmed}
-use Rattle.wc_gc.specs.Trimming.{IsTrimFault}
+use Rattle.wc_gc.specs.Trim.{IsTrimFault}
 use Rattle.wc_write.specs.Values.{AreBytes}
 use Rattle.wc_gc.specs.declared.fault.GcFault.{GcFault}
 use Rattle.wc_gc.specs.declared.fault.GcFault.TheVariants as trim
 use Rattle.wc_validate.specs.Imports.Map.{memory_in}
-use Rattle.wc_validate.specs.Places.{IsExplained}
-use Rattle.wc_validate.specs.Validated.{IsValidateCause, IsRecordOf, ValidationInput, ModuleRecord, adapter_input}
+use Rattle.wc_validate.specs.Explain.{IsExplained}
+use Rattle.wc_validate.specs.Validate.{IsValidateCause, IsRecordOf, ValidationInput, ModuleRecord, adapter_input}
 use Rattle.wc_validate.specs.declared.fault.ValidateFault.{ValidateFault}
 use Rattle.wc_validate.specs.declared.fault.ValidateFault.TheVariants as validate
 use Rattle.wc_validate.specs.declared.place.Place.{Place}
-use Rattle.wc_world.specs.Adapters.{validation_input_of, main_page_size, main_realloc, page_size, required_names, trim_page_size_log2}
+use Rattle.wc_world.specs.Trimming.{validation_input_of, main_page_size, main_realloc, page_size, required_names, trim_page_size_log2}
 use Rattle.wc_world.specs.Causes.{IsMinimizedReached, IsNamed, IsRefused, IsTrimReached}
-use Rattle.wc_world.specs.Private.AdapterInput.{IsInputFault, IsInputTrimmedOrLibrary, IsInputRecord, IsInputTrimmedText, IsNeeded, main_of, named_adapter, required_of}
-use Rattle.wc_world.specs.Private.Explained.{input_of}
+use Rattle.wc_world.specs.Private.Adapters.{IsInputFault, IsInputTrimmedOrLibrary, IsInputRecord, IsInputTrimmedText, IsNeeded, main_of, named_adapter, required_of}
+use Rattle.wc_world.specs.Private.Places.{input_of}
 use Rattle.wc_world.specs.Restricted.{RefusedAsCollision}
 use Rattle.wc_world.specs.Views.{WorldAdapterView}
 use Rattle.wc_world.specs.World.{IsTrimmedOrLibrary, settings_of, adapter_trim_input}
@@ -48,7 +48,7 @@ pub refused_or_memory : (j : ValidationInput) (bytes : List ℕ) (f : ValidateFa
 refused_or_memory j bytes validate.Memory h = inl refl
 refused_or_memory j bytes f h = inr ((λ is. let bad : ⊥ = cc is in bad), h)
 
-untrimmed_or_memory : (s : SettingsValue) (w : TrimInput) (f : GcFault) → IsTrimFault s w f → (f ≡ trim.Memory) ⊎ ((f ≢ trim.Memory) × IsTrimFault s w f)
+untrimmed_or_memory : (s : SettingsView) (w : TrimInput) (f : GcFault) → IsTrimFault s w f → (f ≡ trim.Memory) ⊎ ((f ≢ trim.Memory) × IsTrimFault s w f)
 untrimmed_or_memory s w trim.Memory h = inl refl
 untrimmed_or_memory s w f h = inr ((λ is. let bad : ⊥ = cc is in bad), h)
 
@@ -121,7 +121,7 @@ module _ (g : AdapterInput) (needed : IsNeeded g) (library : Option LibraryView)
 module _ (g : AdapterInput) (needed : IsNeeded g) (first : ModuleRecord) (realloc : Option (Bor (List ℕ))) (page_size_log2 : ℕ) (bytes : List ℕ) (names : List (String Global))
     (is_realloc : option_map (λ (name : Bor (List ℕ)). name.now) realloc ≡ main_realloc g.encoder.now.realloc_via_memory_grow g.main.now.exports) (is_page_size_log2 : page_size_log2 ≡ trim_page_size_log2 (memory_in first.imports))
     (is_bytes : bytes ≡ g.adapter.now.wasm.items) (is_names : names_of names ≡ required_names (required_of g) first.exports) where
-  settings_by : Option (List ℕ) → ℕ → SettingsValue
+  settings_by : Option (List ℕ) → ℕ → SettingsView
   settings_by r n = record { realloc = r; page_size_log2 = n }
 
   trim_input_by : List ℕ → List (List ℕ) → TrimInput
@@ -138,7 +138,7 @@ module _ (g : AdapterInput) (needed : IsNeeded g) (first : ModuleRecord) (reallo
       ∙ ap (trim_input_by g.adapter.now.wasm.items) (is_names ∙ ap (λ r. required_names r first.exports) needed.required)
 
   -- what is said of settings and of what is required, in these words
-  in_own_words : (P : SettingsValue → TrimInput → Type 0) → P (settings realloc page_size_log2) (trim_input bytes names) → P (settings_of g.encoder.now (main_of g) first) (adapter_trim_input (main_of g) (named_adapter g) first)
+  in_own_words : (P : SettingsView → TrimInput → Type 0) → P (settings realloc page_size_log2) (trim_input bytes names) → P (settings_of g.encoder.now (main_of g) first) (adapter_trim_input (main_of g) (named_adapter g) first)
   in_own_words P h = subst (λ w. P (settings_of g.encoder.now (main_of g) first) w) own_trim_input (subst (λ s. P s (trim_input bytes names)) own_settings h)
 
   pub input_trimmed_text : (text : List ℕ) → (named_adapter g).1.library_info ≡ None → IsInputRecord g g.adapter.now.wasm.items first → AreBytes bytes

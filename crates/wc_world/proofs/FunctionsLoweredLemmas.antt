@@ -15,9 +15,9 @@ use Rattle.wc_names.specs.Laws.{IsImportIn}
 use Rattle.wc_names.specs.Views.{ImportView}
 use Rattle.wc_validate.specs.Imports.Map.{imports_in}
 use Rattle.wc_validate.specs.Laws.{RecordsInRange}
-use Rattle.wc_validate.specs.Validated.{main_input}
+use Rattle.wc_validate.specs.Validate.{main_input}
 use Rattle.wc_world.specs.FunctionsLowered.{FunctionsLowered, IsLoweredIn}
-use Rattle.wc_world.specs.Lowered.{Lowerer, all_entries, lowerer}
+use Rattle.wc_world.specs.Lowering.{Lowerer, all_entries, lowerer}
 use Rattle.wc_world.specs.Options.{OptionsOf}
 use Rattle.wc_world.specs.Slots.{all_imports, imports_of}
 use Rattle.wc_world.specs.Views.{ComponentWorldView, ImportMapView, NamedWorldAdapter}

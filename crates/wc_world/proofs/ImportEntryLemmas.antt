@@ -7,11 +7,11 @@ use Rattle.std.specs.Option.{IsSome, option_map_or}
 use Rattle.std.proofs.lemmas.List.Elements.{All-cons, All-head, All-nil, All-tail, All-weaker}
 use Rattle.std.proofs.lemmas.List.Kept.{AllPairs-cons}
 use Rattle.semver.specs.Identifiers.{parts_text}
-use Rattle.wc_resolve.specs.Queries.{external_id, implemented, key_text}
+use Rattle.wc_resolve.specs.Resolve.{external_id, implemented, key_text}
 use Rattle.wc_resolve.specs.Ranges.{IsItemIn}
 use Rattle.wc_resolve.specs.Views.{ItemView, KeyView, WorldView, function_item, interface_item, type_item}
 use Rattle.wc_resolve.specs.WellFormed.{IsWellFormed}
-use Rattle.wc_resolve.specs.World.{ResolveView}
+use Rattle.wc_resolve.specs.Kinds.{ResolveView}
 use Rattle.wc_resolve.proofs.ViewedLemmas.{all_unviewed}
 use Rattle.wc_resolve.proofs.WellFormedLemmas.{IsUsableItem, import_functions_usable, import_items_in, import_keys_have_texts, import_keys_in}
 use Rattle.wc_encoder.specs.Distinct.{AreNamesDistinct, import_name, item_interface}
@@ -19,9 +19,9 @@ use Rattle.wc_encoder.specs.EncoderParts.{EncoderView, HasWorld, world_imports}
 use Rattle.wc_adapters.specs.Entries.{Entries}
 use Rattle.wc_adapters.proofs.PairLemmas.{pairs_head, pairs_none, pairs_tail}
 use Rattle.wc_validate.specs.Imports.Map.{memory_in}
-use Rattle.wc_validate.specs.Validated.{ModuleRecord}
-use Rattle.wc_world.specs.Lowered.{AreEntriesDistinct, ImportEntry, IsImportable, IsLowerable, KeyedLowering, Lowerer, all_entries, entries_from}
-use Rattle.wc_world.specs.Lowered.{interface_entry, interface_lowerings, lowered, lowerer_of, own_entry, own_lowerings}
+use Rattle.wc_validate.specs.Validate.{ModuleRecord}
+use Rattle.wc_world.specs.Lowering.{AreEntriesDistinct, ImportEntry, IsImportable, IsLowerable, KeyedLowering, Lowerer, all_entries, entries_from}
+use Rattle.wc_world.specs.Lowering.{interface_entry, interface_lowerings, lowered, lowerer_of, own_entry, own_lowerings}
 use Rattle.wc_world.specs.Options.{OptionsOf}
 use Rattle.wc_world.specs.Slots.{all_imports, imports_of}
 use Rattle.wc_world.specs.Views.{ImportMapView, ImportedView, NamedWorldAdapter}

@@ -26,11 +26,11 @@ use Rattle.wc_resolve.proofs.KeyLemmas.{nat_from}
 use Rattle.wc_names.specs.Imports.{import_abi}
 use Rattle.wc_names.specs.Views.{FunctionImportView, ImportView, function_import, imported_resource_drop, interface_func, world_func}
 use Rattle.wc_validate.specs.Imports.Map.{imports_in}
-use Rattle.wc_validate.specs.Validated.{ModuleRecord}
+use Rattle.wc_validate.specs.Validate.{ModuleRecord}
 use Rattle.wc_world.specs.Slots.{all_imports, imports_of}
 use Rattle.wc_world.specs.Views.{NamedWorldAdapter}
 use Rattle.wc_world.specs.declared.imported_items.ImportedItems.{ImportedItems}
-use Rattle.wc_world.specs.Lowered.{is_drop_of, is_import_of, same_call}
+use Rattle.wc_world.specs.Lowering.{is_drop_of, is_import_of, same_call}
 use Rattle.wc_world.specs.Private.ImportedItems.{AreCalled, AreImported, IsCall, NamesByInterface, dropped_resource, has_called, interface_index, interface_of, is_in, same_of}
 use Rattle.wc_world.proofs.UsedLemmas.{turned}
 
@@ -211,15 +211,6 @@ no_call imports i abi names none same interface name =
     passed_last (is_import_of k name abi) imports i (has_called names interface name) (same interface name)
     (import_called k name abi i ∙ ap (is_called k name abi) none)
 
--- an import that is neither a function nor a drop
-pub nothing_imported : (imports : List ImportView) (i : ImportView) (s : ImportedItems) → function_import i ≡ None → dropped_resource i ≡ None
-    → AreImported imports s → AreImported (imports ++ i ∷ []) s
-nothing_imported imports i s none other a = record {
-  functions = no_call imports i GuestImport s.functions.entries none a.functions;
-  async_functions = no_call imports i GuestImportAsync s.async_functions.entries none a.async_functions;
-  drops = λ t. passed_last (is_drop_of t) imports i (is_in (indices s.drops.keys) t) (a.drops t) (import_dropped t i ∙ ap (is_dropped t) other);
-}
-
 -- a drop is added
 pub drop_imported : (imports : List ImportView) (i : ImportView) (t : ℕ) (old new : List TypeId) → dropped_resource i ≡ Some t
     → indices new ≡ with_live (indices old) t → ((u : ℕ) → is_in (indices old) u ≡ list_any (is_drop_of u) imports)
@@ -250,10 +241,6 @@ pub record ImportWalk (all left : List (List ℕ × (List ℕ × ImportView))) (
   pub front : List (List ℕ × (List ℕ × ImportView))
   pub split : front ++ left ≡ all
   pub imported : AreImported (passed ++ imports_of front) s
-
-pub imports_start : (all left : List (List ℕ × (List ℕ × ImportView))) (passed : List ImportView) (s : ImportedItems) → left ≡ all → AreImported passed s
-    → ImportWalk all left passed s
-imports_start all left passed s is a = record { front = []; split = is; imported = subst (λ z. AreImported z s) (sym (append-nil passed)) a }
 
 pub imports_next : (all left rest : List (List ℕ × (List ℕ × ImportView))) (x : List ℕ × (List ℕ × ImportView)) (passed : List ImportView)
     (old new : ImportedItems) → left ≡ x ∷ rest

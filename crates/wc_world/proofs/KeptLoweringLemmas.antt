@@ -1,5 +1,5 @@
 -- Lowerings of interfaces that are kept, and copies of them; interfaces of which nothing is imported.
-use Rattle.std.proofs.Common.{◌≡◌, ◌∙◌, ℕ, List, [], ◌∷◌, ◌++◌, Bool, true, false, cond, Option, Some, None, String, Vec, map, get_or, length, take, ◌<◌, ◌+◌, Result, Ok, Err, OnOk, refl, sym, ap, inl, inr}
+use Rattle.std.proofs.Common.{◌≡◌, ◌∙◌, ℕ, List, [], ◌∷◌, ◌++◌, Bool, true, false, cond, Option, Some, String, Vec, map, get_or, length, take, ◌<◌, ◌+◌, Result, Ok, Err, OnOk, refl, sym, ap, inl, inr}
 use Rattle.std.specs.List.{list_any}
 use Rattle.std.specs.Map.{lookup}
 use Rattle.std.specs.declared.alloc.Global.{Global}
@@ -13,17 +13,13 @@ use Rattle.wc_resolve.specs.Views.{FunctionView}
 use Rattle.wc_resolve.proofs.KeyLemmas.{nat_from}
 use Rattle.wc_names.specs.Imports.{import_abi}
 use Rattle.wc_world.specs.declared.imported.Lowering.{Lowering}
-use Rattle.wc_world.specs.Lowered.{KeyedLowering, Lowerer, called_lowering, is_import_of, lowered_function, lowerings_of_functions, lowerings_of_interface}
+use Rattle.wc_world.specs.Lowering.{KeyedLowering, Lowerer, called_lowering, is_import_of, lowered_function, lowerings_of_functions, lowerings_of_interface}
 use Rattle.wc_world.specs.Private.LoweringContext.{AreKept}
 use Rattle.wc_world.specs.Used.{same_interface}
 use Rattle.wc_world.specs.WorldViews.{lowering_entry}
 
 abbrev pub OwnLowerings : Type 0
 OwnLowerings = Vec ((String Global × AbiVariant) × Lowering) Global
-
--- at first none are kept
-pub kept_none : (l : Lowerer) (kept : List (InterfaceId × OwnLowerings)) → kept ≡ [] → AreKept l kept
-kept_none l kept none i found at = absurd (let both : None ≡ Some found = sym (ap (lookup (same_interface i)) none) ∙ at in let bad : ⊥ = cc both in bad)
 
 -- those of an interface more
 pub kept_more : (l : Lowerer) (old new : List (InterfaceId × OwnLowerings)) (id : InterfaceId) (copies : OwnLowerings)

@@ -16,7 +16,7 @@ use Rattle.wc_resolve.proofs.KeyLemmas.{texts_law}
 use Rattle.wc_adapters.proofs.PairLemmas.{pairs_head, pairs_tail}
 use Rattle.wc_world.specs.declared.imported.ImportedInterface.{ImportedInterface}
 use Rattle.wc_world.specs.declared.imported.Lowering.{Lowering}
-use Rattle.wc_world.specs.Lowered.{AreEntriesDistinct, AreKeysDistinct, KeyedLowering}
+use Rattle.wc_world.specs.Lowering.{AreEntriesDistinct, AreKeysDistinct, KeyedLowering}
 use Rattle.wc_world.specs.Views.{LoweringKey}
 use Rattle.wc_world.specs.WorldViews.{imported_entry, imported_view, lowering_entry, lowering_view}
 use Rattle.wc_world.proofs.PairListLemmas.{pairs_front}

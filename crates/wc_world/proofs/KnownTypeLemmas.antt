@@ -8,7 +8,7 @@ use Rattle.std.proofs.lemmas.List.Elements.{filter-append}
 use Rattle.std.proofs.lemmas.List.Folds.{list_any-append}
 use Rattle.std.proofs.lemmas.Map.Views.{Contains-from_any, any-filter_same}
 use Rattle.wc_resolve.specs.Live.{AddsListings, IsComplete, list_union, listing_of, with_live}
-use Rattle.wc_resolve.specs.World.{ResolveView}
+use Rattle.wc_resolve.specs.Kinds.{ResolveView}
 use Rattle.wc_resolve.proofs.ListUnionLemmas.{list_union_append, list_union_keeps, list_union_there}
 use Rattle.wc_resolve.proofs.ListingLemmas.{listing_there}
 use Rattle.wc_world.specs.Live.{live_from}

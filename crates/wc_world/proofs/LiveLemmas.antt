@@ -11,7 +11,7 @@ use Rattle.wc_resolve.specs.Ranges.{AreIdsInRange, IsEntryIn, IsFunctionIn, IsIt
 use Rattle.wc_resolve.specs.Roots.{function_roots, item_roots, type_roots}
 use Rattle.wc_resolve.specs.TypeRules.{repeated, value_by_rule}
 use Rattle.wc_resolve.specs.Views.{InterfaceView, ItemView, KeyView, KindView, TypeView, FunctionView, WorldView, function_item, interface_item, type_item}
-use Rattle.wc_resolve.specs.World.{LeadWithin, ResolveView, children, kind_at}
+use Rattle.wc_resolve.specs.Kinds.{LeadWithin, ResolveView, children, kind_at}
 use Rattle.wc_resolve.specs.declared.functions.AbiVariant.{AbiVariant}
 use Rattle.wc_resolve.specs.declared.functions.Function.{Function}
 use Rattle.wc_resolve.specs.declared.ids.InterfaceId.{InterfaceId}
@@ -35,7 +35,7 @@ use Rattle.wc_names.specs.Views.{ImportView, import_view, PayloadTypeView, typed
 use Rattle.wc_validate.specs.Imports.Entries.{Records}
 use Rattle.wc_validate.specs.Imports.Map.{imports_in}
 use Rattle.wc_validate.specs.Requirements.{functions_of}
-use Rattle.wc_validate.specs.Validated.{ModuleRecord}
+use Rattle.wc_validate.specs.Validate.{ModuleRecord}
 use Rattle.wc_world.specs.Live.{AreImportsIn, AreImportsOf, AreListed, AreRootsIn, adapter_roots, builtin_roots, by_owner, export_roots, import_payload, import_resource, import_roots, imported_types, is_from_elsewhere, live_from, live_types, module_roots, payload_roots, world_roots}
 use Rattle.wc_world.specs.Used.{UsedView}
 use Rattle.wc_world.specs.Views.{NamedWorldAdapter}

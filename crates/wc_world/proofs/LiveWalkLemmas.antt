@@ -10,7 +10,7 @@ use Rattle.std.proofs.lemmas.List.Elements.{Contains-append_left, Contains-appen
 use Rattle.wc_resolve.specs.declared.ids.TypeId.{TypeId}
 use Rattle.wc_resolve.specs.Live.{AddsListings, IsComplete, list_union, listing_from, listing_of}
 use Rattle.wc_resolve.specs.Roots.{indices}
-use Rattle.wc_resolve.specs.World.{ResolveView}
+use Rattle.wc_resolve.specs.Kinds.{ResolveView}
 use Rattle.wc_resolve.proofs.ListUnionLemmas.{contains_joined, joined_from, list_union_append, list_union_has, list_union_there}
 use Rattle.wc_resolve.proofs.ListingLemmas.{complete_none}
 use Rattle.wc_resolve.proofs.SearchLemmas.{contains_head}

@@ -16,14 +16,14 @@ use Rattle.wc_resolve.specs.Names.{IsFunctionCharacter, IsFunctionName}
 use Rattle.wc_resolve.specs.declared.worlds.Interface.{Interface}
 use Rattle.wc_resolve.specs.Views.{FunctionView, InterfaceView, ItemView, KeyView, WorldView, function_entry, function_item, interface_item, interface_key, interface_view, plain_key, type_entry, type_item}
 use Rattle.wc_resolve.specs.WellFormed.{AreNamesSpelled, HasMatchingKeys, HasMatchingNames, IsInterfaceSpelled, IsKeySpelled, IsMatchingKey, IsWellFormed, IsWorldSpelled, KeysMatch, type_name}
-use Rattle.wc_resolve.specs.World.{ResolveView}
+use Rattle.wc_resolve.specs.Kinds.{ResolveView}
 use Rattle.wc_resolve.proofs.KeyLemmas.{texts_law}
 use Rattle.wc_resolve.proofs.WellFormedLemmas.{all_get}
 use Rattle.wc_encoder.specs.Distinct.{AreNamesDistinct, import_name}
 use Rattle.wc_adapters.proofs.PairLemmas.{pairs_none}
 use Rattle.wc_names.specs.Keys.{resource_at}
 use Rattle.wc_names.proofs.RangeLemmas.{resource_is}
-use Rattle.wc_world.specs.Lowered.{AreKeysDistinct, KeyedLowering, Lowerer, called_lowering, drop_key, function_lowerings, interface_lowerings, is_drop_of, is_import_of, item_lowerings, lowered_function, resource_lowerings, resource_name, type_lowerings, lowerings_of_interface}
+use Rattle.wc_world.specs.Lowering.{AreKeysDistinct, KeyedLowering, Lowerer, called_lowering, drop_key, function_lowerings, interface_lowerings, is_drop_of, is_import_of, item_lowerings, lowered_function, resource_lowerings, resource_name, type_lowerings, lowerings_of_interface}
 use Rattle.wc_world.specs.Views.{LoweringKey, resource_drop}
 use Rattle.wc_world.proofs.PairListLemmas.{all_back, all_of_flat, pairs_across, pairs_of_flat, pairs_one, pairs_unviewed}
 

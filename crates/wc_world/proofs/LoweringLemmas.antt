@@ -1,14 +1,14 @@
 -- Lowerings that are added to others.
 use Rattle.std.proofs.Common.{◌≡◌, ℕ, List, [], ◌∷◌, ◌++◌, Bool, true, false, cond, Option, Some, map, All, String, sym, ap, subst, ◌∙◌, append-nil, append_assoc}
 use Rattle.std.specs.List.{flat_map, list_any}
-use Rattle.std.proofs.lemmas.List.Elements.{All-head, All-tail}
+use Rattle.std.proofs.lemmas.List.Elements.{All-tail}
 use Rattle.std.specs.Option.{option_map_or}
 use Rattle.std.specs.declared.alloc.Global.{Global}
 use Rattle.std.proofs.lemmas.List.{map-append}
 use Rattle.wc_resolve.specs.declared.functions.AbiVariant.{AbiVariant}
 use Rattle.wc_resolve.specs.Views.{FunctionView}
 use Rattle.wc_world.specs.declared.imported.Lowering.{Lowering}
-use Rattle.wc_world.specs.Lowered.{KeyedLowering, Lowerer, called_lowering, drop_key, is_drop_of, is_import_of, lowered_function, resource_lowerings, resource_name, type_lowerings}
+use Rattle.wc_world.specs.Lowering.{KeyedLowering, Lowerer, called_lowering, drop_key, is_drop_of, is_import_of, lowered_function, resource_lowerings, resource_name, type_lowerings}
 use Rattle.wc_world.specs.Views.{resource_drop}
 use Rattle.wc_world.specs.WorldViews.{lowering_entry}
 
@@ -38,9 +38,6 @@ joined_next f all left rest x old before after is same put =
 
 pub joined_end : {X Y : Type 0} (f : X → List Y) (all left : List X) (old after : List Y) → left ≡ [] → after ++ flat_map f left ≡ old ++ flat_map f all → after ≡ old ++ flat_map f all
 joined_end f all left old after none same = sym (append-nil after) ∙ (ap (λ z. after ++ flat_map f z) (sym none) ∙ same)
-
-pub all_first : {X : Type 0} (P : X → Type 0) (left rest : List X) (x : X) → left ≡ x ∷ rest → All P left → P x
-all_first P left rest x is h = All-head P x rest (subst (All P) is h)
 
 pub all_rest : {X : Type 0} (P : X → Type 0) (left rest : List X) (x : X) → left ≡ x ∷ rest → All P left → All P rest
 all_rest P left rest x is h = All-tail P x rest (subst (All P) is h)

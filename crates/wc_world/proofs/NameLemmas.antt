@@ -7,7 +7,7 @@ use Rattle.std.specs.declared.alloc.Global.{Global}
 use Rattle.std.proofs.lemmas.List.{map-append}
 use Rattle.wc_maps.specs.Names.{first_occurrences}
 use Rattle.wc_validate.proofs.InstanceLemmas.{new_module, old_module}
-use Rattle.wc_world.specs.Adapters.{HasNames}
+use Rattle.wc_world.specs.Trimming.{HasNames}
 use Rattle.wc_world.proofs.ImportedItemLemmas.{added_last, bytes_turned}
 
 module _ (old new : List (String Global)) (k : String Global) (m : List ℕ) (passed : List (List ℕ)) (is : string_bytes k ≡ m) (put : new ≡ cond (list_any (string_eq k) old) old (old ++ k ∷ []))
@@ -48,6 +48,3 @@ names_next name before all left rest x old new is put w = record {
 
 pub names_end : {X : Type 0} (name : X → List ℕ) (before : List (List ℕ)) (all left : List X) (keys : List (String Global)) → left ≡ [] → NameWalk name before all left keys → HasNames keys (before ++ map name all)
 names_end name before all left keys none w = subst (λ z. HasNames keys (before ++ map name z)) (sym (append-nil w.front) ∙ (ap (λ z. w.front ++ z) (sym none) ∙ w.split)) w.has
-
-pub no_names : (keys : List (String Global)) → keys ≡ [] → HasNames keys []
-no_names keys none = subst (λ z. HasNames z []) (sym none) (record { names = refl; has = λ q. refl })

@@ -6,7 +6,7 @@ use Rattle.std.specs.Option.{option_and_then, option_map_or}
 use Rattle.std.proofs.lemmas.List.Elements.{All-head}
 use Rattle.wc_read.specs.Types.{FuncTypeValue}
 use Rattle.wc_resolve.specs.Views.{FunctionView, ItemView, KeyView, WorldView, function_item, interface_item, type_item}
-use Rattle.wc_resolve.specs.World.{ResolveView}
+use Rattle.wc_resolve.specs.Kinds.{ResolveView}
 use Rattle.wc_resolve.proofs.SearchLemmas.{contains_none}
 use Rattle.wc_encoder.specs.EncoderParts.{EncoderView, world_exports}
 use Rattle.wc_adapters.specs.Entries.{Entries}
@@ -19,8 +19,8 @@ use Rattle.wc_validate.specs.Exports.Map.{ExportRecord}
 use Rattle.wc_validate.specs.Imports.Map.{required_in}
 use Rattle.wc_validate.specs.Exports.Record.{core_exports}
 use Rattle.wc_validate.specs.Requirements.{AreMet, Requirement, function_names, functions_of, item_requirement, key_requirements, type_requirement}
-use Rattle.wc_validate.specs.Validated.{IsRecordOf, ModuleRecord}
-use Rattle.wc_world.specs.Adapters.{NamedAdapter, exports_function, has_function, is_adapter_needed, is_some_of, validation_input_of, required_names}
+use Rattle.wc_validate.specs.Validate.{IsRecordOf, ModuleRecord}
+use Rattle.wc_world.specs.Trimming.{NamedAdapter, exports_function, has_function, is_adapter_needed, is_some_of, validation_input_of, required_names}
 
 -- a function that is recorded is an export
 recorded_has : (recorded : ExportRecord) (name : Option ℕ × List ℕ) → Contains (function_names recorded) name → recorded ≢ []

@@ -18,7 +18,7 @@ use Rattle.wc_resolve.specs.declared.ids.TypeId.{TypeId}
 use Rattle.wc_resolve.specs.Dependencies.{interface_owning}
 use Rattle.wc_resolve.specs.Live.{list_union, with_live}
 use Rattle.wc_resolve.specs.Roots.{indices}
-use Rattle.wc_resolve.specs.World.{ResolveView}
+use Rattle.wc_resolve.specs.Kinds.{ResolveView}
 use Rattle.wc_resolve.proofs.KeyLemmas.{nat_from}
 use Rattle.wc_resolve.proofs.ListUnionLemmas.{list_union_append, list_union_has, with_new}
 use Rattle.wc_world.specs.Private.ImportedItems.{is_in}

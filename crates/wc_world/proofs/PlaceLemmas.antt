@@ -1,31 +1,31 @@
 -- Places of faults, in the main module and in adapters.
-use Rattle.std.proofs.Common.{◌≡◌, ◌≢◌, ◌↔◌, ℕ, List, map, Bool, true, false, is_some, IsTrue, Option, Some, None, Result, Ok, Err, IfOk, String, string_bytes, sym, ap, ◌∙◌, subst, inl, inr, refl}
+use Rattle.std.proofs.Common.{◌≡◌, ℕ, List, map, true, false, is_some, Option, Some, None, Result, Ok, Err, IfOk, String, string_bytes, sym, ap, ◌∙◌, subst, inl, inr, refl}
 use Rattle.std.specs.Borrow.{Bor}
 use Rattle.std.specs.Map.{lookup}
-use Rattle.std.specs.Option.{IsSome, option_map}
+use Rattle.std.specs.Option.{option_map}
 use Rattle.std.specs.Str.{bytes_eq}
 use Rattle.std.specs.declared.alloc.AllocError.{AllocError}
 use Rattle.std.specs.declared.alloc.Global.{Global}
-use Rattle.wc_dedupe.specs.Renaming.{RenameValue}
+use Rattle.wc_dedupe.specs.Renaming.{RenameView}
 use Rattle.wc_resolve.proofs.LookupLemmas.{name_viewed}
 use Rattle.wc_adapters.specs.declared.adapters.Adapter.{Adapter as InputAdapter}
 use Rattle.wc_adapters.specs.declared.adapters.LibraryInfo.{LibraryInfo}
-use Rattle.wc_adapters.specs.Adapters.{AdapterView, adapter_entry, adapter_view, library_view}
+use Rattle.wc_adapters.specs.Adapters.{AdapterView, adapter_entry, adapter_view}
 use Rattle.wc_encoder.specs.EncoderParts.{EncoderView}
-use Rattle.wc_gc.specs.Liveness.{TrimInput, names_of, trim_input}
-use Rattle.wc_gc.specs.TrimPlaces.{IsExplained as IsTrimExplained, IsPlace as IsPlaceOfTrim}
+use Rattle.wc_gc.specs.LiveItems.{TrimInput, names_of, trim_input}
+use Rattle.wc_gc.specs.TrimPlace.{IsExplained as IsTrimExplained, IsPlace as IsPlaceOfTrim}
 use Rattle.wc_gc.specs.declared.fault.GcFault.{GcFault}
 use Rattle.wc_gc.specs.declared.trim_place.TrimPlace.{TrimPlace}
-use Rattle.wc_validate.specs.Places.{IsExplained, IsUnplaced}
-use Rattle.wc_validate.specs.Validated.{IsValidateCause, ModuleRecord, ValidationInput, main_input}
+use Rattle.wc_validate.specs.Explain.{IsExplained, IsUnplaced}
+use Rattle.wc_validate.specs.Validate.{ModuleRecord, ValidationInput, main_input}
 use Rattle.wc_validate.specs.declared.fault.ValidateFault.{ValidateFault}
 use Rattle.wc_validate.specs.declared.fault.ValidateFault.TheVariants as validate
 use Rattle.wc_validate.specs.declared.place.Place.{Place}
-use Rattle.wc_world.specs.Adapters.{NamedAdapter, is_adapter_needed, required_names}
-use Rattle.wc_world.specs.Places.{IsIn, IsMainRefused, IsNeededUnder, IsNotTrimmed, IsTrimUnreached, IsValidationPlace, IsWorldExplained}
-use Rattle.wc_world.specs.Private.AdapterInput.{IsInputFault, IsInputRecord, IsInputTrimmedText, IsNeeded, main_of, named_adapter, required_of}
-use Rattle.wc_world.specs.Private.Explained.{IsAdapterAnswer, IsInputAnswer, IsInputMinimized, IsMinimizedAnswer, IsNamedAnswer, IsRefusal, IsTrimAnswer, IsTrimRefusal, IsUnderAnswer, IsValidationAnswer, input_of}
-use Rattle.wc_world.specs.World.{IsMainRecord, adapter_trim_input}
+use Rattle.wc_world.specs.Trimming.{NamedAdapter, is_adapter_needed, required_names}
+use Rattle.wc_world.specs.Places.{IsNeededUnder, IsNotTrimmed, IsValidationPlace, IsWorldExplained}
+use Rattle.wc_world.specs.Private.Adapters.{IsInputFault, IsInputRecord, IsInputTrimmedText, IsNeeded, main_of, named_adapter, required_of}
+use Rattle.wc_world.specs.Private.Places.{IsInputMinimized, IsMinimizedAnswer, IsNamedAnswer, IsTrimAnswer, IsTrimRefusal, IsValidationAnswer, input_of}
+use Rattle.wc_world.specs.World.{adapter_trim_input}
 use Rattle.wc_world.specs.declared.adapters.AdapterInput.{AdapterInput}
 use Rattle.wc_world.specs.declared.fault.WorldFault.{WorldFault}
 use Rattle.wc_world.specs.declared.fault.WorldFault.TheVariants.{Memory, Main, Adapter, Trim, Minimized, PageSize}
@@ -35,18 +35,8 @@ use Rattle.wc_world.specs.declared.places.ModulePlace.{ModulePlace}
 use Rattle.wc_world.specs.declared.places.ModulePlace.TheVariants as place
 use Rattle.wc_world.specs.declared.places.WorldPlace.{WorldPlace}
 
--- a test that fails, of a fact
-pub unlike : (b : Bool) (P : Type 0) → IsTrue b ↔ P → b ≡ false → ¬ P
-unlike b P law is p = let t : true ≡ false = sym (law.1 p) ∙ is in let bad : ⊥ = cc t in bad
-
--- the main module is refused
-pub main_refused_by : (e : EncoderView) (f : ValidateFault) (renames : Option (List RenameValue)) (bytes : List ℕ) → renames ≡ e.module_import_map → bytes ≡ e.module_bytes → f ≢ validate.Memory
-    → IsValidateCause (main_input e renames) bytes f → IsMainRefused e
-main_refused_by e f renames bytes same is other h =
-    (f, (other, subst (λ b. IsValidateCause (main_input e e.module_import_map) b f) is (subst (λ z. IsValidateCause (main_input e z) bytes f) same h)))
-
 -- a place in it
-pub main_answer : (e : EncoderView) (f : ValidateFault) (renames : Option (List RenameValue)) (bytes : List ℕ) (o : Option Place) → renames ≡ e.module_import_map → bytes ≡ e.module_bytes
+pub main_answer : (e : EncoderView) (f : ValidateFault) (renames : Option (List RenameView)) (bytes : List ℕ) (o : Option Place) → renames ≡ e.module_import_map → bytes ≡ e.module_bytes
     → IsExplained (main_input e renames) bytes f o → IsExplained (main_input e e.module_import_map) e.module_bytes f o
 main_answer e f renames bytes o same is h = subst (λ b. IsExplained (main_input e e.module_import_map) b f o) is (subst (λ z. IsExplained (main_input e z) bytes f o) same h)
 
@@ -56,25 +46,9 @@ pub validation_answer : (j : ValidationInput) (bytes : List ℕ) (f : ValidateFa
 validation_answer j bytes f None r is h = subst (IsValidationAnswer j bytes f) (sym is) h
 validation_answer j bytes f (Some p) r is h = subst (IsValidationAnswer j bytes f) (sym is) h
 
--- a library, and an adapter that is none
-pub library_there : (o : Option LibraryInfo) → is_some o ≡ true → IsSome (option_map library_view o)
-library_there None is = is
-library_there (Some l) is = refl
-
 pub no_library : (o : Option LibraryInfo) → is_some o ≡ false → o ≡ None
 no_library None is = refl
 no_library (Some l) is = absurd (let bad : ⊥ = cc is in bad)
-
--- an adapter is refused as the encoder has it
-pub refused_first : (g : AdapterInput) (f : WorldFault) → IsInputFault g f → IsRefusal f → IsTrimUnreached g.encoder.now (main_of g) (named_adapter g)
-refused_first g f (inl is) refusal = absurd (subst IsRefusal is refusal)
-refused_first g (Adapter name v) (inr (inl h)) refusal = inr (v, h.1)
-refused_first g (Adapter name v) (inr (inr h)) refusal = absurd (refusal h.1)
-refused_first g Memory (inr h) refusal = absurd refusal
-refused_first g (Main v) (inr h) refusal = absurd refusal
-refused_first g (Trim name v) (inr h) refusal = absurd refusal
-refused_first g (Minimized name v) (inr h) refusal = absurd refusal
-refused_first g (PageSize name own mains) (inr h) refusal = absurd refusal
 
 -- it can't be trimmed
 pub not_trimmed : (g : AdapterInput) (f : WorldFault) → IsInputFault g f → IsTrimRefusal f → IsNotTrimmed g.encoder.now (main_of g) (named_adapter g)
@@ -121,13 +95,6 @@ module _ (g : AdapterInput) (needed : IsNeeded g) (first : ModuleRecord) (bytes 
   trim_answer f (Some p) none original is are h = (record { first = first; trims = none; original = original }, subst (λ w. IsPlaceOfTrim w f p) (trim_input_is is are) h)
 
 module _ (f : AdapterFault) (e : EncoderView) (main : ModuleRecord) (x : NamedAdapter) where
-  -- the component needs the adapter
-  pub answer_if_needed : (r : Result (Option ModulePlace) AllocError) → is_adapter_needed e main x ≡ true
-      → IfOk r (IsInputAnswer f e main x) → IfOk r (IsUnderAnswer f e main x)
-  answer_if_needed (Ok None) needed h = inr (needed, h)
-  answer_if_needed (Ok (Some p)) needed h = (needed, h)
-  answer_if_needed (Err s) needed h = tt
-
   no_other : (a : AdapterView) → lookup (bytes_eq x.0) e.adapters ≡ Some x.1 → is_adapter_needed e main x ≡ false → ¬ IsNeededUnder e main x.0 a
   no_other a there not h =
       let both : Some x.1 ≡ Some a = sym there ∙ h.0 in
@@ -136,13 +103,6 @@ module _ (f : AdapterFault) (e : EncoderView) (main : ModuleRecord) (x : NamedAd
       let wrong : true ≡ false = sym t ∙ not in
       let bad : ⊥ = cc wrong in bad
 
-  pub answer_by_main : (r : Result (Option ModulePlace) AllocError) → IsMainRecord e main → lookup (bytes_eq x.0) e.adapters ≡ Some x.1
-      → IfOk r (IsUnderAnswer f e main x) → IfOk r (IsAdapterAnswer f e x.0)
-  answer_by_main (Ok None) recorded there (inl not) = inl (inr (main, recorded, (λ a. no_other a there not)))
-  answer_by_main (Ok None) recorded there (inr h) = inr (main, recorded, x.1, (there, h.0), h.1)
-  answer_by_main (Ok (Some p)) recorded there h = (main, recorded, x.1, (there, h.0), h.1)
-  answer_by_main (Err s) recorded there h = tt
-
 -- the adapter of a name
 pub adapter_found : (e : EncoderView) (es : List (String Global × InputAdapter)) (name : List ℕ) (o : Option InputAdapter) → map adapter_entry es ≡ e.adapters
     → o ≡ lookup (λ k. bytes_eq name (string_bytes k)) es → lookup (bytes_eq name) e.adapters ≡ option_map adapter_view o
@@ -150,13 +110,6 @@ adapter_found e es name o are is = sym (ap (option_map adapter_view) is ∙ (nam
 
 pub none_needed : (e : EncoderView) (main : ModuleRecord) (name : List ℕ) → lookup (bytes_eq name) e.adapters ≡ None → (a : AdapterView) → ¬ IsNeededUnder e main name a
 none_needed e main name none a h = let both : None ≡ Some a = sym none ∙ h.0 in let bad : ⊥ = cc both in bad
-
--- with the name
-pub named_answer : (f : AdapterFault) (e : EncoderView) (name : List ℕ) (found : Option ModulePlace) (r : Result (Option WorldPlace) AllocError) → IsAdapterAnswer f e name found
-    → IfOk r (IsIn name found) → IfOk r (IsNamedAnswer f e name)
-named_answer f e name found (Ok None) h is = subst (IsAdapterAnswer f e name) is h
-named_answer f e name found (Ok (Some p)) h is = (is.0, subst (IsAdapterAnswer f e name) is.1 h)
-named_answer f e name found (Err s) h is = tt
 
 -- by the kind of the fault
 module _ (e : EncoderView) (f : WorldFault) (name : String Global) (n : List ℕ) (same : n ≡ string_bytes name) (r : Result (Option WorldPlace) AllocError) where

@@ -7,9 +7,9 @@ use Rattle.wc_resolve.proofs.SearchLemmas.{contains_cons, contains_head, contain
 use Rattle.wc_names.specs.ExportViews.{ExportView}
 use Rattle.wc_maps.specs.Names.{first_occurrences}
 use Rattle.wc_validate.specs.Imports.Map.{required_in}
-use Rattle.wc_validate.specs.Validated.{ModuleRecord}
+use Rattle.wc_validate.specs.Validate.{ModuleRecord}
 use Rattle.wc_validate.proofs.ContainedLemmas.{mapped_there}
-use Rattle.wc_world.specs.Adapters.{required_names}
+use Rattle.wc_world.specs.Trimming.{required_names}
 use Rattle.wc_world.specs.Required.{AreSameNames, IsTrimmedFor}
 use Rattle.wc_world.specs.World.{adapter_trim_input}
 use Rattle.wc_world.proofs.RestrictedLemmas.{occurrence_there}

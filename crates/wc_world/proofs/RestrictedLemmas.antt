@@ -21,9 +21,9 @@ use Rattle.wc_names.specs.ExportViews.{ExportView}
 use Rattle.wc_names.specs.SameButIndices.{without_indices}
 use Rattle.wc_names.specs.Imports.{ExternType, func_type, global_type, memory_type, table_type}
 use Rattle.wc_gc.specs.EditedImage.{edited_image}
-use Rattle.wc_gc.specs.Liveness.{TrimInput}
-use Rattle.wc_gc.specs.Parts.{SettingsValue}
-use Rattle.wc_gc.specs.Restriction as trimming
+use Rattle.wc_gc.specs.LiveItems.{TrimInput}
+use Rattle.wc_gc.specs.Parts.{SettingsView}
+use Rattle.wc_gc.specs.RestrictionLaws as trimming
 use Rattle.wc_gc.specs.TrimmedText.{IsTrimmed}
 use Rattle.wc_gc.specs.Unfolding.{edited_from}
 use Rattle.wc_gc.proofs.ImportOriginLemmas.{zip_weaker}
@@ -32,13 +32,13 @@ use Rattle.wc_validate.specs.Imports.Record.{extern_type}
 use Rattle.wc_validate.specs.Exports.Record.{item_type}
 use Rattle.wc_validate.specs.Restriction as recording
 use Rattle.wc_validate.specs.Restriction.{AreNeeded, IsModuleRecord, RestrictionsRecorded, RestrictionsValid}
-use Rattle.wc_validate.specs.Validated.{IsModuleCause, IsRecordOf, ValidationInput, ModuleRecord}
+use Rattle.wc_validate.specs.Validate.{IsModuleCause, IsRecordOf, ValidationInput, ModuleRecord}
 use Rattle.wc_validate.specs.declared.fault.ValidateFault.{ValidateFault}
 use Rattle.wc_validate.specs.declared.fault.ValidateFault.TheVariants as fault
 use Rattle.wc_validate.proofs.ContainedLemmas.{all_by, mapped_there}
 use Rattle.wc_validate.proofs.ExclusionLemmas.{no_component}
 use Rattle.wc_validate.proofs.InstanceLemmas.{same}
-use Rattle.wc_world.specs.Adapters.{NamedAdapter, validation_input_of, required_names}
+use Rattle.wc_world.specs.Trimming.{NamedAdapter, validation_input_of, required_names}
 use Rattle.wc_world.specs.Restricted.{IsCollision, IsTrimFor, RefusedAsCollision, TrimmedIsRestricted}
 use Rattle.wc_world.specs.World.{settings_of, adapter_trim_input}
 
@@ -119,7 +119,7 @@ recorded : HasOneValue SpellsModule → (j : ValidationInput) (bytes : List ℕ)
 recorded one j bytes r m h s = subst (λ z. IsModuleRecord j z r) (one bytes h.value m h.spelled s) (record { imports = h.imports; exports = h.exports })
 
 module _ (e : EncoderView) (restriction : trimming.TrimmedIsRestriction) (one : HasOneValue SpellsModule) where
-  module _ (j : ValidationInput) (s : SettingsValue) (w : TrimInput) (text : List ℕ) (first : ModuleRecord) (t : IsTrimFor e j s w text first) where
+  module _ (j : ValidationInput) (s : SettingsView) (w : TrimInput) (text : List ℕ) (first : ModuleRecord) (t : IsTrimFor e j s w text first) where
     abbrev adapter : ModuleValue
     adapter = t.trimmed.image.value
 
@@ -149,7 +149,7 @@ module _ (e : EncoderView) (restriction : trimming.TrimmedIsRestriction) (one : 
         records = law j (adapter j s w text first t) m first last w.required t.encoder t.no_library t.no_renames (original j s w text first t) t.needed (restricts s.realloc w.required (adapter j s w text first t) m of) (recorded one j text last m r r.spelled);
       }
 
-  collision : RestrictionsValid e → (j : ValidationInput) (s : SettingsValue) (w : TrimInput) (text : List ℕ) (first : ModuleRecord) (f : ValidateFault) → IsTrimFor e j s w text first → f ≢ fault.Memory → (m : ModuleValue) → SpellsModule text m → IsModuleCause j m f → IsCollision text f
+  collision : RestrictionsValid e → (j : ValidationInput) (s : SettingsView) (w : TrimInput) (text : List ℕ) (first : ModuleRecord) (f : ValidateFault) → IsTrimFor e j s w text first → f ≢ fault.Memory → (m : ModuleValue) → SpellsModule text m → IsModuleCause j m f → IsCollision text f
   collision law j s w text first f t other m spells cause =
       let v = adapter j s w text first t in
       let is = law j v m first w.required f t.encoder t.no_library (original j s w text first t) t.needed (restricts s.realloc w.required v m (restricted j s w text first t m spells)) spells.has_sections.valid other cause in

@@ -13,10 +13,10 @@ use Rattle.std.proofs.Math.Bool.{or-true}
 use Rattle.semver.specs.Identifiers.{parts_text}
 use Rattle.wc_resolve.specs.declared.functions.AbiVariant.{AbiVariant}
 use Rattle.wc_resolve.specs.declared.functions.AbiVariant.TheVariants.{GuestImport, GuestImportAsync}
-use Rattle.wc_resolve.specs.Queries.{external_id, implemented, key_text}
+use Rattle.wc_resolve.specs.Resolve.{external_id, implemented, key_text}
 use Rattle.wc_resolve.specs.Ranges.{IsKeyIn}
 use Rattle.wc_resolve.specs.Views.{FunctionView, InterfaceView, ItemView, KeyView, WorldView, function_item, interface_item, type_item}
-use Rattle.wc_resolve.specs.World.{ResolveView}
+use Rattle.wc_resolve.specs.Kinds.{ResolveView}
 use Rattle.wc_resolve.proofs.ViewedLemmas.{all_unviewed}
 use Rattle.wc_encoder.specs.Distinct.{AreNamesDistinct, HaveNames, import_name}
 use Rattle.wc_adapters.specs.Entries.{Entries}
@@ -26,8 +26,8 @@ use Rattle.wc_names.specs.Keys.{key_eq}
 use Rattle.wc_maps.specs.Names.{under_name}
 use Rattle.wc_names.specs.Views.{ImportView, interface_func, world_func}
 use Rattle.wc_world.specs.FunctionsLowered.{IsLoweredIn, abi_eq, is_lowering_key, lowering_at, lowering_in}
-use Rattle.wc_world.specs.Lowered.{Lowerer, all_entries, called_lowering, entries_from, function_lowerings, interface_entry, interface_lowerings, is_import_of}
-use Rattle.wc_world.specs.Lowered.{item_lowerings, lowered_function, own_entry, own_lowerings, same_call, type_lowerings}
+use Rattle.wc_world.specs.Lowering.{Lowerer, all_entries, called_lowering, entries_from, function_lowerings, interface_entry, interface_lowerings, is_import_of}
+use Rattle.wc_world.specs.Lowering.{item_lowerings, lowered_function, own_entry, own_lowerings, same_call, type_lowerings}
 use Rattle.wc_world.specs.Views.{ImportMapView, ImportedView}
 
 same_bytes : (n : List ℕ) → bytes_eq n n ≡ true

@@ -15,7 +15,7 @@ use Rattle.std.proofs.Math.Bool.{or-true}
 use Rattle.std.proofs.lemmas.Option.{same_Some}
 use Rattle.wc_resolve.specs.declared.ids.InterfaceId.{InterfaceId}
 use Rattle.wc_resolve.specs.Dependencies.{direct_dependencies, id_of_interface, interface_ids}
-use Rattle.wc_resolve.specs.World.{ResolveView, Leads, refers, further}
+use Rattle.wc_resolve.specs.Kinds.{ResolveView, Leads, refers, further}
 use Rattle.wc_resolve.proofs.SearchLemmas.{contains_cons, contains_head, contains_none, contains_tail}
 use Rattle.wc_adapters.specs.Entries.{Entries}
 use Rattle.wc_world.specs.Used.{IsUsedPart, HasUsedSet, IsUsedSet, Used, UsedView, exported_dependencies, has_interface, is_exported_itself, same_interface}
@@ -92,14 +92,6 @@ module _ (x : ℕ) (old inserted test new : ℕ → Bool) (put : (j : ℕ) → i
     closed y j leads (inl same) = has_test j ((used j).1 (subst (λ z. Used r exports z j) (sym same) leads))
     closed y j leads (inr (inl h)) = has_old j (a.closed y j h leads)
     closed y j leads (inr (inr h)) = has_test j ((used j).1 (leads_on ((used y).0 h) leads))
-
-pub used_part_there : (r : ResolveView) (exports : Entries) (i : ℕ) (passed : List ℕ) (x : ℕ) (test : ℕ → Bool) → test x ≡ true
-    → IsUsedPart r exports i passed test → IsUsedPart r exports i (passed ++ x ∷ []) test
-used_part_there r exports i passed x test has a = record {
-  only_used = a.only_used;
-  closed = a.closed;
-  there = λ y h. elim (Contains-push_cases passed x y h) [ inl before ↦ a.there y before | inr same ↦ subst (λ z. test z ≡ true) same has ];
-}
 
 pub used_part_none : (r : ResolveView) (exports : Entries) (i : ℕ) (test : ℕ → Bool) → ((j : ℕ) → test j ≡ false) → IsUsedPart r exports i [] test
 used_part_none r exports i test none = record {

@@ -16,7 +16,7 @@ use Rattle.wc_resolve.specs.Views.{InterfaceView, ItemView, KeyView, WorldView, 
 use Rattle.wc_resolve.specs.Views.{world_entry}
 use Rattle.wc_resolve.specs.WellFormed.{HasMatchingKeys, IsMatchingKey, KeysMatch}
 use Rattle.wc_resolve.proofs.WellFormedLemmas.{all_get}
-use Rattle.wc_resolve.specs.World.{ResolveView}
+use Rattle.wc_resolve.specs.Kinds.{ResolveView}
 use Rattle.wc_resolve.proofs.KeyLemmas.{nat_from}
 use Rattle.wc_resolve.proofs.SearchLemmas.{contains_cons, contains_head, contains_none, contains_tail}
 use Rattle.wc_encoder.specs.Dependencies.{AreDependenciesBefore, AreItemsIn, DependsOn}

@@ -5,8 +5,8 @@ use Rattle.std.proofs.lemmas.List.Elements.{All-from_recursion}
 use Rattle.wc_adapters.specs.Adapters.{LibraryView}
 use Rattle.wc_encoder.specs.EncoderParts.{EncoderView}
 use Rattle.wc_validate.specs.Laws.{RecordsInRange}
-use Rattle.wc_validate.specs.Validated.{IsRecordOf, ModuleRecord}
-use Rattle.wc_world.specs.Adapters.{NamedAdapter, validation_input_of, needed_adapters}
+use Rattle.wc_validate.specs.Validate.{IsRecordOf, ModuleRecord}
+use Rattle.wc_world.specs.Trimming.{NamedAdapter, validation_input_of, needed_adapters}
 use Rattle.wc_world.specs.Live.{AreImportsOf}
 use Rattle.wc_world.specs.Views.{NamedWorldAdapter, WorldAdapterView}
 use Rattle.wc_world.specs.World.{AreAdapters, IsAdapterOf, IsTrimmedOrLibrary}

@@ -5,14 +5,14 @@ use Rattle.std.specs.declared.alloc.Global.{Global}
 use Rattle.wc_read.specs.declared.types.MemoryType.{MemoryType}
 use Rattle.wc_encoder.specs.EncoderParts.{EncoderView}
 use Rattle.wc_gc.specs.TrimmedText.{IsTrimmed}
-use Rattle.wc_gc.specs.Trimming.{IsTrimFault}
+use Rattle.wc_gc.specs.Trim.{IsTrimFault}
 use Rattle.wc_gc.specs.declared.fault.GcFault.{GcFault}
 use Rattle.wc_gc.specs.declared.fault.GcFault.TheVariants.{Memory as trim_memory}
 use Rattle.wc_validate.specs.Imports.Map.{memory_in}
-use Rattle.wc_validate.specs.Validated.{IsValidateCause, IsRecordOf, ValidationInput, ModuleRecord, main_input}
+use Rattle.wc_validate.specs.Validate.{IsValidateCause, IsRecordOf, ValidationInput, ModuleRecord, main_input}
 use Rattle.wc_validate.specs.declared.fault.ValidateFault.{ValidateFault}
 use Rattle.wc_validate.specs.declared.fault.ValidateFault.TheVariants.{Memory as module_memory}
-use Rattle.wc_world.specs.Adapters.{NamedAdapter, is_adapter_needed, validation_input_of, needed_adapters, main_page_size, page_size}
+use Rattle.wc_world.specs.Trimming.{NamedAdapter, is_adapter_needed, validation_input_of, needed_adapters, main_page_size, page_size}
 use Rattle.wc_world.specs.Restricted.{IsCollision}
 use Rattle.wc_world.specs.Views.{NamedWorldAdapter, WorldAdapterView}
 use Rattle.wc_world.specs.World.{IsAdapterOf, IsTrimmedOrLibrary, settings_of, adapter_trim_input}

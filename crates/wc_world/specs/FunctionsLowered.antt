@@ -6,9 +6,9 @@ use Rattle.std.specs.Str.{bytes_eq}
 use Rattle.semver.specs.Identifiers.{parts_text}
 use Rattle.wc_resolve.specs.declared.functions.AbiVariant.{AbiVariant}
 use Rattle.wc_resolve.specs.declared.functions.AbiVariant.TheVariants.{GuestExport, GuestExportAsync, GuestExportAsyncStackful, GuestImport, GuestImportAsync}
-use Rattle.wc_resolve.specs.Queries.{key_text}
+use Rattle.wc_resolve.specs.Resolve.{key_text}
 use Rattle.wc_resolve.specs.Ranges.{IsKeyIn}
-use Rattle.wc_resolve.specs.World.{ResolveView}
+use Rattle.wc_resolve.specs.Kinds.{ResolveView}
 use Rattle.wc_encoder.specs.EncoderParts.{EncoderView}
 use Rattle.wc_names.specs.Views.{ImportView, interface_func, world_func}
 use Rattle.wc_world.specs.Options.{OptionsOf}

@@ -3,8 +3,8 @@ pub mod Used
 pub mod Views
 pub mod WorldViews
 pub mod Slots
-pub mod Lowered
-pub mod Adapters
+pub mod Lowering
+pub mod Trimming
 pub mod Live
 pub mod World
 pub mod Causes

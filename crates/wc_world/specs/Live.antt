@@ -8,7 +8,7 @@ use Rattle.wc_resolve.specs.Dependencies.{interface_owning}
 use Rattle.wc_resolve.specs.Live.{list_union, listing_from}
 use Rattle.wc_resolve.specs.Roots.{function_roots, item_roots, type_roots}
 use Rattle.wc_resolve.specs.Views.{ItemView, KeyView, WorldView, interface_item, FunctionView}
-use Rattle.wc_resolve.specs.World.{ResolveView}
+use Rattle.wc_resolve.specs.Kinds.{ResolveView}
 use Rattle.wc_resolve.specs.declared.ids.InterfaceId.{InterfaceId}
 use Rattle.wc_resolve.specs.declared.ids.TypeId.{TypeId}
 use Rattle.wc_encoder.specs.Dependencies.{AreItemsIn}
@@ -21,7 +21,7 @@ use Rattle.wc_names.specs.Views.{ImportView, PayloadTypeView, PayloadView, async
 use Rattle.wc_validate.specs.Imports.Entries.{Records}
 use Rattle.wc_validate.specs.Imports.Map.{imports_in}
 use Rattle.wc_validate.specs.Requirements.{functions_of}
-use Rattle.wc_validate.specs.Validated.{ModuleRecord}
+use Rattle.wc_validate.specs.Validate.{ModuleRecord}
 use Rattle.wc_world.specs.Private.ImportedItems.{is_in}
 use Rattle.wc_world.specs.Slots.{imports_of}
 use Rattle.wc_world.specs.Used.{UsedView}

@@ -8,9 +8,9 @@ use Rattle.wc_resolve.specs.declared.functions.AbiVariant.TheVariants.{GuestImpo
 use Rattle.wc_resolve.specs.declared.types.WitType.{WitType}
 use Rattle.wc_resolve.specs.Contents.{has_text, holds_string, holds_string_or_list, text_of}
 use Rattle.wc_resolve.specs.Flat.{flat_of}
-use Rattle.wc_resolve.specs.Signatures.{SignatureView, flatten_functype}
+use Rattle.wc_resolve.specs.Signature.{SignatureView, flatten_functype}
 use Rattle.wc_resolve.specs.Views.{FunctionView}
-use Rattle.wc_resolve.specs.World.{ResolveView}
+use Rattle.wc_resolve.specs.Kinds.{ResolveView}
 
 -- which options a function has when it is lowered in this way
 abbrev pub OptionsOf : Type 0

@@ -6,14 +6,14 @@ use Rattle.std.specs.Option.{IsSome, option_map}
 use Rattle.std.specs.Str.{bytes_eq}
 use Rattle.wc_adapters.specs.Adapters.{AdapterView}
 use Rattle.wc_encoder.specs.EncoderParts.{EncoderView}
-use Rattle.wc_gc.specs.Liveness.{TrimInput}
-use Rattle.wc_gc.specs.TrimPlaces.{IsPlace as IsPlaceOfTrim}
+use Rattle.wc_gc.specs.LiveItems.{TrimInput}
+use Rattle.wc_gc.specs.TrimPlace.{IsPlace as IsPlaceOfTrim}
 use Rattle.wc_gc.specs.declared.fault.GcFault.{GcFault}
 use Rattle.wc_gc.specs.declared.trim_place.TrimPlace.{TrimPlace}
-use Rattle.wc_validate.specs.Places.{IsPlace, IsUnplaced, place_view}
-use Rattle.wc_validate.specs.Validated.{ModuleRecord, ValidationInput, main_input}
+use Rattle.wc_validate.specs.Explain.{IsPlace, IsUnplaced, place_view}
+use Rattle.wc_validate.specs.Validate.{ModuleRecord, ValidationInput, main_input}
 use Rattle.wc_validate.specs.declared.fault.ValidateFault.{ValidateFault}
-use Rattle.wc_world.specs.Adapters.{NamedAdapter, is_adapter_needed, validation_input_of}
+use Rattle.wc_world.specs.Trimming.{NamedAdapter, is_adapter_needed, validation_input_of}
 use Rattle.wc_world.specs.Causes.{IsMinimizedReached, IsRefused, IsTrimReached, IsUntrimmed}
 use Rattle.wc_world.specs.World.{IsMainRecord, adapter_trim_input}
 use Rattle.wc_world.specs.declared.fault.WorldFault.{WorldFault}

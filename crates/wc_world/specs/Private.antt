@@ -1,6 +1,6 @@
 -- Words of contracts of private functions. No contract of a public function cites these, directly or through others.
-pub mod AdapterInput
-pub mod Explained
+pub mod Adapters
+pub mod Places
 pub mod LoweringContext
 pub mod ImportedItems
 pub mod LiveAdditions

@@ -1,8 +1,8 @@
 -- The exports that are required of an adapter in a component's world.
 use Rattle.std.specs.Prelude.{◌≡◌, ◌↔◌, ℕ, List, Contains}
 use Rattle.wc_encoder.specs.EncoderParts.{EncoderView}
-use Rattle.wc_validate.specs.Validated.{ModuleRecord}
-use Rattle.wc_world.specs.Adapters.{NamedAdapter}
+use Rattle.wc_validate.specs.Validate.{ModuleRecord}
+use Rattle.wc_world.specs.Trimming.{NamedAdapter}
 use Rattle.wc_world.specs.Views.{WorldAdapterView}
 use Rattle.wc_world.specs.World.{IsTrimmedAdapter, adapter_trim_input}
 

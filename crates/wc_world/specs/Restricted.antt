@@ -4,18 +4,18 @@ use Rattle.std.specs.Prelude.{◌≡◌, ◌≢◌, ℕ, List, None}
 use Rattle.wc_read.specs.Modules.{ModuleValue, SpellsModule}
 use Rattle.wc_write.specs.Values.{AreBytes}
 use Rattle.wc_encoder.specs.EncoderParts.{EncoderView}
-use Rattle.wc_gc.specs.Liveness.{TrimInput}
-use Rattle.wc_gc.specs.Parts.{SettingsValue}
-use Rattle.wc_gc.specs.Restriction.{IsRestriction}
+use Rattle.wc_gc.specs.LiveItems.{TrimInput}
+use Rattle.wc_gc.specs.Parts.{SettingsView}
+use Rattle.wc_gc.specs.RestrictionLaws.{IsRestriction}
 use Rattle.wc_gc.specs.TrimmedText.{IsTrimmed}
 use Rattle.wc_validate.specs.Restriction.{AreNeeded, HasCollision, IsRestrictedRecord}
-use Rattle.wc_validate.specs.Validated.{IsValidateCause, IsRecordOf, ValidationInput, ModuleRecord}
+use Rattle.wc_validate.specs.Validate.{IsValidateCause, IsRecordOf, ValidationInput, ModuleRecord}
 use Rattle.wc_validate.specs.declared.fault.ValidateFault.{ValidateFault}
 use Rattle.wc_validate.specs.declared.fault.ValidateFault.TheVariants.{DuplicateImport, Memory}
 
 -- the record of a trimmed adapter is that of the adapter, restricted: to the imports that its required exports reach,
 -- but reallocs; besides these the main module's realloc is imported
-pub record IsRestrictedTrim (s : SettingsValue) (w : TrimInput) (text : List ℕ) (first last : ModuleRecord) : Type 0 where
+pub record IsRestrictedTrim (s : SettingsView) (w : TrimInput) (text : List ℕ) (first last : ModuleRecord) : Type 0 where
   pub adapter : ModuleValue
   pub trimmed : ModuleValue
   pub spells_adapter : SpellsModule w.bytes adapter
@@ -32,7 +32,7 @@ pub record IsCollision (text : List ℕ) (f : ValidateFault) : Type 0 where
 
 -- an adapter, no library, that is valid for a validation input, and its trimmed text; the exports that are recorded and
 -- those that the validation input requires are required
-pub record IsTrimFor (e : EncoderView) (j : ValidationInput) (s : SettingsValue) (w : TrimInput) (text : List ℕ) (first : ModuleRecord) : Type 0 where
+pub record IsTrimFor (e : EncoderView) (j : ValidationInput) (s : SettingsView) (w : TrimInput) (text : List ℕ) (first : ModuleRecord) : Type 0 where
   pub encoder : j.encoder ≡ e
   pub no_library : j.library ≡ None
   pub no_renames : j.renames ≡ None
@@ -44,12 +44,12 @@ pub record IsTrimFor (e : EncoderView) (j : ValidationInput) (s : SettingsValue)
 -- the record of a trimmed adapter is that of the adapter, restricted
 abbrev pub TrimmedIsRestricted : EncoderView → Type 0
 TrimmedIsRestricted e =
-    (j : ValidationInput) (s : SettingsValue) (w : TrimInput) (text : List ℕ) (first last : ModuleRecord)
+    (j : ValidationInput) (s : SettingsView) (w : TrimInput) (text : List ℕ) (first last : ModuleRecord)
     → IsTrimFor e j s w text first → IsRecordOf j text last → IsRestrictedTrim s w text first last
 
 -- where a trimmed adapter is refused for the same validation input, that is for a second import of one name of the main
 -- module
 abbrev pub RefusedAsCollision : EncoderView → Type 0
 RefusedAsCollision e =
-    (j : ValidationInput) (s : SettingsValue) (w : TrimInput) (text : List ℕ) (first : ModuleRecord) (f : ValidateFault)
+    (j : ValidationInput) (s : SettingsView) (w : TrimInput) (text : List ℕ) (first : ModuleRecord) (f : ValidateFault)
     → IsTrimFor e j s w text first → f ≢ Memory → IsValidateCause j text f → IsCollision text f

@@ -3,7 +3,7 @@ use Rattle.std.specs.Prelude.{◌++◌, ◌==◌, ℕ, List, map, Bool, true, fa
 use Rattle.std.specs.List.{flat_map, list_any}
 use Rattle.wc_names.specs.Views.{ImportView, builtin, context_get, context_set, thread_new_indirect}
 use Rattle.wc_validate.specs.Imports.Map.{imports_in}
-use Rattle.wc_validate.specs.Validated.{ModuleRecord}
+use Rattle.wc_validate.specs.Validate.{ModuleRecord}
 use Rattle.wc_validate.specs.Imports.Entries.{Records}
 use Rattle.wc_world.specs.Views.{ComponentWorldView, NamedWorldAdapter}
 

@@ -6,7 +6,7 @@ use Rattle.std.specs.Option.{IsSome, option_map}
 use Rattle.wc_resolve.specs.declared.ids.InterfaceId.{InterfaceId}
 use Rattle.wc_resolve.specs.Dependencies.{direct_dependencies}
 use Rattle.wc_resolve.specs.Views.{ItemView, interface_item, interface_key, KeyView}
-use Rattle.wc_resolve.specs.World.{ResolveView, Leads}
+use Rattle.wc_resolve.specs.Kinds.{ResolveView, Leads}
 use Rattle.wc_encoder.specs.Distinct.{exported_interfaces}
 use Rattle.wc_adapters.specs.Entries.{Entries}
 use Rattle.wc_names.specs.Keys.{item_under}

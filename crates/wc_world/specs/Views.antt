@@ -2,10 +2,10 @@
 -- order.
 use Rattle.std.specs.Prelude.{ℕ, Bool, List, Option}
 use Rattle.wc_resolve.specs.declared.functions.AbiVariant.{AbiVariant}
-use Rattle.wc_resolve.specs.Signatures.{SignatureView}
+use Rattle.wc_resolve.specs.Signature.{SignatureView}
 use Rattle.wc_adapters.specs.Adapters.{LibraryView}
 use Rattle.wc_encoder.specs.EncoderParts.{EncoderView}
-use Rattle.wc_validate.specs.Validated.{ModuleRecord}
+use Rattle.wc_validate.specs.Validate.{ModuleRecord}
 use Rattle.wc_world.specs.Used.{UsedView}
 
 -- an adapter or a library: its bytes, whether they are borrowed, what is recorded of them, and how it is instantiated, if

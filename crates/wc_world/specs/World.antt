@@ -4,14 +4,14 @@ use Rattle.std.specs.List.{AllZip}
 use Rattle.wc_read.specs.declared.types.MemoryType.{MemoryType}
 use Rattle.wc_adapters.specs.Adapters.{LibraryView}
 use Rattle.wc_encoder.specs.EncoderParts.{EncoderView, world_exports}
-use Rattle.wc_gc.specs.Liveness.{TrimInput}
-use Rattle.wc_gc.specs.Parts.{SettingsValue}
+use Rattle.wc_gc.specs.LiveItems.{TrimInput}
+use Rattle.wc_gc.specs.Parts.{SettingsView}
 use Rattle.wc_gc.specs.TrimmedText.{IsTrimmed}
 use Rattle.wc_validate.specs.Imports.Map.{memory_in, required_in}
-use Rattle.wc_validate.specs.Validated.{IsRecordOf, ModuleRecord, main_input}
-use Rattle.wc_world.specs.Adapters.{NamedAdapter, is_adapter_needed, validation_input_of, main_page_size, main_realloc, page_size, required_names, trim_page_size_log2, HasOtherName}
+use Rattle.wc_validate.specs.Validate.{IsRecordOf, ModuleRecord, main_input}
+use Rattle.wc_world.specs.Trimming.{NamedAdapter, is_adapter_needed, validation_input_of, main_page_size, main_realloc, page_size, required_names, trim_page_size_log2, HasOtherName}
 use Rattle.wc_world.specs.Live.{AreLive}
-use Rattle.wc_world.specs.Lowered.{lowered}
+use Rattle.wc_world.specs.Lowering.{lowered}
 use Rattle.wc_world.specs.Options.{OptionsOf}
 use Rattle.wc_world.specs.Restricted.{IsRestrictedTrim}
 use Rattle.wc_world.specs.Used.{AreUsed}
@@ -26,7 +26,7 @@ abbrev pub adapter_trim_input : ModuleRecord → NamedAdapter → ModuleRecord �
 adapter_trim_input main x first = record { bytes = x.1.wasm; required = required_names (required_in main.imports x.0) first.exports }
 
 -- how an adapter is trimmed: by the main module's realloc, and by the pages of the memory that the adapter imports
-abbrev pub settings_of : EncoderView → ModuleRecord → ModuleRecord → SettingsValue
+abbrev pub settings_of : EncoderView → ModuleRecord → ModuleRecord → SettingsView
 settings_of e main first = record {
   realloc = main_realloc e.realloc_via_memory_grow main.exports;
   page_size_log2 = trim_page_size_log2 (memory_in first.imports);

@@ -15,9 +15,9 @@ use Rattle.wc_resolve.specs.declared.ids.InterfaceId.{InterfaceId}
 use Rattle.wc_resolve.specs.declared.ids.TypeId.{TypeId}
 use Rattle.wc_resolve.specs.Dependencies.{id_of_interface}
 use Rattle.wc_resolve.specs.Roots.{indices}
-use Rattle.wc_resolve.specs.Signatures.{signature_view}
+use Rattle.wc_resolve.specs.Signature.{signature_view}
 use Rattle.wc_adapters.specs.Adapters.{library_view}
-use Rattle.wc_validate.specs.Validated.{module_record}
+use Rattle.wc_validate.specs.Validate.{module_record}
 use Rattle.wc_validate.specs.Imports.Map.{required_entry}
 use Rattle.wc_world.specs.Used.{used_view}
 use Rattle.wc_world.specs.Views.{ComponentWorldView, ImportMapView, ImportedView, LoweringKey, LoweringView, NamedWorldAdapter, WorldAdapterView, direct, indirect, resource_drop}

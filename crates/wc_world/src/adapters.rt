@@ -2,12 +2,12 @@
 
 ghost use Rattle.std.specs.Prelude.{◌≡◌, ◌⊎◌, IfErr, IfOk, None, OnOk};
 ghost use Rattle.wc_adapters.specs.Adapters.{adapter_view as input_view};
-ghost use Rattle.wc_gc.specs.Liveness.{names_of};
+ghost use Rattle.wc_gc.specs.LiveItems.{names_of};
 ghost use Rattle.wc_validate.specs.Imports.Map.{required_in};
-ghost use Rattle.wc_validate.specs.Validated.{IsRecordOf, IsValidateCause, ModuleRecord, module_record};
-ghost use Rattle.wc_world.specs.Adapters.{is_adapter_needed, required_names};
+ghost use Rattle.wc_validate.specs.Validate.{IsRecordOf, IsValidateCause, ModuleRecord, module_record};
+ghost use Rattle.wc_world.specs.Trimming.{is_adapter_needed, required_names};
 ghost use Rattle.wc_world.specs.Causes.{IsFirstStop, IsNamed, IsNeededStop};
-ghost use Rattle.wc_world.specs.Private.AdapterInput.{IsAdapterOfInput, IsInputFault, IsInputRecord, IsInputTrimmedOrLibrary, IsInputTrimmedText, IsNeeded, IsTrimmedInput, main_of, named_adapter, required_of, validated_as};
+ghost use Rattle.wc_world.specs.Private.Adapters.{IsAdapterOfInput, IsInputFault, IsInputRecord, IsInputTrimmedOrLibrary, IsInputTrimmedText, IsNeeded, IsTrimmedInput, main_of, named_adapter, required_of, validated_as};
 ghost use Rattle.wc_world.specs.declared.fault.WorldFault.TheVariants.{Memory};
 ghost use Rattle.wc_world.specs.Views.{WorldAdapterView};
 ghost use Rattle.wc_world.specs.World.{AddsAdapterOnOk, AreAdapters, HasMainPages};

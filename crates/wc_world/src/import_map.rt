@@ -3,13 +3,13 @@
 ghost use Rattle.std.specs.Prelude.{◌≡◌, ◌<◌, All, IfOk, None, OnOk, Some, length, map};
 ghost use Rattle.std.specs.Option.{option_map};
 ghost use Rattle.wc_resolve.specs.Dependencies.{id_of_interface};
-ghost use Rattle.wc_resolve.specs.Queries.{external_id, implemented};
+ghost use Rattle.wc_resolve.specs.Resolve.{external_id, implemented};
 ghost use Rattle.wc_resolve.specs.Ranges.{IsItemIn};
 ghost use Rattle.wc_resolve.specs.Views.{item_view, key_view, world_entry};
 ghost use Rattle.wc_encoder.specs.Distinct.{item_interface};
 ghost use Rattle.wc_adapters.specs.Entries.{entries_of};
-ghost use Rattle.wc_validate.specs.Validated.{module_record};
-ghost use Rattle.wc_world.specs.Lowered.{AreKeysDistinct, IfDistinct, IsImportable, IsLowerable, all_entries, lowered, lowerings_of_interface, own_entry, own_lowerings};
+ghost use Rattle.wc_validate.specs.Validate.{module_record};
+ghost use Rattle.wc_world.specs.Lowering.{AreKeysDistinct, IfDistinct, IsImportable, IsLowerable, all_entries, lowered, lowerings_of_interface, own_entry, own_lowerings};
 ghost use Rattle.wc_world.specs.WorldViews.{adapters_view, import_map_view, imported_entry, imported_view, lowering_entry};
 ghost use Rattle.wc_world.specs.Private.LoweringContext.{AddsEntryOnOk, AddsInterfaceOnOk, AreKept, ForLowerer};
 

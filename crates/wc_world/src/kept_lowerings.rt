@@ -1,8 +1,8 @@
 //! Lowerings of interfaces, kept: an interface that a world imports under several plain names is lowered once.
 
 ghost use Rattle.std.specs.Prelude.{◌≡◌, ◌<◌, ◌++◌, ◌∷◌, [], IfOk, OnOk, length, map};
-ghost use Rattle.wc_resolve.specs.Signatures.{signature_view};
-ghost use Rattle.wc_world.specs.Lowered.{lowerings_of_interface};
+ghost use Rattle.wc_resolve.specs.Signature.{signature_view};
+ghost use Rattle.wc_world.specs.Lowering.{lowerings_of_interface};
 ghost use Rattle.wc_world.specs.WorldViews.{lowering_entry, lowering_view};
 ghost use Rattle.wc_world.specs.Private.LoweringContext.{AreKept, ForLowerer};
 

@@ -5,7 +5,7 @@ ghost use Rattle.wc_resolve.specs.Views.{function_entry, function_view, item_vie
 ghost use Rattle.wc_resolve.specs.WellFormed.{IsUsable};
 ghost use Rattle.wc_adapters.specs.Entries.{entries_of};
 ghost use Rattle.wc_names.specs.Imports.{import_abi};
-ghost use Rattle.wc_world.specs.Lowered.{AreKeysDistinct, IsLowerable, Lowerer, called_lowering, function_lowerings, item_lowerings, lowerings_of_functions, lowerings_of_interface, lowerings_of_types, needs_main_memory, own_lowerings, resource_name, type_lowerings};
+ghost use Rattle.wc_world.specs.Lowering.{AreKeysDistinct, IsLowerable, Lowerer, called_lowering, function_lowerings, item_lowerings, lowerings_of_functions, lowerings_of_interface, lowerings_of_types, needs_main_memory, own_lowerings, resource_name, type_lowerings};
 ghost use Rattle.wc_world.specs.Private.ImportedItems.{interface_index};
 ghost use Rattle.wc_world.specs.WorldViews.{lowering_entry, lowering_view};
 ghost use Rattle.wc_world.specs.Private.LoweringContext.{AddsLowerings, ForLowerer, lowered_in};

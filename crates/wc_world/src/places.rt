@@ -5,10 +5,10 @@ ghost use Rattle.std.specs.Map.{lookup};
 ghost use Rattle.std.specs.Str.{bytes_eq};
 ghost use Rattle.wc_adapters.specs.Adapters.{adapter_view};
 ghost use Rattle.wc_validate.specs.Imports.Map.{required_in};
-ghost use Rattle.wc_validate.specs.Validated.{library_of, module_record};
+ghost use Rattle.wc_validate.specs.Validate.{library_of, module_record};
 ghost use Rattle.wc_world.specs.Places.{IsIn, IsWorldExplained};
-ghost use Rattle.wc_world.specs.Private.AdapterInput.{IsInputRecord, IsNeeded, main_of, named_adapter, required_of};
-ghost use Rattle.wc_world.specs.Private.Explained.{IsAdapterAnswer, IsFirstFound, IsInputAnswer, IsMainFound, IsMinimizedAnswer, IsNamedAnswer, IsRefusal, IsTrimAnswer, IsTrimRefusal, IsTrimmedFound, IsUnderAnswer, IsValidationAnswer, input_of};
+ghost use Rattle.wc_world.specs.Private.Adapters.{IsInputRecord, IsNeeded, main_of, named_adapter, required_of};
+ghost use Rattle.wc_world.specs.Private.Places.{IsAdapterAnswer, IsFirstFound, IsInputAnswer, IsMainFound, IsMinimizedAnswer, IsNamedAnswer, IsRefusal, IsTrimAnswer, IsTrimRefusal, IsTrimmedFound, IsUnderAnswer, IsValidationAnswer, input_of};
 ghost use Rattle.wc_world.specs.World.{IsMainRecord};
 
 use crate::adapters::{AdapterInput, MainContext, input_record, is_input_needed, trimmed_bytes};

@@ -1,10 +1,10 @@
 //! The exports for which adapters were trimmed.
 
 ghost use Rattle.std.specs.Prelude.{◌≡◌, IfOk};
-ghost use Rattle.wc_gc.specs.Liveness.{names_of};
+ghost use Rattle.wc_gc.specs.LiveItems.{names_of};
 ghost use Rattle.wc_validate.specs.Imports.Map.{required_in};
-ghost use Rattle.wc_validate.specs.Validated.{module_record};
-ghost use Rattle.wc_world.specs.Adapters.{required_names};
+ghost use Rattle.wc_validate.specs.Validate.{module_record};
+ghost use Rattle.wc_world.specs.Trimming.{required_names};
 ghost use Rattle.wc_world.specs.Required.{IsTrimmedFor};
 
 use crate::trimming::required_names;

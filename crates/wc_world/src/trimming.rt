@@ -7,8 +7,8 @@ ghost use Rattle.wc_resolve.specs.Ranges.{IsItemIn};
 ghost use Rattle.wc_adapters.specs.Adapters.{adapter_view};
 ghost use Rattle.wc_encoder.specs.Dependencies.{AreItemsIn};
 ghost use Rattle.wc_adapters.specs.Entries.{entries_of};
-ghost use Rattle.wc_world.specs.Adapters.{HasNames, exports_function, has_function, is_needed, main_page_size, main_realloc, page_size, required_names, trim_page_size_log2};
-ghost use Rattle.wc_gc.specs.Liveness.{names_of};
+ghost use Rattle.wc_world.specs.Trimming.{HasNames, exports_function, has_function, is_needed, main_page_size, main_realloc, page_size, required_names, trim_page_size_log2};
+ghost use Rattle.wc_gc.specs.LiveItems.{names_of};
 ghost use Rattle.wc_world.specs.WorldViews.{required_view};
 
 use std::alloc::{AllocError, Global};

@@ -4,10 +4,10 @@ ghost use Rattle.std.specs.Prelude.{◌≡◌, ◌↔◌, ◌⊎◌, IfErr, IfOk
 ghost use Rattle.std.specs.List.{list_any};
 ghost use Rattle.wc_encoder.specs.EncoderParts.{world_exports};
 ghost use Rattle.wc_names.specs.Views.{import_view};
-ghost use Rattle.wc_validate.specs.Validated.{module_record};
+ghost use Rattle.wc_validate.specs.Validate.{module_record};
 ghost use Rattle.wc_world.specs.Causes.{HasNoCause, IsComponentWorldCause, IsMemory};
 ghost use Rattle.wc_world.specs.Live.{AreLive};
-ghost use Rattle.wc_world.specs.Lowered.{lowered};
+ghost use Rattle.wc_world.specs.Lowering.{lowered};
 ghost use Rattle.wc_world.specs.Slots.{IsSlot1Used, module_uses_slot_1, uses_slot_1};
 ghost use Rattle.wc_world.specs.Used.{AreUsed, used_view};
 ghost use Rattle.wc_world.specs.World.{AreAdapters, IsMainRecord, IsWorldOf};

@@ -6,8 +6,8 @@ use Rattle.wc_read.specs.Operators.{instr_value}
 use Rattle.wc_read.specs.Bodies.{body_value}
 use Rattle.wc_read.specs.declared.bodies.Body.{Body}
 use Rattle.wc_write.specs.Text.{vector_text}
-use Rattle.wc_write.specs.OperatorText.{instr_text}
-use Rattle.wc_write.specs.BodyText.{locals_text, body_text}
+use Rattle.wc_write.specs.Operators.{instr_text}
+use Rattle.wc_write.specs.Bodies.{locals_text, body_text}
 
 pub body_written : (old : List ℕ) (b : Body) → (old ++ vector_text locals_text b.locals.items) ++ flat_map (λ i. instr_text (instr_value i)) b.operators.items ≡ old ++ body_text (body_value b)
 unfolding body_text

@@ -9,8 +9,8 @@ use Rattle.wc_read.specs.Bodies.{BodyValue, SpellsLocals, local_count, SpellsBod
 use Rattle.wc_read.specs.declared.bodies.Locals.{Locals}
 use Rattle.wc_read.proofs.BodiesLemmas.{body_one}
 use Rattle.wc_write.specs.Text.{number_text, val_type_text, vector_text}
-use Rattle.wc_write.specs.OperatorText.{instr_text}
-use Rattle.wc_write.specs.BodyText.{locals_text, body_text}
+use Rattle.wc_write.specs.Operators.{instr_text}
+use Rattle.wc_write.specs.Bodies.{locals_text, body_text}
 use Rattle.wc_write.specs.Values.{IsValType, IsInstr, IsBody}
 use Rattle.wc_write.proofs.TextLemmas.{number_32}
 use Rattle.wc_write.proofs.ValueTypeLemmas.{val_type_spelled, val_type_some}

@@ -19,11 +19,11 @@ use Rattle.wc_read.specs.declared.types.GlobalType.{GlobalType}
 use Rattle.wc_read.specs.declared.types.TableType.{TableType}
 use Rattle.wc_read.specs.declared.types.MemoryType.{MemoryType}
 use Rattle.wc_write.specs.Text.{number_text, vector_text, name_text, val_type_text, bounds_text, table_text, memory_text, global_text, import_type_text, import_text}
-use Rattle.wc_write.specs.OperatorText.{instr_text}
-use Rattle.wc_write.specs.BodyText.{body_text}
+use Rattle.wc_write.specs.Operators.{instr_text}
+use Rattle.wc_write.specs.Bodies.{body_text}
 use Rattle.wc_write.specs.Spaces.{DefinedValue}
 use Rattle.wc_write.specs.Values.{IsValType, IsFuncType, IsImport, IsTable, IsInstr}
-use Rattle.wc_write.specs.ModuleText.{func_type_text, export_text, operators_text, defined_global_text, code_text, items_content, SizeFits}
+use Rattle.wc_write.specs.Modules.{func_type_text, export_text, operators_text, defined_global_text, code_text, items_content, SizeFits}
 use Rattle.wc_write.specs.BuiltValues.{IsExport, IsWritableMemory, IsInitialiser}
 use Rattle.wc_write.proofs.NumberTextLemmas.{number_some}
 use Rattle.wc_write.proofs.TextLemmas.{number_32, name_spelled, global_spelled, table_spelled, memory_spelled, import_spelled}

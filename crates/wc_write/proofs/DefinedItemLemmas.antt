@@ -17,9 +17,9 @@ use Rattle.wc_read.specs.declared.items.Def.{Def}
 use Rattle.wc_read.specs.declared.items.Def.TheVariants.{Import as imported_def, Local as local_def}
 use Rattle.wc_read.specs.declared.items.Item.{Item}
 use Rattle.wc_write.specs.Text.{global_text}
-use Rattle.wc_write.specs.OperatorText.{instr_text}
+use Rattle.wc_write.specs.Operators.{instr_text}
 use Rattle.wc_write.specs.Spaces.{imports_of, DefinedValue, defined, defined_types, defined_contents, defined_value}
-use Rattle.wc_write.specs.ModuleText.{built_value_by, built_imports, defined_global_text, items_content}
+use Rattle.wc_write.specs.Modules.{built_value_by, built_imports, defined_global_text, items_content}
 use Rattle.wc_write.specs.declared.modules.Built.{Built}
 use Rattle.wc_write.specs.declared.spaces.Defined.{Defined}
 

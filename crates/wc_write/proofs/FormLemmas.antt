@@ -9,7 +9,7 @@ use Rattle.wc_read.specs.declared.operators.Opcode.TheVariants.{Byte, Misc, Vect
 use Rattle.wc_read.specs.declared.operators.Form.{Form}
 use Rattle.wc_read.specs.declared.operators.Form.TheVariants.{None as form_none, Block as form_block, Index as form_index, Indices as form_indices, Labels as form_labels, ValTypes as form_val_types, RefType as form_ref_type, MemArg as form_mem_arg, MemArgLane as form_mem_arg_lane, I32 as form_i32, I64 as form_i64, Bytes as form_bytes, Lane as form_lane, Zero as form_zero}
 use Rattle.wc_read.proofs.OptionsLemmas.{some_none}
-use Rattle.wc_write.specs.OperatorText.{opcode_text, fence_text}
+use Rattle.wc_write.specs.Operators.{opcode_text, fence_text}
 use Rattle.wc_write.proofs.TextLemmas.{number_32}
 
 -- the byte that a shape itself has

@@ -5,7 +5,7 @@ use Rattle.std.proofs.lemmas.List.Elements.{All-from_recursion}
 use Rattle.std.specs.Option.{option_map}
 use Rattle.wc_write.specs.Text.{number_text, table_text, memory_text, import_text}
 use Rattle.wc_write.specs.Spaces.{defined, defined_types, defined_contents}
-use Rattle.wc_write.specs.ModuleText.{BuiltValue, built_imports, func_type_text, export_text, defined_global_text, code_text, items_content, producers_content, OptionalSection, optional_sections, content_text, optional_section_text, SizeFits, SizesFit}
+use Rattle.wc_write.specs.Modules.{BuiltValue, built_imports, func_type_text, export_text, defined_global_text, code_text, items_content, producers_content, OptionalSection, optional_sections, content_text, optional_section_text, SizeFits, SizesFit}
 
 pub sections_written : (b : BuiltValue) (o0 o1 o2 o3 o4 o5 o6 o7 o8 o9 o10 : List ℕ) → o1 ≡ o0 ++ content_text 1 (items_content func_type_text b.types) → o2 ≡ o1 ++ content_text 2 (items_content import_text (built_imports b)) → o3 ≡ o2 ++ content_text 3 (items_content number_text (defined_types b.funcs)) → o4 ≡ o3 ++ content_text 4 (items_content table_text (defined_types b.tables)) → o5 ≡ o4 ++ content_text 5 (items_content memory_text (defined_types b.memories)) → o6 ≡ o5 ++ content_text 6 (items_content defined_global_text (defined b.globals)) → o7 ≡ o6 ++ content_text 7 (items_content export_text b.exports) → o8 ≡ o7 ++ content_text 8 (option_map number_text b.start) → o9 ≡ o8 ++ content_text 10 (items_content code_text (defined_contents b.funcs)) → o10 ≡ o9 ++ content_text 0 (option_map producers_content b.producers) → o10 ≡ o0 ++ flat_map optional_section_text (optional_sections b)
 unfolding optional_sections

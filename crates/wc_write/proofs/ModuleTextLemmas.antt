@@ -26,9 +26,9 @@ use Rattle.wc_read.proofs.MeetsLemmas.{one_value}
 use Rattle.wc_read.proofs.InitsLemmas.{init_meets}
 use Rattle.wc_read.proofs.ModulesLemmas.{modules_one}
 use Rattle.wc_write.specs.Text.{number_text, global_text}
-use Rattle.wc_write.specs.BodyText.{body_text}
+use Rattle.wc_write.specs.Bodies.{body_text}
 use Rattle.wc_write.specs.Spaces.{imports_of, DefinedValue, defined, defined_types, defined_contents}
-use Rattle.wc_write.specs.ModuleText.{BuiltValue, built_imports, defined_global_text, code_text, operators_text, optional_sections, optional_section_text, built_text, SizesFit}
+use Rattle.wc_write.specs.Modules.{BuiltValue, built_imports, defined_global_text, code_text, operators_text, optional_sections, optional_section_text, built_text, SizesFit}
 use Rattle.wc_write.specs.BuiltValues.{item_seen, written_module, IsItemOf, IsModuleOf, IsInitialiser, IsBuilt, IsReadBody, IsReadInit, IsRead}
 use Rattle.wc_write.proofs.BodyTextLemmas.{body_read}
 use Rattle.wc_write.proofs.VectorTextLemmas.{back_shorter}

@@ -14,10 +14,10 @@ use Rattle.wc_read.specs.Producers.{producers_text, IsProducers, NoneReads, Last
 use Rattle.wc_read.specs.Modules.{is_segments}
 use Rattle.wc_read.proofs.MeetsLemmas.{one_spelling}
 use Rattle.wc_read.proofs.TypesLemmas.{name_meets}
-use Rattle.wc_read.specs.Reading.Bytes.{name_at}
+use Rattle.wc_read.specs.Reading.Reader.{name_at}
 use Rattle.std.proofs.lemmas.Str.{IsUtf8-from_ascii}
 use Rattle.wc_write.specs.Text.{number_text, name_text}
-use Rattle.wc_write.specs.ModuleText.{OptionalSection, content_text, SizeFits, producers_content}
+use Rattle.wc_write.specs.Modules.{OptionalSection, content_text, SizeFits, producers_content}
 use Rattle.wc_write.proofs.TextLemmas.{number_32, section_spelled}
 
 -- the sections that have contents

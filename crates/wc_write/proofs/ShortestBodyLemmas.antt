@@ -18,8 +18,8 @@ use Rattle.wc_read.specs.declared.operators.MemArg.{MemArg}
 use Rattle.wc_read.specs.declared.operators.Form.{Form}
 use Rattle.wc_read.specs.declared.operators.Form.TheVariants.{None as form_none, Block as form_block, Index as form_index, Indices as form_indices, Labels as form_labels, ValTypes as form_val_types, RefType as form_ref_type, MemArg as form_mem_arg, MemArgLane as form_mem_arg_lane, I32 as form_i32, I64 as form_i64, Bytes as form_bytes, Lane as form_lane, Zero as form_zero}
 use Rattle.wc_write.specs.Text.{number_text, val_type_text, vector_text}
-use Rattle.wc_write.specs.OperatorText.{opcode_text, block_type_text, mem_arg_text, immediates_text, instr_text}
-use Rattle.wc_write.specs.BodyText.{locals_text, body_text}
+use Rattle.wc_write.specs.Operators.{opcode_text, block_type_text, mem_arg_text, immediates_text, instr_text}
+use Rattle.wc_write.specs.Bodies.{locals_text, body_text}
 use Rattle.wc_write.specs.Values.{AreBytes, IsValType, IsBlockType, IsMemArg, HasForm, IsInstr, IsBody}
 use Rattle.wc_write.proofs.ByteLemmas.{front_bytes, back_bytes, tail_bytes}
 use Rattle.wc_write.proofs.DigitLemmas.{digits_last}

@@ -26,10 +26,10 @@ use Rattle.wc_read.specs.declared.types.GlobalType.{GlobalType}
 use Rattle.wc_read.specs.declared.types.ImportType.{ImportType}
 use Rattle.wc_read.specs.declared.types.ImportType.TheVariants.{Func, Table, Memory, Global}
 use Rattle.wc_write.specs.Text.{number_text, vector_text, name_text, val_type_text, global_text, table_text, memory_text, import_text, section_text}
-use Rattle.wc_write.specs.OperatorText.{instr_text}
-use Rattle.wc_write.specs.BodyText.{body_text}
+use Rattle.wc_write.specs.Operators.{instr_text}
+use Rattle.wc_write.specs.Bodies.{body_text}
 use Rattle.wc_write.specs.Spaces.{import_by, imports_of, DefinedValue, defined_by, defined, defined_types, defined_contents}
-use Rattle.wc_write.specs.ModuleText.{BuiltValue, built_imports, func_type_text, export_text, operators_text, defined_global_text, code_text, items_content, producers_content, optional_sections, optional_section_text, content_text, built_text}
+use Rattle.wc_write.specs.Modules.{BuiltValue, built_imports, func_type_text, export_text, operators_text, defined_global_text, code_text, items_content, producers_content, optional_sections, optional_section_text, content_text, built_text}
 use Rattle.wc_write.specs.Values.{AreBytes}
 use Rattle.wc_write.specs.BuiltValues.{IsDefOf, IsItemOf, IsModuleOf}
 use Rattle.wc_write.proofs.ByteLemmas.{front_bytes, back_bytes, tail_bytes}

@@ -9,7 +9,7 @@ use Rattle.std.proofs.lemmas.List.{length-append}
 use Rattle.wc_read.specs.Sections.{SectionValue, SpellsSection, SpellsFrames, module_header}
 use Rattle.wc_read.specs.Order.{content_of}
 use Rattle.wc_write.specs.Text.{digits, number_text, section_text}
-use Rattle.wc_write.specs.ModuleText.{content_text}
+use Rattle.wc_write.specs.Modules.{content_text}
 use Rattle.wc_write.specs.Values.{AreBytes}
 use Rattle.wc_write.proofs.ByteLemmas.{back_bytes}
 use Rattle.wc_write.proofs.DigitLemmas.{digits_none, digits_last, digits_more}

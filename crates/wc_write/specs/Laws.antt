@@ -8,9 +8,9 @@ use Rattle.wc_read.specs.Operators.{InstrValue}
 use Rattle.wc_read.specs.Bodies.{BodyValue, SpellsBody}
 use Rattle.wc_read.specs.Inits.{SpellsInit}
 use Rattle.wc_read.specs.Modules.{ModuleValue, SpellsModule}
-use Rattle.wc_write.specs.BodyText.{body_text}
+use Rattle.wc_write.specs.Bodies.{body_text}
 use Rattle.wc_write.specs.Values.{AreBytes, IsU32, IsImport, IsBody}
-use Rattle.wc_write.specs.ModuleText.{BuiltValue, operators_text, built_text, SizesFit}
+use Rattle.wc_write.specs.Modules.{BuiltValue, operators_text, built_text, SizesFit}
 use Rattle.wc_write.specs.BuiltValues.{IsInitialiser, IsBuilt, IsReadBody, IsReadInit, IsRead, IsModuleOf, IsWritable}
 
 -- a number of at most 64 bits is spelled by its text

@@ -1,10 +1,10 @@
 pub mod Text
-pub mod OperatorText
-pub mod BodyText
+pub mod Operators
+pub mod Bodies
 pub mod Spaces
-pub mod ModuleText
+pub mod Modules
 pub mod Values
 pub mod BuiltValues
 pub mod Laws
-pub mod Sinks
+pub mod Sink
 pub mod Puts

@@ -4,8 +4,8 @@ ghost use Rattle.std.specs.Prelude.{◌≡◌, ◌++◌, IfOk, OnOk, IsOk, IsErr
 ghost use Rattle.wc_read.specs.Bodies.{BodyValue, body_value};
 ghost use Rattle.wc_read.specs.Operators.{instr_value};
 ghost use Rattle.wc_write.specs.Text.{FitsSize, ExceedsSize, vector_text};
-ghost use Rattle.wc_write.specs.OperatorText.{instr_text};
-ghost use Rattle.wc_write.specs.BodyText.{locals_text, body_text};
+ghost use Rattle.wc_write.specs.Operators.{instr_text};
+ghost use Rattle.wc_write.specs.Bodies.{locals_text, body_text};
 
 use crate::fault::WriteFault;
 use crate::numbers::put_number;

@@ -1,11 +1,11 @@
 //! The items of a module's sections (WebAssembly core specification, 5.3.6 and 5.5.7 to 5.5.10).
 
-ghost use Rattle.std.specs.Prelude.{◌≡◌, ◌++◌, OnOk};
+ghost use Rattle.std.specs.Prelude.{◌≡◌};
 ghost use Rattle.wc_read.specs.Types.{func_type_value};
 ghost use Rattle.wc_read.specs.Exports.{export_value, export_kind_code};
 ghost use Rattle.wc_read.specs.Inits.{init_value};
 ghost use Rattle.wc_write.specs.Text.{table_text, memory_text};
-ghost use Rattle.wc_write.specs.ModuleText.{func_type_text, export_text, defined_global_text};
+ghost use Rattle.wc_write.specs.Modules.{func_type_text, export_text, defined_global_text};
 ghost use Rattle.wc_write.specs.Spaces.{defined_value};
 
 use crate::numbers::{put_name, put_number};

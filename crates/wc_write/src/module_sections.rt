@@ -9,7 +9,7 @@ ghost use Rattle.wc_read.specs.Imports.{import_values};
 ghost use Rattle.wc_read.specs.Exports.{export_value};
 ghost use Rattle.wc_read.specs.Inits.{init_value};
 ghost use Rattle.wc_read.specs.Items.{item_value, table_value, memory_value};
-ghost use Rattle.wc_write.specs.ModuleText.{built_value_by, built_imports, code_text, code_text_of, items_content, type_section, import_section, func_section, table_section, memory_section, global_section, export_section, start_section, code_section, producers_section, AppendsSection, AppendsContent};
+ghost use Rattle.wc_write.specs.Modules.{built_value_by, built_imports, code_text, code_text_of, items_content, type_section, import_section, func_section, table_section, memory_section, global_section, export_section, start_section, code_section, producers_section, AppendsSection, AppendsContent};
 
 use crate::bodies::BodyText;
 use crate::fault::WriteFault;

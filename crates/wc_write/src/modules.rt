@@ -1,7 +1,7 @@
 //! Modules.
 
 ghost use Rattle.std.specs.Prelude.{◌≡◌, ◌++◌, IfOk, OnOk, IsOk, IsErrOf};
-ghost use Rattle.wc_write.specs.ModuleText.{SizesFit, built_value, built_value_by, sections_text, built_text};
+ghost use Rattle.wc_write.specs.Modules.{SizesFit, built_value, built_value_by, sections_text, built_text};
 
 use crate::bodies::BodyText;
 use crate::fault::WriteFault;
@@ -65,7 +65,7 @@ pub fn write_module(alloc: Global, built: &Built<'_>) -> Result<Vec<u8>, WriteFa
 ///
 /// - `TooLarge`: the content of a section has 2^32 bytes or more.
 /// - `Memory`: an allocation failed.
-#[tactic(auto, unfolding(crate::specs::ModuleText::built_text))]
+#[tactic(auto, unfolding(crate::specs::Modules::built_text))]
 pub fn write_module_of<C: BodyText>(
     alloc: Global,
     built: &Built<'_, C>,

@@ -98,7 +98,7 @@ pub struct WriterSink<W> {
 }
 
 impl<W: Destination> WriterSink<W> {
-    ghost use Rattle.wc_write.specs.Sinks.{writer_of, has_failed};
+    ghost use Rattle.wc_write.specs.Sink.{writer_of, has_failed};
 
     /// A sink that writes to `writer`, and is not failed.
     pub fn new(writer: W) -> Self
@@ -146,7 +146,7 @@ impl<W: Destination> WriterSink<W> {
 }
 
 impl<W: Destination> Sink for WriterSink<W> {
-    ghost use Rattle.wc_write.specs.Sinks.{writer_of, has_failed};
+    ghost use Rattle.wc_write.specs.Sink.{writer_of, has_failed};
 
     ghost written = { λ s. W.held (writer_of s) };
 

@@ -1,7 +1,7 @@
 -- A place of a fault has a line at least.
 use Rattle.std.proofs.Common.{◌≢◌, ℕ, List, [], ◌++◌, Option, Some, string_bytes}
 use Rattle.std.specs.Option.{option_map}
-use Rattle.wc_validate.specs.Places.{SubjectView, an_export, an_import, missing_export, missing_function, place_view}
+use Rattle.wc_validate.specs.Explain.{SubjectView, an_export, an_import, missing_export, missing_function, place_view}
 use Rattle.wc_world.specs.declared.places.ModulePlace.{ModulePlace}
 use Rattle.wc_world.specs.declared.places.ModulePlace.TheVariants as place
 use Rattle.wcplan_command.specs.Details.{module_place_lines, subject_line, world_fault_lines}

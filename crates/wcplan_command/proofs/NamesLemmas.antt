@@ -8,16 +8,16 @@ use Rattle.wc_selection.specs.ModuleKeys.{AreKeysThere, IsKeysCause}
 use Rattle.wc_selection.specs.Texts.{AreDistinct, first_parts, text_of}
 use Rattle.wc_selection.specs.declared.fault.RequestFault.{RequestFault}
 use Rattle.wc_selection.specs.declared.fault.RequestFault.TheVariants.{Memory as request_memory}
-use Rattle.wcplan_command.specs.Arguments.{CommandValue}
-use Rattle.wcplan_command.specs.Faults.{of_request}
+use Rattle.wcplan_command.specs.Arguments.{CommandView}
+use Rattle.wcplan_command.specs.Fault.{of_request}
 use Rattle.wcplan_command.specs.FileNames.{IsFilesCause}
 use Rattle.wcplan_command.specs.ModuleKeys.{AreAdaptersThere, AreExportersThere, AreNamesThere, IsGivenCause, IsNamesCause, adapter_names, request_of}
-use Rattle.wcplan_command.specs.declared.faults.SelectionFault.{SelectionFault}
-use Rattle.wcplan_command.specs.declared.faults.SelectionFault.TheVariants.{Memory, Request, EmptyDirectory, FileName, MainFile}
+use Rattle.wcplan_command.specs.declared.fault.SelectionFault.{SelectionFault}
+use Rattle.wcplan_command.specs.declared.fault.SelectionFault.TheVariants.{Memory, Request, EmptyDirectory, FileName, MainFile}
 
 -- files that can't be named
 
-files_cause : (c : CommandValue) (keys : List NamedKey) (directory : Option (List ℕ)) → c.out ≡ directory → (f : SelectionFault)
+files_cause : (c : CommandView) (keys : List NamedKey) (directory : Option (List ℕ)) → c.out ≡ directory → (f : SelectionFault)
     → AreDistinct (adapter_names c) × AreExportersThere c → IsFilesCause directory (adapter_names c) f → IsNamesCause c keys f
 files_cause c keys None is f there h = absurd h
 files_cause c keys (Some d) is EmptyDirectory there h =
@@ -28,14 +28,14 @@ files_cause c keys (Some d) is (MainFile name) there h =
     (there.0, there.1, subst (λ o. IsFilesCause o (adapter_names c) (MainFile name)) (sym is) h)
 files_cause c keys (Some d) is f there h = absurd h.1
 
-pub files_failed : (c : CommandValue) (keys : List NamedKey) (adapters : Words) (f : SelectionFault) → map text_of adapters ≡ adapter_names c
+pub files_failed : (c : CommandView) (keys : List NamedKey) (adapters : Words) (f : SelectionFault) → map text_of adapters ≡ adapter_names c
     → AreDistinct (adapter_names c) × AreExportersThere c → IsFilesCause c.out (map text_of adapters) f → IsNamesCause c keys f
 files_failed c keys adapters f names there h =
     files_cause c keys c.out refl f there (subst (λ (l : List (List ℕ)). IsFilesCause c.out l f) names h)
 
 -- what is found of keys, where nothing is wrong with adapters
 
-pub keys_done : (c : CommandValue) (keys : List NamedKey) (r : Result (Unit {0}) SelectionFault) → AreAdaptersThere c
+pub keys_done : (c : CommandView) (keys : List NamedKey) (r : Result (Unit {0}) SelectionFault) → AreAdaptersThere c
     → OnOk r (AreKeysThere (given_keys (request_of c)) (texts_of keys)) → OnOk r (AreNamesThere c keys)
 keys_done c keys (Ok x) there h = record { adapters = there.0; exporters = there.1; files = there.2; keys_there = h }
 keys_done c keys (Err f) there h = tt
@@ -45,20 +45,20 @@ pub request_cause : (given texts : List (List ℕ)) (f : RequestFault) → IsKey
 request_cause given texts request_memory h = tt
 request_cause given texts f h = h
 
-cause_of_keys : (c : CommandValue) (keys : List NamedKey) (f : SelectionFault) → AreAdaptersThere c
+cause_of_keys : (c : CommandView) (keys : List NamedKey) (f : SelectionFault) → AreAdaptersThere c
     → IsGivenCause (given_keys (request_of c)) (texts_of keys) f → IsNamesCause c keys f
 cause_of_keys c keys Memory there h = tt
 cause_of_keys c keys (Request f) there h = (there, h)
 cause_of_keys c keys f there h = absurd h
 
-pub keys_failed : (c : CommandValue) (keys : List NamedKey) (r : Result (Unit {0}) SelectionFault) → AreAdaptersThere c
+pub keys_failed : (c : CommandView) (keys : List NamedKey) (r : Result (Unit {0}) SelectionFault) → AreAdaptersThere c
     → IfErr r (IsGivenCause (given_keys (request_of c)) (texts_of keys)) → IfErr r (IsNamesCause c keys)
 keys_failed c keys (Ok x) there h = tt
 keys_failed c keys (Err f) there h = cause_of_keys c keys f there h
 
 -- adapters, and those that have to export something, as they were found
 
-pub adapters_there : (c : CommandValue) (adapters exporters : Words) → map text_of adapters ≡ adapter_names c
+pub adapters_there : (c : CommandView) (adapters exporters : Words) → map text_of adapters ≡ adapter_names c
     → map text_of exporters ≡ first_parts c.adapter_exports
     → AreDistinct (map text_of adapters) → All (Contains (map text_of adapters)) (map text_of exporters) → AreDistinct (adapter_names c) × AreExportersThere c
 adapters_there c adapters exporters names others distinct there = (

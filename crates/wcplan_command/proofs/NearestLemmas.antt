@@ -10,12 +10,12 @@ use Rattle.wc_resolve.specs.declared.functions.Function.{Function}
 use Rattle.wc_resolve.specs.declared.ids.InterfaceId.{InterfaceId}
 use Rattle.wc_resolve.specs.declared.worlds.WorldItem.{WorldItem}
 use Rattle.wc_resolve.specs.declared.worlds.WorldKey.{WorldKey}
-use Rattle.wc_resolve.specs.Queries.{key_text}
+use Rattle.wc_resolve.specs.Resolve.{key_text}
 use Rattle.wc_resolve.specs.Ranges.{IsItemIn}
-use Rattle.wc_resolve.specs.Views.{FunctionView, InterfaceView, ItemView, KeyView, WorldView, function_entry, function_item, interface_item, item_view, key_view, type_item, world_entry}
-use Rattle.wc_resolve.specs.World.{ResolveView}
+use Rattle.wc_resolve.specs.Views.{FunctionView, ItemView, KeyView, WorldView, function_entry, function_item, interface_item, item_view, key_view, type_item, world_entry}
+use Rattle.wc_resolve.specs.Kinds.{ResolveView}
 use Rattle.wc_selection.specs.Keys.{NamedKey, named_keys, texts_of, with_text}
-use Rattle.wcplan_command.specs.Nearest.{first_near, function_names, has_key_text, interface_by, interface_for, is_near, key_texts, names_in, near_function}
+use Rattle.wcplan_command.specs.Nearest.{first_near, has_key_text, interface_by, interface_for, is_near, key_texts}
 
 abbrev Entry : Type 0
 Entry = WorldKey × WorldItem
@@ -111,13 +111,6 @@ module _ (left rest : Functions) (function : String Global × Function) (next : 
 
 pub name_none : (left : Functions) (name : List ℕ) (all : Option (List ℕ)) → left ≡ [] → first_near name (names_of left) ≡ all → None ≡ all
 name_none left name all none before = sym (ap (λ (z : Functions). first_near name (names_of z)) none) ∙ before
-
--- a function of the interface that the world imports under a text
-pub function_near : (e : EncoderView) (text name : List ℕ) (i : ℕ) (v : InterfaceView) → slice_get e.resolve.interfaces i ≡ Some v
-    → Some i ≡ interface_for e.resolve (world_imports e) text → near_function e text name ≡ first_near name (names_in v)
-function_near e text name i v there is =
-    ap (λ (o : Option ℕ). option_and_then (λ (j : ℕ). first_near name (function_names e.resolve j)) o) (sym is)
-    ∙ ap (λ (o : Option InterfaceView). first_near name (option_map_or names_in o [])) there
 
 -- what the world of an encoder imports and exports
 module _ (e : EncoderView) (r : ResolveView) (world : ℕ) (same : r ≡ e.resolve) (at : world ≡ e.world) where

@@ -8,15 +8,15 @@ use Rattle.wc_encoder.specs.declared.fault.EncoderFault.{EncoderFault}
 use Rattle.wc_encoder.specs.declared.fault.EncoderFault.TheVariants.{Memory as encoder_memory}
 use Rattle.wc_json.specs.Document.{DocumentView}
 use Rattle.wc_resolve.specs.Views.{key_view}
-use Rattle.wc_resolve.specs.World.{ResolveView}
+use Rattle.wc_resolve.specs.Kinds.{ResolveView}
 use Rattle.wc_resolve.specs.WellFormed.{IsWellFormed as IsResolve}
 use Rattle.wc_selection.proofs.ListLemmas.{passed_more}
 use Rattle.wc_selection.specs.KeyNames.{count_unversioned, request_keys}
 use Rattle.wc_selection.specs.Keys.{NamedKey}
 use Rattle.wc_selection.specs.ModuleKeys.{required_keys}
 use Rattle.wc_selection.specs.Texts.{first_parts, second_parts, text_pair}
-use Rattle.wcplan_command.specs.declared.faults.SelectionFault.{SelectionFault}
-use Rattle.wcplan_command.specs.declared.faults.SelectionFault.TheVariants.{Request}
+use Rattle.wcplan_command.specs.declared.fault.SelectionFault.{SelectionFault}
+use Rattle.wcplan_command.specs.declared.fault.SelectionFault.TheVariants.{Request}
 use Rattle.wc_selection.specs.declared.fault.RequestFault.TheVariants.{UnknownKey, SeveralKeys, RepeatedKey}
 use Rattle.std.proofs.lemmas.List.{map-append}
 use Rattle.std.specs.List.{AllPairs, AllZip}
@@ -31,13 +31,13 @@ use Rattle.wc_adapters.specs.declared.adapters.Adapter.{Adapter}
 use Rattle.wc_adapters.proofs.PairLemmas.{pairs_head, pairs_tail}
 use Rattle.wc_resolve.proofs.KeyLemmas.{texts_law}
 use Rattle.wc_resolve.proofs.SearchLemmas.{contains_cons, contains_head, contains_none, contains_tail}
-use Rattle.wcplan_command.specs.Faults.{of_dedupe, of_encoder}
+use Rattle.wcplan_command.specs.Fault.{of_dedupe, of_encoder}
 use Rattle.wcplan_command.specs.ModuleKeys.{AreNamesThere, IsMeant, IsNamesCause, request_of}
 use Rattle.wc_program.specs.Files.{Held}
-use Rattle.wcplan_command.specs.Arguments.{CommandValue}
+use Rattle.wcplan_command.specs.Arguments.{CommandView}
 use Rattle.wcplan_command.specs.Program.{AreWorldsIn, HoldsInput, IsAdapterIn, IsAdaptersCause, IsChosen, IsDocumentIn, IsListed, IsListedCause, IsListedSelection, IsMainCause, IsModulesCause, IsPartsOf, IsPartsWith, IsPlanCause, IsReadFault, IsUnknownKey, Reads}
-use Rattle.wcplan_command.specs.declared.faults.ProgramFault.{ProgramFault}
-use Rattle.wcplan_command.specs.declared.faults.ProgramFault.TheVariants.{Memory, CannotRead, Selection, NoExport, Dedupe}
+use Rattle.wcplan_command.specs.declared.fault.ProgramFault.{ProgramFault}
+use Rattle.wcplan_command.specs.declared.fault.ProgramFault.TheVariants.{Memory, CannotRead, Selection, NoExport, Dedupe}
 
 -- a fault of renaming is the cause of a fault of the main module
 pub main_cause : (before : Option Held) (fails : Reads) (path bytes : List ℕ) (f : DedupeFault) → HoldsInput before path bytes → IsDedupeCause bytes f
@@ -52,12 +52,12 @@ unread_main before fails path (CannotRead at p) h = h
 unread_main before fails path f h = absurd h
 
 -- a fault of the main module or of adapters is one of modules
-pub main_modules : (c : CommandValue) (before : Option Held) (fails : Reads) (f : ProgramFault) → IsMainCause before fails c.main f
+pub main_modules : (c : CommandView) (before : Option Held) (fails : Reads) (f : ProgramFault) → IsMainCause before fails c.main f
     → IsModulesCause c before fails f
 main_modules c before fails (CannotRead at p) h = (inl h.0, h.1)
 main_modules c before fails f h = h
 
-pub adapters_modules : (c : CommandValue) (before : Option Held) (fails : Reads) (f : ProgramFault) → IsAdaptersCause c fails f → IsModulesCause c before fails f
+pub adapters_modules : (c : CommandView) (before : Option Held) (fails : Reads) (f : ProgramFault) → IsAdaptersCause c fails f → IsModulesCause c before fails f
 adapters_modules c before fails Memory h = tt
 adapters_modules c before fails (CannotRead at p) h = (inr h.0, h.1)
 adapters_modules c before fails f h = absurd h
@@ -70,7 +70,7 @@ Pairs = List (Bor (List ℕ) × Bor (List ℕ))
 abbrev NotEqual : List ℕ → List ℕ → Type 0
 NotEqual a b = a ≢ b
 
-same_names : (before : Option Held) (c : CommandValue) (keys : List NamedKey) (xs : List (List ℕ × List ℕ)) (ys : List (List ℕ × AdapterView))
+same_names : (before : Option Held) (c : CommandView) (keys : List NamedKey) (xs : List (List ℕ × List ℕ)) (ys : List (List ℕ × AdapterView))
     → AllZip (IsAdapterIn before c keys) xs ys → map (λ (y : List ℕ × AdapterView). y.0) ys ≡ first_parts xs
 same_names before c keys [] [] h = refl
 same_names before c keys [] (y ∷ ys) h = absurd h
@@ -109,7 +109,7 @@ path_at (y ∷ ys) zero d lt = contains_head (second_parts (map text_pair ys)) y
 path_at (y ∷ ys) (suc k) d lt = contains_tail y.1.now (second_parts (map text_pair ys)) (get_or ys k d).1.now (path_at ys k d (omega arith))
 
 -- an adapter that could not be read
-pub path_cause : (c : CommandValue) (fails : Reads) (pairs : Pairs) (k : ℕ) (d : Bor (List ℕ) × Bor (List ℕ)) → k < length pairs
+pub path_cause : (c : CommandView) (fails : Reads) (pairs : Pairs) (k : ℕ) (d : Bor (List ℕ) × Bor (List ℕ)) → k < length pairs
     → map text_pair pairs ≡ c.adapters → (f : ProgramFault) → IsReadFault (get_or pairs k d).1.now fails f → IsAdaptersCause c fails f
 path_cause c fails pairs k d lt is Memory h = tt
 path_cause c fails pairs k d lt is (CannotRead path p) h = (
@@ -126,7 +126,7 @@ zip_push R (a ∷ xs) [] x y h r = absurd h
 zip_push R (a ∷ xs) (b ∷ ys) x y h r = (h.0, zip_push R xs ys x y h.1 r)
 
 -- one more adapter
-pub adapters_more : (before : Option Held) (c : CommandValue) (keys : List NamedKey) (pairs : Pairs) (k : ℕ) (d : Bor (List ℕ) × Bor (List ℕ))
+pub adapters_more : (before : Option Held) (c : CommandView) (keys : List NamedKey) (pairs : Pairs) (k : ℕ) (d : Bor (List ℕ) × Bor (List ℕ))
     (entries after : List (String Global × Adapter)) (name : String Global) (adapter : Adapter)
     → k < length pairs → AllPairs NotEqual (first_parts (map text_pair pairs)) → string_bytes name ≡ (get_or pairs k d).0.now
     → HoldsInput before (get_or pairs k d).1.now adapter.wasm.items
@@ -150,7 +150,7 @@ adapters_more before c keys pairs k d entries after name adapter lt distinct nam
 
 -- causes of faults that come before there is an encoder
 
-pub names_cause : (c : CommandValue) (before : Option Held) (fails : Reads) (d : DocumentView) (world : ℕ) (f : ProgramFault)
+pub names_cause : (c : CommandView) (before : Option Held) (fails : Reads) (d : DocumentView) (world : ℕ) (f : ProgramFault)
     → IsDocumentIn before c.worlds d → IsMeant d c.world world → IsResolve d.parts
     → IsListedCause c (request_keys (request_of c) d.parts world) f → IsPlanCause c before fails f
 names_cause c before fails d world Memory document selected formed cause = tt
@@ -159,7 +159,7 @@ names_cause c before fails d world (NoExport key listing) document selected form
 names_cause c before fails d world f document selected formed cause = absurd cause
 
 -- a key that isn't there
-unknown_listed : (c : CommandValue) (keys : List NamedKey) (key : Bor (List ℕ)) (g : ProgramFault) → IsNamesCause c keys (Request (UnknownKey key))
+unknown_listed : (c : CommandView) (keys : List NamedKey) (key : Bor (List ℕ)) (g : ProgramFault) → IsNamesCause c keys (Request (UnknownKey key))
     → IsUnknownKey keys key g → IsListedCause c keys g
 unknown_listed c keys key Memory cause h = tt
 unknown_listed c keys key (Selection (Request (RepeatedKey k))) cause h =
@@ -171,33 +171,33 @@ unknown_listed c keys key (NoExport k listing) cause h =
 unknown_listed c keys key g cause h = absurd h
 
 -- another fault of names
-selection_listed : (c : CommandValue) (keys : List NamedKey) (f g : SelectionFault) → IsNamesCause c keys f → IsListed f keys (Selection g)
+selection_listed : (c : CommandView) (keys : List NamedKey) (f g : SelectionFault) → IsNamesCause c keys f → IsListed f keys (Selection g)
     → IsListedCause c keys (Selection g)
 selection_listed c keys (Request (UnknownKey key)) g cause listed = unknown_listed c keys key (Selection g) cause listed
 selection_listed c keys (Request (SeveralKeys key)) g cause listed = absurd cause.1
 selection_listed c keys (Request (RepeatedKey key)) g cause listed = subst (IsListedSelection c keys) (sym listed) (inl cause)
 selection_listed c keys f g cause listed = subst (IsListedSelection c keys) (sym listed) cause
 
-pub listed_cause : (c : CommandValue) (keys : List NamedKey) (f : SelectionFault) (g : ProgramFault) → IsNamesCause c keys f
+pub listed_cause : (c : CommandView) (keys : List NamedKey) (f : SelectionFault) (g : ProgramFault) → IsNamesCause c keys f
     → IsListed f keys g → IsListedCause c keys g
 listed_cause c keys (Request (UnknownKey key)) g cause listed = unknown_listed c keys key g cause listed
 listed_cause c keys f Memory cause listed = tt
 listed_cause c keys f (Selection g) cause listed = selection_listed c keys f g cause listed
 listed_cause c keys f g cause listed = absurd listed
 
-pub modules_cause : (c : CommandValue) (before : Option Held) (fails : Reads) (d : DocumentView) (world : ℕ) (f : ProgramFault)
+pub modules_cause : (c : CommandView) (before : Option Held) (fails : Reads) (d : DocumentView) (world : ℕ) (f : ProgramFault)
     → IsChosen c before d world → IsModulesCause c before fails f → IsPlanCause c before fails f
 modules_cause c before fails d world Memory chosen h = tt
 modules_cause c before fails d world (CannotRead path p) chosen h = inr ((d, world, chosen), h)
 modules_cause c before fails d world (Dedupe f) chosen h = ((d, world, chosen), h)
 modules_cause c before fails d world f chosen h = absurd h
 
-pub encoder_cause : (c : CommandValue) (before : Option Held) (fails : Reads) (e : EncoderView) (f : EncoderFault) → IsPartsOf c before e → IsEncoderCause e f
+pub encoder_cause : (c : CommandView) (before : Option Held) (fails : Reads) (e : EncoderView) (f : EncoderFault) → IsPartsOf c before e → IsEncoderCause e f
     → IsPlanCause c before fails (of_encoder f)
 encoder_cause c before fails e encoder_memory parts cause = tt
 encoder_cause c before fails e f parts cause = (e, parts, (λ e. cc), cause)
 
-pub parts_of : (c : CommandValue) (before : Option Held) (d : DocumentView) (world : ℕ) (keys : List NamedKey) (e : EncoderView) → IsChosen c before d world
+pub parts_of : (c : CommandView) (before : Option Held) (d : DocumentView) (world : ℕ) (keys : List NamedKey) (e : EncoderView) → IsChosen c before d world
     → e.world ≡ world → e.resolve ≡ d.parts → keys ≡ request_keys (request_of c) d.parts world → IsPartsWith c before keys e → IsPartsOf c before e
 parts_of c before d world keys e chosen at is keyed parts = record {
   document = d;
@@ -208,7 +208,7 @@ parts_of c before d world keys e chosen at is keyed parts = record {
 
 -- the world that is chosen, and what is encoded for it, of the worlds that were read
 
-module _ (c : CommandValue) (before : Option Held) (r : ResolveView) (world : ℕ) (there : AreWorldsIn c before r world) where
+module _ (c : CommandView) (before : Option Held) (r : ResolveView) (world : ℕ) (there : AreWorldsIn c before r world) where
   keys_of : (keys : List NamedKey) → keys ≡ request_keys (request_of c) r world → keys ≡ request_keys (request_of c) there.0.parts world
   keys_of keys keyed = keyed ∙ ap (λ q. request_keys (request_of c) q world) there.4
 

@@ -3,7 +3,7 @@ use Rattle.std.proofs.Common.{◌≡◌, ◌⊎◌, ℕ, List, [], ◌∷◌, Op
 use Rattle.std.specs.Borrow.{Bor}
 use Rattle.std.proofs.lemmas.List.{map-append}
 use Rattle.wc_encoder.specs.EncoderParts.{EncoderView}
-use Rattle.wc_plan.specs.Faults.{IsFaultNamed, IsFirstFault, UseFault, no_lowering, no_memory, no_realloc}
+use Rattle.wc_plan.specs.Fault.{IsFaultNamed, IsFirstFault, UseFault, no_lowering, no_memory, no_realloc}
 use Rattle.wc_plan.specs.declared.fault.PlanFault.{PlanFault}
 use Rattle.wc_plan.specs.declared.fault.PlanFault.TheVariants.{Memory as plan_memory, Output as plan_output}
 use Rattle.wc_program.specs.Files.{FailsFrom, Held, StoreChange, Writes}
@@ -13,7 +13,7 @@ use Rattle.wc_world.specs.Views.{ComponentWorldView}
 use Rattle.wc_world.specs.World.{IsWorldOf}
 use Rattle.wc_world.specs.declared.fault.WorldFault.{WorldFault}
 use Rattle.wc_world.specs.declared.fault.WorldFault.TheVariants.{Memory as world_memory}
-use Rattle.wcplan_command.specs.Arguments.{CommandValue, IsStop, Reading, wrong_value}
+use Rattle.wcplan_command.specs.Arguments.{CommandView, IsStop, Reading, wrong_view}
 use Rattle.wcplan_command.specs.Reading.{AsksMemory, read_arguments}
 use Rattle.wc_program.specs.Screen.{Printing, nothing, printed}
 use Rattle.wcplan_command.specs.declared.arguments.NoCommand.{NoCommand}
@@ -21,25 +21,25 @@ use Rattle.wcplan_command.specs.declared.arguments.NoCommand.TheVariants.{Memory
 use Rattle.wc_gc.specs.declared.fault.GcFault.{GcFault}
 use Rattle.wc_gc.specs.declared.fault.GcFault.TheVariants.{Memory as gc_memory}
 use Rattle.wc_ways.specs.WaysFaults.{IsWaysFault}
-use Rattle.wcplan_command.specs.Faults.{of_gc, of_plan, program_fault_text}
+use Rattle.wcplan_command.specs.Fault.{of_gc, of_plan, program_fault_text}
 use Rattle.wcplan_command.specs.Program.{CommandEnds, EndsWell, EndsWith, IsEncoderOf, IsPlanCause, IsPlanned, IsPrintedText, IsReported, IsRunCause, IsUnwrittenFile, ReadingEnds, Reads, WritesAll, file_view, files_of}
 use Rattle.wcplan_command.specs.Private.Runs.{AnswersStop, IsDescriptionFault, IsOfWorld, IsReportedWith, IsWritingFault}
-use Rattle.wcplan_command.specs.declared.faults.ProgramFault.{ProgramFault}
-use Rattle.wcplan_command.specs.declared.faults.ProgramFault.TheVariants.{CannotMake, CannotWrite, Output, Ways, World, Memory as program_memory}
+use Rattle.wcplan_command.specs.declared.fault.ProgramFault.{ProgramFault}
+use Rattle.wcplan_command.specs.declared.fault.ProgramFault.TheVariants.{CannotMake, CannotWrite, Output, Ways, World, Memory as program_memory}
 
 -- paths with the bytes of their files
 abbrev Files : Type 0
 Files = List (String Global × Bor (List ℕ))
 
 -- before files are written nothing is printed
-pub quiet : (c : CommandValue) (files : StoreChange) (out : Printing → Type 0) (f : ProgramFault) → files.after ≡ files.before → out nothing
+pub quiet : (c : CommandView) (files : StoreChange) (out : Printing → Type 0) (f : ProgramFault) → files.after ≡ files.before → out nothing
     → IsPlanCause c files.before files.IsFailedRead f → IsRunCause c files out f
 quiet c files out (CannotMake path) kept still h = absurd h
 quiet c files out (CannotWrite path) kept still h = absurd h
 quiet c files out Output kept still h = absurd h
 quiet c files out f kept still h = (h, kept, still)
 
-module _ (c : CommandValue) (before : Option Held) (fails : Reads) where
+module _ (c : CommandView) (before : Option Held) (fails : Reads) where
   -- a fault of the component's world
   pub world_cause : (e : EncoderView) (f : WorldFault) (g : ProgramFault) → IsEncoderOf c before e → IsWorldMemory e f ⊎ IsComponentWorldCause e f
       → IsOfWorld e f g → IsPlanCause c before fails g
@@ -70,13 +70,13 @@ pub ways_fault : (w : ComponentWorldView) (f : GcFault) → IsWaysFault w f → 
 ways_fault w gc_memory h = tt
 ways_fault w f h = ((λ e. cc), h)
 
-pub description_cause : (c : CommandValue) (before : Option Held) (fails : Reads) (w : ComponentWorldView) (f : ProgramFault) → IsPlanned c before w
+pub description_cause : (c : CommandView) (before : Option Held) (fails : Reads) (w : ComponentWorldView) (f : ProgramFault) → IsPlanned c before w
     → IsDescriptionFault w f → IsPlanCause c before fails f
 description_cause c before fails w program_memory planned h = tt
 description_cause c before fails w (Ways f) planned h = (w, planned, h.0, h.1)
 description_cause c before fails w f planned h = absurd h
 
-module _ (c : CommandValue) (change : StoreChange) (out : Printing → Type 0) (w : ComponentWorldView) (planned : IsPlanned c change.before w)
+module _ (c : CommandView) (change : StoreChange) (out : Printing → Type 0) (w : ComponentWorldView) (planned : IsPlanned c change.before w)
     (files : Files) (outputs : map file_view files ≡ files_of c.out w)
   where
     -- all files were written, and the lines printed
@@ -107,23 +107,23 @@ module _ (c : CommandValue) (change : StoreChange) (out : Printing → Type 0) (
 
 -- how the program ends by what its arguments are read as
 
-pub ends_by_command : (arguments : List (List ℕ)) (c : CommandValue) (files : StoreChange)
+pub ends_by_command : (arguments : List (List ℕ)) (c : CommandView) (files : StoreChange)
     (out err : Printing → Type 0) (status : ℕ) → read_arguments arguments ≡ Ok c → CommandEnds c files out err status
     → EndsWith arguments files out err status
 ends_by_command arguments c files out err status read ends =
-    inl (subst (λ (r : Reading CommandValue). ReadingEnds r files out err status) (sym read) ends)
+    inl (subst (λ (r : Reading CommandView). ReadingEnds r files out err status) (sym read) ends)
 
 pub ends_by_stop : (arguments : List (List ℕ)) (e : NoCommand) (files : StoreChange) (out err : Printing → Type 0) (status : ℕ)
     → files.after ≡ files.before → IsStop (AsksMemory arguments) (read_arguments arguments) e → AnswersStop e out err status
     → EndsWith arguments files out err status
 ends_by_stop arguments Memory files out err status kept stops answer = inr (inl stops, kept, answer)
 ends_by_stop arguments Help files out err status kept stops answer =
-    inl (subst (λ (r : Reading CommandValue). ReadingEnds r files out err status) (sym stops) (kept, answer))
+    inl (subst (λ (r : Reading CommandView). ReadingEnds r files out err status) (sym stops) (kept, answer))
 ends_by_stop arguments Version files out err status kept stops answer =
-    inl (subst (λ (r : Reading CommandValue). ReadingEnds r files out err status) (sym stops) (kept, answer))
+    inl (subst (λ (r : Reading CommandView). ReadingEnds r files out err status) (sym stops) (kept, answer))
 ends_by_stop arguments (Wrong w) files out err status kept stops (inl answer) =
-    inl (subst (λ (r : Reading CommandValue). ReadingEnds r files out err status) (sym stops) (kept, answer))
-ends_by_stop arguments (Wrong w) files out err status kept stops (inr none) = inr (inr (wrong_value w, stops), kept, none)
+    inl (subst (λ (r : Reading CommandView). ReadingEnds r files out err status) (sym stops) (kept, answer))
+ends_by_stop arguments (Wrong w) files out err status kept stops (inr none) = inr (inr (wrong_view w, stops), kept, none)
 
 -- files that are written one after another: one more is
 pub writes_more : (before middle after : Option Held) (files : Files) (file : String Global × Bor (List ℕ)) → WritesAll before middle (map file_view files)

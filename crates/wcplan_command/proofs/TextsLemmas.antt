@@ -3,17 +3,17 @@ use Rattle.std.proofs.Common.{◌≡◌, ◌+◌, ◌<◌, ℕ, List, length, ma
 use Rattle.std.proofs.lemmas.List.{drop_more}
 use Rattle.wcplan_command.specs.declared.arguments.NoCommand.{NoCommand}
 use Rattle.wcplan_command.specs.declared.arguments.NoCommand.TheVariants.{Memory, Help, Version, Wrong}
-use Rattle.wcplan_command.specs.Arguments.{CommandValue, GoesOnTo, IsStop, IsStopOf, Reading, Stop, help, version, wrong, wrong_value}
-use Rattle.wcplan_command.specs.Reading.{AsksAt, AsksFrom, DraftValue, KeepsMore, go_on, read_from, take_up}
+use Rattle.wcplan_command.specs.Arguments.{CommandView, GoesOnTo, IsStop, IsStopOf, Reading, Stop, help, version, wrong, wrong_view}
+use Rattle.wcplan_command.specs.Reading.{AsksAt, AsksFrom, DraftView, KeepsMore, go_on, read_from, take_up}
 
 abbrev pub Arguments : Type 0
 Arguments = List (String Global)
 
 abbrev State : Type 0
-State = CommandValue × DraftValue
+State = CommandView × DraftView
 
 -- what is left of arguments, from an index on
-abbrev pub read_left : Arguments → ℕ → State → Reading CommandValue
+abbrev pub read_left : Arguments → ℕ → State → Reading CommandView
 read_left arguments k state = read_from (map string_bytes (drop k arguments)) state
 
 next_read : (arguments : Arguments) (k : ℕ) (d : String Global) (text : List ℕ) (state : State) → k < length arguments
@@ -24,14 +24,14 @@ next_read arguments k d text state lt is =
     ∙ ap (λ t. go_on (read_from (map string_bytes (drop (k + 1) arguments))) (take_up state.0 state.1 t)) (sym is)
 
 -- one more argument that was taken up
-pub taken_up : (arguments : Arguments) (k : ℕ) (d : String Global) (text : List ℕ) (state next : State) (all : Reading CommandValue) → k < length arguments
+pub taken_up : (arguments : Arguments) (k : ℕ) (d : String Global) (text : List ℕ) (state next : State) (all : Reading CommandView) → k < length arguments
     → text ≡ string_bytes (get_or arguments k d)
     → take_up state.0 state.1 text ≡ Ok next → read_left arguments k state ≡ all → read_left arguments (k + 1) next ≡ all
 taken_up arguments k d text state next all lt is taken before =
     sym (next_read arguments k d text state lt is ∙ ap (go_on (read_from (map string_bytes (drop (k + 1) arguments)))) taken) ∙ before
 
 -- one that was not
-stopped_by : (arguments : Arguments) (k : ℕ) (d : String Global) (text : List ℕ) (state : State) (all : Reading CommandValue) (stop : Stop)
+stopped_by : (arguments : Arguments) (k : ℕ) (d : String Global) (text : List ℕ) (state : State) (all : Reading CommandView) (stop : Stop)
     → k < length arguments → text ≡ string_bytes (get_or arguments k d)
     → take_up state.0 state.1 text ≡ Err stop → read_left arguments k state ≡ all → all ≡ Err stop
 stopped_by arguments k d text state all stop lt is stopped before =
@@ -60,7 +60,7 @@ asks_here : (state : State) (later : State → Type 0) (taken : Reading State) �
 asks_here state later (Ok next) more = inl more
 asks_here state later (Err stop) more = absurd more
 
-pub stopped_at : (arguments : Arguments) (k : ℕ) (d : String Global) (text : List ℕ) (state : State) (asks : Type 0) (all : Reading CommandValue) (e : NoCommand)
+pub stopped_at : (arguments : Arguments) (k : ℕ) (d : String Global) (text : List ℕ) (state : State) (asks : Type 0) (all : Reading CommandView) (e : NoCommand)
     → k < length arguments → text ≡ string_bytes (get_or arguments k d)
     → IsStopOf (KeepsMore state.0 state.1) (take_up state.0 state.1 text) e
     → read_left arguments k state ≡ all → (AsksLeft arguments k state → asks) → IsStop asks all e
@@ -70,4 +70,4 @@ stopped_at arguments k d text state asks all Memory lt is stopped before asked =
 stopped_at arguments k d text state asks all Help lt is stopped before asked = stopped_by arguments k d text state all help lt is stopped before
 stopped_at arguments k d text state asks all Version lt is stopped before asked = stopped_by arguments k d text state all version lt is stopped before
 stopped_at arguments k d text state asks all (Wrong w) lt is stopped before asked =
-    stopped_by arguments k d text state all (wrong (wrong_value w)) lt is stopped before
+    stopped_by arguments k d text state all (wrong (wrong_view w)) lt is stopped before

@@ -3,10 +3,10 @@ use Rattle.std.proofs.Common.{◌≡◌, ◌<◌, ℕ, List, length, Option, Som
 use Rattle.std.proofs.lemmas.Option.{same_Some}
 use Rattle.json.specs.Json.{document}
 use Rattle.wc_json.specs.Document.{DocumentView}
-use Rattle.wc_resolve.specs.Faults.{IsResolveCause}
-use Rattle.wc_resolve.specs.Places.{IsPlace}
+use Rattle.wc_resolve.specs.Fault.{IsResolveCause}
+use Rattle.wc_resolve.specs.Explain.{IsPlace}
 use Rattle.wc_resolve.specs.Refusals.{IsRefusal}
-use Rattle.wc_resolve.specs.World.{ResolveView}
+use Rattle.wc_resolve.specs.Kinds.{ResolveView}
 use Rattle.wc_resolve.specs.declared.explain.Part.{Part}
 use Rattle.wc_resolve.specs.declared.explain.Refusal.{Refusal}
 use Rattle.wc_resolve.specs.declared.fault.ResolveFault.{ResolveFault}
@@ -16,23 +16,23 @@ use Rattle.wc_selection.specs.Worlds.{IsWorldCause}
 use Rattle.wc_selection.specs.declared.fault.RequestFault.{RequestFault}
 use Rattle.wc_selection.specs.declared.fault.RequestFault.TheVariants.{Memory as request_memory, UnknownWorld}
 use Rattle.wc_program.specs.Files.{Held}
-use Rattle.wcplan_command.specs.Arguments.{CommandValue}
+use Rattle.wcplan_command.specs.Arguments.{CommandView}
 use Rattle.wcplan_command.specs.ModuleKeys.{IsMeant, IsNoneMeant}
-use Rattle.wcplan_command.specs.Parts.{IsPartExplanation, part_name}
+use Rattle.wcplan_command.specs.ExplainedPart.{IsPartExplanation, part_name}
 use Rattle.wcplan_command.specs.Private.Runs.{AreWorldsOf, IsExplainedPlace, IsMeaningCause, IsOfFault, IsOfRefused, IsUnknownWorld, IsUnselected, IsWorldsCause}
 use Rattle.wcplan_command.specs.Program.{AreWorldsIn, HoldsInput, IsDocumentIn, IsDocumentOf, IsPlanCause, IsReadFault, IsTextCause, Reads}
 use Rattle.wcplan_command.specs.declared.explained_part.ExplainedPart.{ExplainedPart}
-use Rattle.wcplan_command.specs.declared.faults.ProgramFault.{ProgramFault}
-use Rattle.wcplan_command.specs.declared.faults.ProgramFault.TheVariants.{Memory, CannotRead, NotText, NotJson, RepeatedMember, Json as json_fault, Selection, NoWorld, NoExport, Resolve, Dedupe, Encoder, World, Plan, Ways, CannotMake, CannotWrite, Output}
+use Rattle.wcplan_command.specs.declared.fault.ProgramFault.{ProgramFault}
+use Rattle.wcplan_command.specs.declared.fault.ProgramFault.TheVariants.{Memory, CannotRead, NotText, NotJson, RepeatedMember, Json as json_fault, Selection, NoWorld, NoExport, Resolve, Dedupe, Encoder, World, Plan, Ways, CannotMake, CannotWrite, Output}
 
 -- a file that could not be read, or is no text
-pub unread : (c : CommandValue) (before : Option Held) (fails : Reads) (f : ProgramFault) → IsReadFault c.worlds fails f → IsPlanCause c before fails f
+pub unread : (c : CommandView) (before : Option Held) (fails : Reads) (f : ProgramFault) → IsReadFault c.worlds fails f → IsPlanCause c before fails f
 unread c before fails Memory h = tt
 unread c before fails (CannotRead path p) h = inl h
 unread c before fails f h = absurd h
 
 -- a text has no worlds
-pub text_cause : (c : CommandValue) (text : List ℕ) (f : ProgramFault) → IsTextCause text f → IsWorldsCause c text f
+pub text_cause : (c : CommandView) (text : List ℕ) (f : ProgramFault) → IsTextCause text f → IsWorldsCause c text f
 text_cause c text Memory h = tt
 text_cause c text (Selection f) h = absurd h
 text_cause c text (NoWorld name listing) h = absurd h
@@ -52,7 +52,7 @@ unselected_cause d name request_memory g cause h = subst (IsMeaningCause d (Some
 unselected_cause d name (UnknownWorld n) g cause h = unknown_world d (Some name) g (cause.0, cause.1.1, cause.1.2) h
 unselected_cause d name f g cause h = subst (IsMeaningCause d (Some name)) (sym h) cause
 
-pub unselected : (c : CommandValue) (text : List ℕ) (d : DocumentView) (f : ProgramFault) → IsDocumentOf (document text) d
+pub unselected : (c : CommandView) (text : List ℕ) (d : DocumentView) (f : ProgramFault) → IsDocumentOf (document text) d
     → IsMeaningCause d c.world f → IsWorldsCause c text f
 unselected c text d Memory read cause = tt
 unselected c text d (Selection f) read cause = (d, read, cause)
@@ -79,7 +79,7 @@ about_parts : {E : Type 0} (r : ResolveView) (f : ResolveFault) (place : Option 
 about_parts r f place (Ok x) p is cause at h = about_place r f place x p is cause at h
 about_parts r f place (Err e) p is cause at h = tt
 
-of_fault : (c : CommandValue) (text : List ℕ) (d : DocumentView) (world : ℕ) (f : ResolveFault) (place : Option Part) (p : Part) (g : ProgramFault)
+of_fault : (c : CommandView) (text : List ℕ) (d : DocumentView) (world : ℕ) (f : ResolveFault) (place : Option Part) (p : Part) (g : ProgramFault)
     → IsDocumentOf (document text) d → IsMeant d c.world world → place ≡ Some p → IsResolveCause d.parts f → IsPlace d.parts f p → IsOfFault d.parts f place g
     → IsWorldsCause c text g
 of_fault c text d world resolve_memory place p g read meant is cause at h = subst (IsWorldsCause c text) (sym h) tt
@@ -88,7 +88,7 @@ of_fault c text d world f place p (Resolve g x) read meant is cause at h =
     (d, world, read, meant, (λ same. cc), cause, about_parts d.parts f place x p is cause at h.1)
 of_fault c text d world f place p g read meant is cause at h = absurd h
 
-pub resolve_cause : (c : CommandValue) (text : List ℕ) (d : DocumentView) (world : ℕ) (x : Refusal) (g : ProgramFault) → IsDocumentOf (document text) d
+pub resolve_cause : (c : CommandView) (text : List ℕ) (d : DocumentView) (world : ℕ) (x : Refusal) (g : ProgramFault) → IsDocumentOf (document text) d
     → IsMeant d c.world world → IsRefusal d.parts x → IsOfRefused d.parts x g → IsWorldsCause c text g
 resolve_cause c text d world x g read meant (inl memory) is =
     let none : g ≡ Memory = subst (λ k. IsOfFault d.parts k x.place g) memory.0 is in
@@ -100,11 +100,11 @@ resolve_cause c text d world x g read meant (inr (p, at, cause, place)) is = of_
 in_file : (before : Option Held) (path text : List ℕ) (d : DocumentView) → HoldsInput before path text → IsDocumentOf (document text) d → IsDocumentIn before path d
 in_file before path text d held read = record { text = text; read = held; document = read }
 
-pub there : (c : CommandValue) (before : Option Held) (text : List ℕ) (r : ResolveView) (world : ℕ) → HoldsInput before c.worlds text
+pub there : (c : CommandView) (before : Option Held) (text : List ℕ) (r : ResolveView) (world : ℕ) → HoldsInput before c.worlds text
     → AreWorldsOf c (document text) r world → AreWorldsIn c before r world
 there c before text r world held (d, read, selected, formed, same) = (d, in_file before c.worlds text d held read, selected, formed, same)
 
-pub file_cause : (c : CommandValue) (before : Option Held) (fails : Reads) (text : List ℕ) (f : ProgramFault) → HoldsInput before c.worlds text
+pub file_cause : (c : CommandView) (before : Option Held) (fails : Reads) (text : List ℕ) (f : ProgramFault) → HoldsInput before c.worlds text
     → IsWorldsCause c text f → IsPlanCause c before fails f
 file_cause c before fails text Memory held h = tt
 file_cause c before fails text (CannotRead path p) held h = absurd h
@@ -128,12 +128,12 @@ file_cause c before fails text Output held h = absurd h
 
 -- the same of an answer
 
-pub all_there : {M E : Type 0} (c : CommandValue) (before : Option Held) (text : List ℕ) (resolve : M → ResolveView) (world : M → ℕ) (r : Result M E)
+pub all_there : {M E : Type 0} (c : CommandView) (before : Option Held) (text : List ℕ) (resolve : M → ResolveView) (world : M → ℕ) (r : Result M E)
     → HoldsInput before c.worlds text → IfOk r (λ m. AreWorldsOf c (document text) (resolve m) (world m)) → IfOk r (λ m. AreWorldsIn c before (resolve m) (world m))
 all_there c before text resolve world (Ok m) held h = there c before text (resolve m) (world m) held h
 all_there c before text resolve world (Err f) held h = tt
 
-pub some_cause : {M : Type 0} (c : CommandValue) (before : Option Held) (fails : Reads) (text : List ℕ) (r : Result M ProgramFault)
+pub some_cause : {M : Type 0} (c : CommandView) (before : Option Held) (fails : Reads) (text : List ℕ) (r : Result M ProgramFault)
     → HoldsInput before c.worlds text → IfErr r (IsWorldsCause c text) → IfErr r (IsPlanCause c before fails)
 some_cause c before fails text (Ok m) held h = tt
 some_cause c before fails text (Err f) held h = file_cause c before fails text f held h

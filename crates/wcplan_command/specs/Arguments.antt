@@ -11,7 +11,7 @@ use Rattle.wcplan_command.specs.declared.arguments.WrongArgument.{WrongArgument}
 use Rattle.wcplan_command.specs.declared.arguments.WrongArgument.TheVariants.{UnknownOption, MissingValue, NotAPair, RepeatedOption, Unexpected, Missing, Together}
 
 -- a command, with its texts as bytes
-pub record CommandValue : Type 0 where
+pub record CommandView : Type 0 where
   pub worlds : List ℕ
   pub world : Option (List ℕ)
   pub main : List ℕ
@@ -26,8 +26,8 @@ pub record CommandValue : Type 0 where
   pub dot : Bool
   pub out : Option (List ℕ)
 
-abbrev pub command_value : Command → CommandValue
-command_value c = record {
+abbrev pub command_view : Command → CommandView
+command_view c = record {
   worlds = c.worlds.now;
   world = option_map text_of c.world;
   main = c.main.now;
@@ -44,54 +44,54 @@ command_value c = record {
 }
 
 -- an option with its values
-pub data OptionValue : Type 0 where
-  adapt : (name file : List ℕ) → OptionValue
-  export : (key : List ℕ) → OptionValue
-  adapter_export : (name key : List ℕ) → OptionValue
-  reject_legacy_names : OptionValue
-  realloc_via_memory_grow : OptionValue
-  task_hook : (name : List ℕ) → OptionValue
-  json : OptionValue
-  why : (key : List ℕ) → OptionValue
-  dot : OptionValue
-  out : (directory : List ℕ) → OptionValue
+pub data OptionView : Type 0 where
+  adapt : (name file : List ℕ) → OptionView
+  export : (key : List ℕ) → OptionView
+  adapter_export : (name key : List ℕ) → OptionView
+  reject_legacy_names : OptionView
+  realloc_via_memory_grow : OptionView
+  task_hook : (name : List ℕ) → OptionView
+  json : OptionView
+  why : (key : List ℕ) → OptionView
+  dot : OptionView
+  out : (directory : List ℕ) → OptionView
 
-abbrev pub option_value : CommandOption → OptionValue
-option_value (Adapt name file) = adapt name.now file.now
-option_value (Export key) = export key.now
-option_value (AdapterExport name key) = adapter_export name.now key.now
-option_value RejectLegacyNames = reject_legacy_names
-option_value ReallocViaMemoryGrow = realloc_via_memory_grow
-option_value (TaskHook name) = task_hook name.now
-option_value Json = json
-option_value (Why key) = why key.now
-option_value Dot = dot
-option_value (Out directory) = out directory.now
+abbrev pub option_view : CommandOption → OptionView
+option_view (Adapt name file) = adapt name.now file.now
+option_view (Export key) = export key.now
+option_view (AdapterExport name key) = adapter_export name.now key.now
+option_view RejectLegacyNames = reject_legacy_names
+option_view ReallocViaMemoryGrow = realloc_via_memory_grow
+option_view (TaskHook name) = task_hook name.now
+option_view Json = json
+option_view (Why key) = why key.now
+option_view Dot = dot
+option_view (Out directory) = out directory.now
 
 -- what is wrong with arguments
-pub data WrongValue : Type 0 where
-  unknown_option : (argument : List ℕ) → WrongValue
-  missing_value : (option : List ℕ) → WrongValue
-  not_a_pair : (option value : List ℕ) → WrongValue
-  repeated_option : (option : List ℕ) → WrongValue
-  unexpected : (argument : List ℕ) → WrongValue
-  missing : (name : List ℕ) → WrongValue
-  together : (option other : List ℕ) → WrongValue
+pub data WrongView : Type 0 where
+  unknown_option : (argument : List ℕ) → WrongView
+  missing_value : (option : List ℕ) → WrongView
+  not_a_pair : (option value : List ℕ) → WrongView
+  repeated_option : (option : List ℕ) → WrongView
+  unexpected : (argument : List ℕ) → WrongView
+  missing : (name : List ℕ) → WrongView
+  together : (option other : List ℕ) → WrongView
 
-abbrev pub wrong_value : WrongArgument → WrongValue
-wrong_value (UnknownOption argument) = unknown_option argument.now
-wrong_value (MissingValue option) = missing_value option.now
-wrong_value (NotAPair option value) = not_a_pair option.now value.now
-wrong_value (RepeatedOption option) = repeated_option option.now
-wrong_value (Unexpected argument) = unexpected argument.now
-wrong_value (Missing name) = missing name.now
-wrong_value (Together option other) = together option.now other.now
+abbrev pub wrong_view : WrongArgument → WrongView
+wrong_view (UnknownOption argument) = unknown_option argument.now
+wrong_view (MissingValue option) = missing_value option.now
+wrong_view (NotAPair option value) = not_a_pair option.now value.now
+wrong_view (RepeatedOption option) = repeated_option option.now
+wrong_view (Unexpected argument) = unexpected argument.now
+wrong_view (Missing name) = missing name.now
+wrong_view (Together option other) = together option.now other.now
 
 -- why arguments are no command
 pub data Stop : Type 0 where
   help : Stop
   version : Stop
-  wrong : WrongValue → Stop
+  wrong : WrongView → Stop
 
 -- what arguments are read as, or why reading stops
 abbrev pub Reading : Type 0 → Type 0
@@ -102,15 +102,15 @@ abbrev pub IsStop : {A : Type 0} → Type 0 → Reading A → NoCommand → Type
 IsStop asks reading Memory = asks
 IsStop asks reading Help = reading ≡ Err help
 IsStop asks reading Version = reading ≡ Err version
-IsStop asks reading (Wrong w) = reading ≡ Err (wrong (wrong_value w))
+IsStop asks reading (Wrong w) = reading ≡ Err (wrong (wrong_view w))
 
 -- the result is what is read, unless memory ran out, where it is asked for
-abbrev pub IsRead : Type 0 → Result Command NoCommand → Reading CommandValue → Type 0
-IsRead asks (Ok c) reading = reading ≡ Ok (command_value c)
+abbrev pub IsRead : Type 0 → Result Command NoCommand → Reading CommandView → Type 0
+IsRead asks (Ok c) reading = reading ≡ Ok (command_view c)
 IsRead asks (Err e) reading = IsStop asks reading e
 
 -- the same where none is asked for
-abbrev pub IsReadWithoutMemory : Result Command NoCommand → Reading CommandValue → Type 0
+abbrev pub IsReadWithoutMemory : Result Command NoCommand → Reading CommandView → Type 0
 IsReadWithoutMemory result reading = IsRead ⊥ result reading
 
 -- reading goes on, to what keeps more texts

@@ -7,19 +7,19 @@ use Rattle.wc_json.specs.Escape.{escaped, quoted}
 use Rattle.wc_plan.specs.declared.fault.PlanFault.{PlanFault}
 use Rattle.wc_plan.specs.declared.fault.PlanFault.TheVariants.{NoMemory, NoRealloc, NoLowering}
 use Rattle.wc_validate.specs.Texts.{difference_text}
-use Rattle.wc_validate.specs.Places.{DifferenceView, PlaceView, SubjectView, an_export, an_import, missing_export, missing_function, place_view}
-use Rattle.wc_gc.specs.TrimPlaces.{place_text as trim_place_text}
+use Rattle.wc_validate.specs.Explain.{DifferenceView, PlaceView, SubjectView, an_export, an_import, missing_export, missing_function, place_view}
+use Rattle.wc_gc.specs.TrimPlace.{place_text as trim_place_text}
 use Rattle.wc_world.specs.declared.places.ModulePlace.{ModulePlace}
 use Rattle.wc_world.specs.declared.places.ModulePlace.TheVariants as place
 use Rattle.wc_world.specs.Places.{IsWorldExplained}
 use Rattle.wc_world.specs.declared.fault.WorldFault.{WorldFault}
 use Rattle.wc_resolve.specs.declared.explain.Part.{Part}
 use Rattle.wcplan_command.specs.Nearest.{near_place}
-use Rattle.wcplan_command.specs.Parts.{path_text}
+use Rattle.wcplan_command.specs.ExplainedPart.{path_text}
 use Rattle.wcplan_command.specs.declared.explained_part.ExplainedPart.{ExplainedPart}
 use Rattle.wcplan_command.specs.declared.explained.Explained.{Explained}
-use Rattle.wcplan_command.specs.declared.faults.ProgramFault.{ProgramFault}
-use Rattle.wcplan_command.specs.declared.faults.ProgramFault.TheVariants.{Resolve, World, Plan}
+use Rattle.wcplan_command.specs.declared.fault.ProgramFault.{ProgramFault}
+use Rattle.wcplan_command.specs.declared.fault.ProgramFault.TheVariants.{Resolve, World, Plan}
 
 -- a fault of a component's world is about a place, and of what is named there this is the nearest that is there
 pub record IsAbout (e : EncoderView) (f : WorldFault) (x : Explained) : Type 0 where

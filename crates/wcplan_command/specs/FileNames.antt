@@ -2,8 +2,8 @@
 use Rattle.std.specs.Prelude.{◌≡◌, ◌≢◌, ℕ, ◌==◌, ◌||◌, Bool, true, false, not, List, [], ◌∷◌, ◌++◌, codes, Option, Some, None, All, Contains, ⊤}
 use Rattle.std.specs.List.{list_any}
 use Rattle.std.specs.Str.{bytes_eq}
-use Rattle.wcplan_command.specs.declared.faults.SelectionFault.{SelectionFault}
-use Rattle.wcplan_command.specs.declared.faults.SelectionFault.TheVariants.{EmptyDirectory, FileName, MainFile}
+use Rattle.wcplan_command.specs.declared.fault.SelectionFault.{SelectionFault}
+use Rattle.wcplan_command.specs.declared.fault.SelectionFault.TheVariants.{EmptyDirectory, FileName, MainFile}
 
 -- the name of the main module's file
 abbrev pub main_file : List ℕ

@@ -7,11 +7,11 @@ use Rattle.wc_program.specs.Screen.{Printing}
 use Rattle.wc_record.specs.Places.{part_json, world_place_json}
 use Rattle.wc_record.specs.Texts.{text_of}
 use Rattle.wcplan_command.specs.Details.{fault_lines}
-use Rattle.wcplan_command.specs.Faults.{NeedsText, program_fault_text}
+use Rattle.wcplan_command.specs.Fault.{NeedsText, program_fault_text}
 use Rattle.wcplan_command.specs.declared.explained.Explained.{Explained}
 use Rattle.wcplan_command.specs.declared.explained_part.ExplainedPart.{ExplainedPart}
-use Rattle.wcplan_command.specs.declared.faults.ProgramFault.{ProgramFault}
-use Rattle.wcplan_command.specs.declared.faults.ProgramFault.TheVariants.{Resolve, World}
+use Rattle.wcplan_command.specs.declared.fault.ProgramFault.{ProgramFault}
+use Rattle.wcplan_command.specs.declared.fault.ProgramFault.TheVariants.{Resolve, World}
 
 abbrev pub null_text : List ℕ
 null_text = codes "null"

@@ -1,9 +1,9 @@
 pub mod Arguments
 pub mod Reading
 pub mod Usage
-pub mod Faults
+pub mod Fault
 pub mod Nearest
-pub mod Parts
+pub mod ExplainedPart
 pub mod Details
 pub mod FileNames
 pub mod Lines

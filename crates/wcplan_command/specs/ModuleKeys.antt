@@ -12,18 +12,18 @@ use Rattle.wc_selection.specs.Texts.{AreDistinct, IsFirstMissing, IsFirstRepeate
 use Rattle.wc_selection.specs.WorldParts.{IsWholeWorld}
 use Rattle.wc_selection.specs.Worlds.{IsNoWorld, IsSelected, IsWorldCause}
 use Rattle.wc_selection.specs.declared.fault.RequestFault.TheVariants.{UnknownWorld}
-use Rattle.wcplan_command.specs.Arguments.{CommandValue}
+use Rattle.wcplan_command.specs.Arguments.{CommandView}
 use Rattle.wcplan_command.specs.FileNames.{AreFilesNamed, IsFilesCause}
 use Rattle.wcplan_command.specs.Listing.{world_listing}
-use Rattle.wcplan_command.specs.declared.faults.SelectionFault.{SelectionFault}
-use Rattle.wcplan_command.specs.declared.faults.SelectionFault.TheVariants.{Memory, Request, RepeatedAdapter, UnknownAdapter, EmptyDirectory, FileName, MainFile}
+use Rattle.wcplan_command.specs.declared.fault.SelectionFault.{SelectionFault}
+use Rattle.wcplan_command.specs.declared.fault.SelectionFault.TheVariants.{Memory, Request, RepeatedAdapter, UnknownAdapter, EmptyDirectory, FileName, MainFile}
 
 -- the keys that a command gives
-abbrev pub request_of : CommandValue → RequestValue
+abbrev pub request_of : CommandView → RequestValue
 request_of c = record { exports = c.exports; adapter_exports = c.adapter_exports }
 
 -- the name of the task hook: the one that is given, or else one that no export is taken for
-abbrev pub hook_of : CommandValue → List ℕ
+abbrev pub hook_of : CommandView → List ℕ
 hook_of c = unwrap_or c.task_hook no_task_hook
 
 -- the world that a command means: the one that it names; without a name the one of which all others are parts
@@ -52,10 +52,10 @@ IsSelectionCause d None f = ⊥
 IsSelectionCause d (Some name) f = IsNameCause d name f
 
 -- adapters have names of their own, and those that have to export something are there
-abbrev pub adapter_names : CommandValue → List (List ℕ)
+abbrev pub adapter_names : CommandView → List (List ℕ)
 adapter_names c = first_parts c.adapters
 
-abbrev pub AreExportersThere : CommandValue → Type 0
+abbrev pub AreExportersThere : CommandView → Type 0
 AreExportersThere c = All (Contains (adapter_names c)) (first_parts c.adapter_exports)
 
 -- why keys are not there, or are given twice
@@ -65,17 +65,17 @@ IsGivenCause given texts (Request f) = IsKeysCause given texts f
 IsGivenCause given texts f = ⊥
 
 -- the names of adapters and the keys of a command are there, and none is given twice
-pub record AreNamesThere (c : CommandValue) (keys : List NamedKey) : Type 0 where
+pub record AreNamesThere (c : CommandView) (keys : List NamedKey) : Type 0 where
   pub adapters : AreDistinct (adapter_names c)
   pub exporters : AreExportersThere c
   pub files : AreFilesNamed c.out (adapter_names c)
   pub keys_there : AreKeysThere (given_keys (request_of c)) (texts_of keys)
 
 -- why the names of adapters and the keys of a command are not there, or are given twice: adapters are before keys
-abbrev pub AreAdaptersThere : CommandValue → Type 0
+abbrev pub AreAdaptersThere : CommandView → Type 0
 AreAdaptersThere c = AreDistinct (adapter_names c) × AreExportersThere c × AreFilesNamed c.out (adapter_names c)
 
-abbrev pub IsNamesCause : CommandValue → List NamedKey → SelectionFault → Type 0
+abbrev pub IsNamesCause : CommandView → List NamedKey → SelectionFault → Type 0
 IsNamesCause c keys Memory = Unit {0}
 IsNamesCause c keys (RepeatedAdapter name) = IsFirstRepeated (adapter_names c) name.now
 IsNamesCause c keys (UnknownAdapter name) = AreDistinct (adapter_names c) × IsFirstMissing (first_parts c.adapter_exports) (adapter_names c) name.now

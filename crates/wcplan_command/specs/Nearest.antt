@@ -6,14 +6,14 @@ use Rattle.std.specs.Str.{bytes_eq, str_eq_ignore_ascii_case}
 use Rattle.semver.specs.Identifiers.{parts_text}
 use Rattle.wc_adapters.specs.Entries.{Entries}
 use Rattle.wc_encoder.specs.EncoderParts.{EncoderView, world_exports, world_imports}
-use Rattle.wc_resolve.specs.Queries.{key_text}
+use Rattle.wc_resolve.specs.Resolve.{key_text}
 use Rattle.wc_resolve.specs.Views.{FunctionView, InterfaceView, ItemView, KeyView}
-use Rattle.wc_resolve.specs.World.{ResolveView}
+use Rattle.wc_resolve.specs.Kinds.{ResolveView}
 use Rattle.wc_json.specs.Keys.{rest_after}
 use Rattle.wc_names.specs.Keys.{as_interface}
 use Rattle.wc_selection.specs.KeyNames.{unversioned_text}
 use Rattle.wc_selection.specs.Keys.{named_keys, texts_of}
-use Rattle.wc_validate.specs.Places.{SubjectView, an_import, subject_view}
+use Rattle.wc_validate.specs.Explain.{SubjectView, an_import, subject_view}
 use Rattle.wc_validate.specs.declared.fault.ValidateFault.{ValidateFault}
 use Rattle.wc_validate.specs.declared.fault.ValidateFault.TheVariants.{NoRootImport, UnknownInterface, MissingFunction, NoSuchExport}
 use Rattle.wc_world.specs.declared.places.ModulePlace.{ModulePlace}

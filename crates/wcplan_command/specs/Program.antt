@@ -7,7 +7,7 @@ use Rattle.std.specs.Str.{IsUtf8}
 use Rattle.json.specs.Json.{Json as JsonValue, document}
 use Rattle.json.specs.Strict.{HasUniqueKeys}
 use Rattle.wc_dedupe.specs.Dedupe.{IsDeduped, IsDedupeCause, renames_in}
-use Rattle.wc_dedupe.specs.Renaming.{RenameValue}
+use Rattle.wc_dedupe.specs.Renaming.{RenameView}
 use Rattle.wc_dedupe.specs.declared.fault.DedupeFault.TheVariants.{Memory as dedupe_memory}
 use Rattle.wc_adapters.specs.Adapters.{AdapterView}
 use Rattle.wc_encoder.specs.EncoderParts.{EncoderView}
@@ -17,12 +17,12 @@ use Rattle.wc_encoder.specs.declared.fault.EncoderFault.TheVariants.{Memory as e
 use Rattle.wc_json.specs.Escape.{escaped}
 use Rattle.wc_json.specs.Document.{DocumentView, document_of, IsJsonCause}
 use Rattle.wc_json.specs.declared.fault.JsonFault.TheVariants.{NotJson as json_invalid, RepeatedMember as json_repeated, Wrong as json_wrong}
-use Rattle.wc_plan.specs.Faults.{HasNoFault, IsFirstFault}
+use Rattle.wc_plan.specs.Fault.{HasNoFault, IsFirstFault}
 use Rattle.wc_plan.specs.Plans.{plan_of}
 use Rattle.wc_record.specs.Texts.{planned_world_text}
-use Rattle.wc_resolve.specs.Faults.{IsResolveCause}
+use Rattle.wc_resolve.specs.Fault.{IsResolveCause}
 use Rattle.wc_resolve.specs.WellFormed.{IsWellFormed as IsResolve}
-use Rattle.wc_resolve.specs.World.{ResolveView}
+use Rattle.wc_resolve.specs.Kinds.{ResolveView}
 use Rattle.wc_resolve.specs.declared.fault.ResolveFault.TheVariants.{Memory as resolve_memory}
 use Rattle.wc_program.specs.FaultTexts.{memory_text}
 use Rattle.wc_program.specs.Files.{Held, Holds, StoreChange, Writes}
@@ -39,28 +39,28 @@ use Rattle.wc_world.specs.declared.fault.WorldFault.TheVariants.{Memory as world
 use Rattle.wc_gc.specs.declared.fault.GcFault.TheVariants.{Memory as gc_memory}
 use Rattle.wc_ways.specs.Ways.{IsWaysText}
 use Rattle.wc_ways.specs.WaysFaults.{IsWaysFault}
-use Rattle.wc_ways.specs.WaysGraph.{IsWaysGraph}
+use Rattle.wc_ways.specs.Nodes.{IsWaysGraph}
 use Rattle.wc_ways.specs.WaysJson.{IsWaysJson}
 use Rattle.wc_selection.specs.KeyNames.{count_unversioned, request_keys}
 use Rattle.wc_selection.specs.Keys.{NamedKey, texts_of}
 use Rattle.wc_selection.specs.ModuleKeys.{required_keys}
 use Rattle.wc_selection.specs.Texts.{second_parts}
-use Rattle.wcplan_command.specs.Arguments.{CommandValue, Reading, Stop, WrongValue, help, version, wrong}
+use Rattle.wcplan_command.specs.Arguments.{CommandView, Reading, Stop, WrongView, help, version, wrong}
 use Rattle.wcplan_command.specs.Details.{IsExplanation, fault_lines, unplaced_line}
-use Rattle.wcplan_command.specs.Faults.{NeedsText, program_fault_text, unprinted_text}
+use Rattle.wcplan_command.specs.Fault.{NeedsText, program_fault_text, unprinted_text}
 use Rattle.wcplan_command.specs.JsonFaults.{IsReportedJson}
 use Rattle.wcplan_command.specs.Lines.{lines_text}
 use Rattle.wcplan_command.specs.Listing.{listing_text}
-use Rattle.wcplan_command.specs.Parts.{IsPartExplanation}
+use Rattle.wcplan_command.specs.ExplainedPart.{IsPartExplanation}
 use Rattle.wcplan_command.specs.Reading.{AsksMemory, is_standard, read_arguments}
 use Rattle.wcplan_command.specs.ModuleKeys.{AreNamesThere, IsMeant, IsNamesCause, IsNotMeant, IsSelectionCause, hook_of, request_of}
 use Rattle.wc_program.specs.Screen.{Printing, nothing, printed, failed}
 use Rattle.wcplan_command.specs.Usage.{fault_and_usage, fault_line, help_text, no_text, usage_text, version_text, wrong_text}
-use Rattle.wcplan_command.specs.declared.faults.SelectionFault.{SelectionFault}
-use Rattle.wcplan_command.specs.declared.faults.SelectionFault.TheVariants.{Request}
+use Rattle.wcplan_command.specs.declared.fault.SelectionFault.{SelectionFault}
+use Rattle.wcplan_command.specs.declared.fault.SelectionFault.TheVariants.{Request}
 use Rattle.wc_selection.specs.declared.fault.RequestFault.TheVariants.{UnknownKey, SeveralKeys, RepeatedKey}
-use Rattle.wcplan_command.specs.declared.faults.ProgramFault.{ProgramFault}
-use Rattle.wcplan_command.specs.declared.faults.ProgramFault.TheVariants.{Memory, CannotRead, NotText, NotJson, RepeatedMember, Json, Selection, NoWorld, NoExport, Resolve, Dedupe, Encoder, World, Plan, Ways, CannotMake, CannotWrite, Output}
+use Rattle.wcplan_command.specs.declared.fault.ProgramFault.{ProgramFault}
+use Rattle.wcplan_command.specs.declared.fault.ProgramFault.TheVariants.{Memory, CannotRead, NotText, NotJson, RepeatedMember, Json, Selection, NoWorld, NoExport, Resolve, Dedupe, Encoder, World, Plan, Ways, CannotMake, CannotWrite, Output}
 
 -- the path of a file that is read: `-` stands for standard input
 abbrev pub input_path : List ℕ → List ℕ
@@ -80,37 +80,37 @@ pub record IsDocumentIn (before : Option Held) (path : List ℕ) (d : DocumentVi
   pub document : IsDocumentOf (document text) d
 
 -- an adapter has its name, the bytes of its file, and the keys that it has to export; it is no library
-pub record IsAdapterIn (before : Option Held) (c : CommandValue) (keys : List NamedKey) (x : List ℕ × List ℕ) (y : List ℕ × AdapterView) : Type 0 where
+pub record IsAdapterIn (before : Option Held) (c : CommandView) (keys : List NamedKey) (x : List ℕ × List ℕ) (y : List ℕ × AdapterView) : Type 0 where
   pub name : y.0 ≡ x.0
   pub wasm : HoldsInput before x.1 y.1.wasm
   pub required : y.1.required_exports ≡ required_keys (request_of c) (Some x.0) keys
   pub library : y.1.library_info ≡ None
 
 -- the worlds in the file of a command, which are well-formed, and the one that it means
-abbrev pub AreWorldsIn : CommandValue → Option Held → ResolveView → ℕ → Type 0
+abbrev pub AreWorldsIn : CommandView → Option Held → ResolveView → ℕ → Type 0
 AreWorldsIn c before r world =
     (d : DocumentView) × IsDocumentIn before c.worlds d × IsMeant d c.world world × IsResolve d.parts × (r ≡ d.parts)
 
 -- the world that a command means, of the worlds in its file, which are well-formed; and its names and keys are there
-pub record IsChosen (c : CommandValue) (before : Option Held) (d : DocumentView) (world : ℕ) : Type 0 where
+pub record IsChosen (c : CommandView) (before : Option Held) (d : DocumentView) (world : ℕ) : Type 0 where
   pub worlds : IsDocumentIn before c.worlds d
   pub selected : IsMeant d c.world world
   pub resolve : IsResolve d.parts
   pub named : AreNamesThere c (request_keys (request_of c) d.parts world)
 
 -- the main module in its file, with its repeated imports renamed
-pub record IsMainIn (before : Option Held) (path text : List ℕ) (renames : List RenameValue) : Type 0 where
+pub record IsMainIn (before : Option Held) (path text : List ℕ) (renames : List RenameView) : Type 0 where
   pub bytes : List ℕ
   pub read : HoldsInput before path bytes
   pub renamed : IsDeduped bytes text renames
 
 -- the adapters of a command, in order
-abbrev pub AreAdaptersIn : Option Held → CommandValue → List NamedKey → List (List ℕ × AdapterView) → Type 0
+abbrev pub AreAdaptersIn : Option Held → CommandView → List NamedKey → List (List ℕ × AdapterView) → Type 0
 AreAdaptersIn before c keys adapters = AllZip (IsAdapterIn before c keys) c.adapters adapters
 
 -- what a command is encoded from besides the world: the main module with the keys that it has to export, the adapters, the
 -- flags, and the name of the task hook
-pub record IsPartsWith (c : CommandValue) (before : Option Held) (keys : List NamedKey) (e : EncoderView) : Type 0 where
+pub record IsPartsWith (c : CommandView) (before : Option Held) (keys : List NamedKey) (e : EncoderView) : Type 0 where
   pub main : IsMainIn before c.main e.module_bytes (renames_in e.module_import_map)
   pub exports : e.main_module_exports ≡ required_keys (request_of c) None keys
   pub adapters : AreAdaptersIn before c keys e.adapters
@@ -119,18 +119,18 @@ pub record IsPartsWith (c : CommandValue) (before : Option Held) (keys : List Na
   pub hook : e.task_hook ≡ hook_of c
 
 -- what a command is encoded from, with the chosen world
-pub record IsPartsOf (c : CommandValue) (before : Option Held) (e : EncoderView) : Type 0 where
+pub record IsPartsOf (c : CommandView) (before : Option Held) (e : EncoderView) : Type 0 where
   pub document : DocumentView
   pub chosen : IsChosen c before document e.world
   pub resolve : e.resolve ≡ document.parts
   pub parts : IsPartsWith c before (request_keys (request_of c) e.resolve e.world) e
 
-pub record IsEncoderOf (c : CommandValue) (before : Option Held) (e : EncoderView) : Type 0 where
+pub record IsEncoderOf (c : CommandView) (before : Option Held) (e : EncoderView) : Type 0 where
   pub parts : IsPartsOf c before e
   pub formed : IsWellFormed e
 
 -- the component's world of a command, with plain options, whose plan has no fault
-pub record IsPlanned (c : CommandValue) (before : Option Held) (w : ComponentWorldView) : Type 0 where
+pub record IsPlanned (c : CommandView) (before : Option Held) (w : ComponentWorldView) : Type 0 where
   pub encoder : EncoderView
   pub encodes : IsEncoderOf c before encoder
   pub world : IsWorldOf plain_options encoder w
@@ -154,7 +154,7 @@ IsPrintedWays false true w key text = IsWaysJson w key text
 IsPrintedWays false false w key text = IsWaysText w key text
 
 -- what a command prints of its component's world: why the key is imported that it asks about; without one the text above
-abbrev pub IsPrintedText : CommandValue → ComponentWorldView → List ℕ → Type 0
+abbrev pub IsPrintedText : CommandView → ComponentWorldView → List ℕ → Type 0
 IsPrintedText c w text = MatchOption c.why (text ≡ printed_text c.json w) (λ key. IsPrintedWays c.dot c.json w key text)
 
 -- `DIRECTORY/NAME.wasm`
@@ -175,7 +175,7 @@ WritesAll before after [] = after ≡ before
 WritesAll before after (f ∷ fs) = (middle : Option Held) × Writes before middle f.0 f.1 × WritesAll middle after fs
 
 -- the component's world of a command is there, its directory could be made, and all its files are written
-pub record IsWritten (c : CommandValue) (files : StoreChange) (world : ComponentWorldView) : Type 0 where
+pub record IsWritten (c : CommandView) (files : StoreChange) (world : ComponentWorldView) : Type 0 where
   pub planned : IsPlanned c files.before world
   pub made : IfSome c.out files.Makes
   pub written : WritesAll files.before files.after (files_of c.out world)
@@ -198,7 +198,7 @@ IsFileFault before after fails files (CannotWrite path) = IsUnwrittenFile before
 IsFileFault before after fails files f = ⊥
 
 -- the directory of a command could not be made
-pub record IsUnmade (c : CommandValue) (files : StoreChange) (path : List ℕ) : Type 0 where
+pub record IsUnmade (c : CommandView) (files : StoreChange) (path : List ℕ) : Type 0 where
   pub world : ComponentWorldView
   pub planned : IsPlanned c files.before world
   pub directory : c.out ≡ Some path
@@ -206,7 +206,7 @@ pub record IsUnmade (c : CommandValue) (files : StoreChange) (path : List ℕ) :
   pub kept : files.after ≡ files.before
 
 -- it could, and after some files one could not be written
-pub record IsUnwritten (c : CommandValue) (files : StoreChange) (path : List ℕ) : Type 0 where
+pub record IsUnwritten (c : CommandView) (files : StoreChange) (path : List ℕ) : Type 0 where
   pub world : ComponentWorldView
   pub planned : IsPlanned c files.before world
   pub made : IfSome c.out files.Makes
@@ -257,19 +257,19 @@ IsMainCause before fails path (Dedupe f) = (bytes : List ℕ) × HoldsInput befo
 IsMainCause before fails path f = ⊥
 
 -- why adapters could not be
-abbrev pub IsAdaptersCause : CommandValue → Reads → ProgramFault → Type 0
+abbrev pub IsAdaptersCause : CommandView → Reads → ProgramFault → Type 0
 IsAdaptersCause c fails Memory = Unit {0}
 IsAdaptersCause c fails (CannotRead path p) = Contains (second_parts c.adapters) path.now × IsUnreadable fails path.now p
 IsAdaptersCause c fails f = ⊥
 
 -- why modules could not be read, or not renamed
-abbrev pub IsModulesCause : CommandValue → Option Held → Reads → ProgramFault → Type 0
+abbrev pub IsModulesCause : CommandView → Option Held → Reads → ProgramFault → Type 0
 IsModulesCause c before fails (CannotRead path p) =
     ((path.now ≡ c.main) ⊎ Contains (second_parts c.adapters) path.now) × IsUnreadable fails path.now p
 IsModulesCause c before fails f = IsMainCause before fails c.main f
 
 -- a world is chosen
-abbrev pub IsAnyChosen : CommandValue → Option Held → Type 0
+abbrev pub IsAnyChosen : CommandView → Option Held → Type 0
 IsAnyChosen c before = (d : DocumentView) × (world : ℕ) × IsChosen c before d world
 
 -- no key has a text: what exports there are is said; or the text is that of one key without its version, which is given
@@ -293,14 +293,14 @@ IsListed f keys Memory = Unit {0}
 IsListed f keys (Selection g) = g ≡ f
 IsListed f keys g = ⊥
 
-abbrev pub IsListedSelection : CommandValue → List NamedKey → SelectionFault → Type 0
+abbrev pub IsListedSelection : CommandView → List NamedKey → SelectionFault → Type 0
 IsListedSelection c keys (Request (UnknownKey key)) = ⊥
 IsListedSelection c keys (Request (SeveralKeys key)) = IsNamesCause c keys (Request (UnknownKey key)) × (1 < count_unversioned keys key.now)
 IsListedSelection c keys (Request (RepeatedKey key)) =
     IsNamesCause c keys (Request (RepeatedKey key)) ⊎ (IsNamesCause c keys (Request (UnknownKey key)) × (count_unversioned keys key.now ≡ 1))
 IsListedSelection c keys f = IsNamesCause c keys f
 
-abbrev pub IsListedCause : CommandValue → List NamedKey → ProgramFault → Type 0
+abbrev pub IsListedCause : CommandView → List NamedKey → ProgramFault → Type 0
 IsListedCause c keys Memory = Unit {0}
 IsListedCause c keys (NoExport key listing) =
     IsNamesCause c keys (Request (UnknownKey key)) × (count_unversioned keys key.now ≡ 0) × (string_bytes listing ≡ listing_text (texts_of keys))
@@ -308,13 +308,13 @@ IsListedCause c keys (Selection f) = IsListedSelection c keys f
 IsListedCause c keys f = ⊥
 
 -- names are not there, of a world that is selected of worlds that are well-formed
-abbrev pub IsUnnamed : CommandValue → Option Held → ProgramFault → Type 0
+abbrev pub IsUnnamed : CommandView → Option Held → ProgramFault → Type 0
 IsUnnamed c before f =
     (d : DocumentView) × (world : ℕ) × IsDocumentIn before c.worlds d × IsMeant d c.world world × IsResolve d.parts
     × IsListedCause c (request_keys (request_of c) d.parts world) f
 
 -- why there is no plan
-abbrev pub IsPlanCause : CommandValue → Option Held → Reads → ProgramFault → Type 0
+abbrev pub IsPlanCause : CommandView → Option Held → Reads → ProgramFault → Type 0
 IsPlanCause c before fails Memory = Unit {0}
 IsPlanCause c before fails (CannotRead path p) =
     ((path.now ≡ c.worlds) × IsUnreadable fails path.now p) ⊎ (IsAnyChosen c before × IsModulesCause c before fails (CannotRead path p))
@@ -342,14 +342,14 @@ IsPlanCause c before fails (CannotWrite path) = ⊥
 IsPlanCause c before fails Output = ⊥
 
 -- why a command could not be run; before all its files are written nothing is printed
-abbrev pub IsRunCause : CommandValue → StoreChange → (Printing → Type 0) → ProgramFault → Type 0
+abbrev pub IsRunCause : CommandView → StoreChange → (Printing → Type 0) → ProgramFault → Type 0
 IsRunCause c files out (CannotMake path) = IsUnmade c files path.now × out nothing
 IsRunCause c files out (CannotWrite path) = IsUnwritten c files (string_bytes path) × out nothing
 IsRunCause c files out Output = (world : ComponentWorldView) × IsWritten c files world × out failed
 IsRunCause c files out f = IsPlanCause c files.before files.IsFailedRead f × (files.after ≡ files.before) × out nothing
 
 -- the command did its work: all its files are written, and then what it asks for is printed
-abbrev pub EndsWell : CommandValue → StoreChange → (Printing → Type 0) → Type 0
+abbrev pub EndsWell : CommandView → StoreChange → (Printing → Type 0) → Type 0
 EndsWell c files out =
     (world : ComponentWorldView) × (text : List ℕ) × IsWritten c files world × IsPrintedText c world text × out (printed text)
 
@@ -380,7 +380,7 @@ PrintsAsked text out err status =
     (out (printed text) × err nothing × (status ≡ success)) ⊎ (out failed × Prints (fault_line unprinted_text) failure err status)
 
 -- a command did its work, or could not be run, and then its fault is printed to the other output
-abbrev pub CommandEnds : CommandValue → StoreChange → (Printing → Type 0) → (Printing → Type 0) → ℕ → Type 0
+abbrev pub CommandEnds : CommandView → StoreChange → (Printing → Type 0) → (Printing → Type 0) → ℕ → Type 0
 CommandEnds c files out err status =
     (EndsWell c files out × err nothing × (status ≡ success))
     ⊎ ((fault : ProgramFault) × IsRunCause c files out fault × IsReportedAs c.json fault err status)
@@ -391,13 +391,13 @@ StopEnds help out err status = PrintsAsked help_text out err status
 StopEnds version out err status = PrintsAsked version_text out err status
 StopEnds (wrong w) out err status = out nothing × Prints (fault_and_usage (escaped (wrong_text w))) wrong_arguments err status
 
-abbrev pub ReadingEnds : Reading CommandValue → StoreChange → (Printing → Type 0) → (Printing → Type 0) → ℕ → Type 0
+abbrev pub ReadingEnds : Reading CommandView → StoreChange → (Printing → Type 0) → (Printing → Type 0) → ℕ → Type 0
 ReadingEnds (Ok c) files out err status = CommandEnds c files out err status
 ReadingEnds (Err stop) files out err status = (files.after ≡ files.before) × StopEnds stop out err status
 
 -- where there is no command, memory is asked for by arguments, or by the text of what is wrong with them
 abbrev pub NeedsMemory : List (List ℕ) → Type 0
-NeedsMemory arguments = AsksMemory arguments ⊎ ((w : WrongValue) × (read_arguments arguments ≡ Err (wrong w)))
+NeedsMemory arguments = AsksMemory arguments ⊎ ((w : WrongView) × (read_arguments arguments ≡ Err (wrong w)))
 
 -- how the program ends with some arguments
 abbrev pub EndsWith : List (List ℕ) → StoreChange → (Printing → Type 0) → (Printing → Type 0) → ℕ → Type 0

@@ -2,8 +2,8 @@
 
 ghost use Rattle.std.specs.Prelude.{◌≡◌, IfErr, OnOk, None, Some, false, filter, is_some, length, map, string_bytes, true};
 ghost use Rattle.std.specs.Option.{option_map};
-ghost use Rattle.wcplan_command.specs.Arguments.{IsRead, IsReadWithoutMemory, IsStopOf, command_value, option_value};
-ghost use Rattle.wcplan_command.specs.Reading.{AsksMemory, HasMoreOptions, HasMorePaths, KeepsMore, adapter_file_of, add_option, add_path, add_value, are_inputs_apart, draft_value, file_name, finish, fitting, flag_of, is_standard, module_valued_of, pair_of, plain_command, read_arguments, stem, take_flag, take_option, take_up, take_valued, takes_module_value, takes_value, valued_of};
+ghost use Rattle.wcplan_command.specs.Arguments.{IsRead, IsReadWithoutMemory, IsStopOf, command_view, option_view};
+ghost use Rattle.wcplan_command.specs.Reading.{AsksMemory, HasMoreOptions, HasMorePaths, KeepsMore, adapter_file_of, add_option, add_path, add_value, are_inputs_apart, draft_view, file_name, finish, fitting, flag_of, is_standard, module_valued_of, pair_of, plain_command, read_arguments, stem, take_flag, take_option, take_up, take_valued, takes_module_value, takes_value, valued_of};
 ghost use Rattle.wcplan_command.specs.declared.arguments.NoCommand.TheVariants.{Memory};
 
 use std::alloc::{AllocFailed, Global};
@@ -144,7 +144,7 @@ pub fn parse(alloc: Global, arguments: &[String]) -> Result<Command<'_>, NoComma
 
 /// The command without options and a world, whose paths are empty.
 fn no_options<'a>(alloc: Global) -> Command<'a>
-    ensures { command_value result ≡ plain_command }
+    ensures { command_view result ≡ plain_command }
 {
     Command {
         worlds: "",
@@ -169,9 +169,9 @@ fn take_up<'a>(
     draft: &mut Draft<'a>,
     argument: &'a str,
 ) -> Result<(), NoCommand<'a>>
-    ensures taken { OnOk result (take_up (command_value command.old) (draft_value draft.old)
-        argument.now ≡ Ok (command_value command.new, draft_value draft.new)) }
-    ensures stops { let c = command_value command.old in let d = draft_value draft.old in
+    ensures taken { OnOk result (take_up (command_view command.old) (draft_view draft.old)
+        argument.now ≡ Ok (command_view command.new, draft_view draft.new)) }
+    ensures stops { let c = command_view command.old in let d = draft_view draft.old in
         IfErr result (IsStopOf (KeepsMore c d) (take_up c d argument.now)) }
 {
     if draft.is_ended {
@@ -194,10 +194,10 @@ fn take_up<'a>(
 
 /// Takes up an argument that is no option.
 fn add_path<'a>(draft: &mut Draft<'a>, argument: &'a str) -> Result<(), NoCommand<'a>>
-    ensures added { OnOk result (add_path (draft_value draft.old) argument.now
-        ≡ Ok (draft_value draft.new)) }
-    ensures stops { IfErr result (IsStopOf (HasMorePaths (draft_value draft.old))
-        (add_path (draft_value draft.old) argument.now)) }
+    ensures added { OnOk result (add_path (draft_view draft.old) argument.now
+        ≡ Ok (draft_view draft.new)) }
+    ensures stops { IfErr result (IsStopOf (HasMorePaths (draft_view draft.old))
+        (add_path (draft_view draft.old) argument.now)) }
 {
     if draft.paths.len() == 3 {
         return Err(NoCommand::Wrong(WrongArgument::Unexpected(argument)));
@@ -212,9 +212,9 @@ fn take_option<'a>(
     draft: &mut Draft<'a>,
     argument: &'a str,
 ) -> Result<(), NoCommand<'a>>
-    ensures taken { OnOk result (take_option (command_value command.old) (draft_value draft.old)
-        argument.now ≡ Ok (command_value command.new, draft_value draft.new)) }
-    ensures stops { let c = command_value command.old in let d = draft_value draft.old in
+    ensures taken { OnOk result (take_option (command_view command.old) (draft_view draft.old)
+        argument.now ≡ Ok (command_view command.new, draft_view draft.new)) }
+    ensures stops { let c = command_view command.old in let d = draft_view draft.old in
         IfErr result (IsStopOf (KeepsMore c d) (take_option c d argument.now)) }
 {
     if argument == "--help" || argument == "-h" {
@@ -232,10 +232,10 @@ fn take_flag<'a>(
     draft: &mut Draft<'a>,
     argument: &'a str,
 ) -> Result<(), NoCommand<'a>>
-    ensures taken { OnOk result (take_flag (command_value command.old) (draft_value draft.old)
+    ensures taken { OnOk result (take_flag (command_view command.old) (draft_view draft.old)
         argument.now (flag_of argument.now)
-        ≡ Ok (command_value command.new, draft_value draft.new)) }
-    ensures stops { let c = command_value command.old in let d = draft_value draft.old in
+        ≡ Ok (command_view command.new, draft_view draft.new)) }
+    ensures stops { let c = command_view command.old in let d = draft_view draft.old in
         IfErr result (IsStopOf (KeepsMore c d)
         (take_flag c d argument.now (flag_of argument.now))) }
 {
@@ -251,9 +251,9 @@ fn take_valued<'a>(
     draft: &mut Draft<'a>,
     argument: &'a str,
 ) -> Result<(), NoCommand<'a>>
-    ensures taken { OnOk result (take_valued (command_value command.old) (draft_value draft.old)
-        argument.now ≡ Ok (command_value command.new, draft_value draft.new)) }
-    ensures stops { let c = command_value command.old in let d = draft_value draft.old in
+    ensures taken { OnOk result (take_valued (command_view command.old) (draft_view draft.old)
+        argument.now ≡ Ok (command_view command.new, draft_view draft.new)) }
+    ensures stops { let c = command_view command.old in let d = draft_view draft.old in
         IfErr result (IsStopOf (KeepsMore c d) (take_valued c d argument.now)) }
 {
     if takes_value(argument) {
@@ -272,9 +272,9 @@ fn add_value<'a>(
     option: &'a str,
     value: &'a str,
 ) -> Result<(), NoCommand<'a>>
-    ensures added { OnOk result (add_value (command_value command.old) option.now value.now
-        ≡ Ok (command_value command.new)) }
-    ensures stops { let c = command_value command.old in
+    ensures added { OnOk result (add_value (command_view command.old) option.now value.now
+        ≡ Ok (command_view command.new)) }
+    ensures stops { let c = command_view command.old in
         IfErr result (IsStopOf (HasMoreOptions c) (add_value c option.now value.now)) }
 {
     match valued(option, value) {
@@ -286,7 +286,7 @@ fn add_value<'a>(
 /// The command with the paths and the world that were read, if both paths were.
 fn finish<'a>(command: Command<'a>, draft: &Draft<'a>) -> Result<Command<'a>, NoCommand<'a>>
     ensures { IsReadWithoutMemory result
-        (finish (command_value command.entry) (draft_value draft.now)) }
+        (finish (command_view command.entry) (draft_view draft.now)) }
 {
     if let Some(option) = draft.pending {
         return Err(NoCommand::Wrong(WrongArgument::MissingValue(option)));
@@ -312,7 +312,7 @@ fn finish<'a>(command: Command<'a>, draft: &Draft<'a>) -> Result<Command<'a>, No
 
 /// The command, if its options and files fit together.
 fn fitting<'a>(command: Command<'a>) -> Result<Command<'a>, NoCommand<'a>>
-    ensures { IsReadWithoutMemory result (fitting (command_value command.entry)) }
+    ensures { IsReadWithoutMemory result (fitting (command_view command.entry)) }
 {
     if command.dot && command.why.is_none() {
         return Err(NoCommand::Wrong(WrongArgument::Missing("--why")));
@@ -331,7 +331,7 @@ fn fitting<'a>(command: Command<'a>) -> Result<Command<'a>, NoCommand<'a>>
 
 /// Whether at most one of the files of a command is standard input.
 fn are_inputs_apart(command: &Command<'_>) -> bool
-    ensures { result ≡ are_inputs_apart (command_value command.now) }
+    ensures { result ≡ are_inputs_apart (command_view command.now) }
 {
     let adapters = count_standard(&command.adapters);
     match (is_standard(command.worlds), is_standard(command.main)) {
@@ -361,7 +361,7 @@ pub(crate) fn is_standard(path: &str) -> bool
 
 /// The option that an argument is by itself.
 fn flag(argument: &str) -> Option<CommandOption<'_>>
-    ensures { option_map option_value result ≡ flag_of argument.now }
+    ensures { option_map option_view result ≡ flag_of argument.now }
 {
     if argument == "--reject-legacy-names" {
         Some(CommandOption::RejectLegacyNames)
@@ -393,7 +393,7 @@ fn takes_module_value(option: &str) -> bool
 
 /// The option of this name with this value.
 fn valued<'a>(argument: &str, value: &'a str) -> Option<CommandOption<'a>>
-    ensures { option_map option_value result ≡ valued_of argument.now value.now }
+    ensures { option_map option_view result ≡ valued_of argument.now value.now }
 {
     if argument == "--task-hook" {
         Some(CommandOption::TaskHook { name: value })
@@ -408,7 +408,7 @@ fn valued<'a>(argument: &str, value: &'a str) -> Option<CommandOption<'a>>
 
 /// The option of this name with this value, if one of this name may come several times.
 fn module_valued<'a>(argument: &str, value: &'a str) -> Option<CommandOption<'a>>
-    ensures { option_map option_value result ≡ module_valued_of argument.now value.now }
+    ensures { option_map option_view result ≡ module_valued_of argument.now value.now }
 {
     if argument == "--adapt" {
         let (name, file) = adapter_file(value);
@@ -466,11 +466,11 @@ fn add_option<'a>(
     name: &'a str,
     option: CommandOption<'a>,
 ) -> Result<(), NoCommand<'a>>
-    ensures added { OnOk result (add_option (command_value command.old) name.now
-        (option_value option.entry) ≡ Ok (command_value command.new)) }
-    ensures stops { let c = command_value command.old in
+    ensures added { OnOk result (add_option (command_view command.old) name.now
+        (option_view option.entry) ≡ Ok (command_view command.new)) }
+    ensures stops { let c = command_view command.old in
         IfErr result (IsStopOf (HasMoreOptions c)
-        (add_option c name.now (option_value option.entry))) }
+        (add_option c name.now (option_view option.entry))) }
 {
     match option {
         CommandOption::Adapt { name, file } => command.adapters.push((name, file))?,

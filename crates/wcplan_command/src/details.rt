@@ -2,14 +2,14 @@
 
 ghost use Rattle.std.specs.Prelude.{◌≡◌, ◌≢◌, ◌++◌, [], Some, IfOk, IsErr, codes, string_bytes};
 ghost use Rattle.std.specs.Option.{option_map};
-ghost use Rattle.wc_validate.specs.Places.{an_export, an_import, difference_view, missing_export, missing_function, place_view, subject_view};
-ghost use Rattle.wc_gc.specs.TrimPlaces.{place_text as trim_place_text};
+ghost use Rattle.wc_validate.specs.Explain.{an_export, an_import, difference_view, missing_export, missing_function, place_view, subject_view};
+ghost use Rattle.wc_gc.specs.TrimPlace.{place_text as trim_place_text};
 ghost use Rattle.wc_validate.specs.Texts.{difference_text};
 ghost use Rattle.wcplan_command.specs.Details.{detail_line, fault_lines, function_line, lines_or_memory, module_place_lines, named_part, nearest_line, nearest_text, part_line, part_lines, place_lines, plan_fault_lines, subject_line, types_line, unplaced_line, world_fault_lines};
 
 use crate::explained::Explained;
 use crate::explained_part::{ExplainedPart, PartPath};
-use crate::faults::ProgramFault;
+use crate::fault::ProgramFault;
 use std::alloc::{AllocError, Global};
 use wc_gc::TrimPlace;
 use wc_json::{escaped, quoted};

@@ -6,14 +6,14 @@ ghost use Rattle.json.specs.Json.{document};
 ghost use Rattle.wc_json.specs.Document.{IsDocument, document_view};
 ghost use Rattle.wc_selection.specs.Texts.{text_of};
 ghost use Rattle.wc_program.specs.Files.{FailsToRead};
-ghost use Rattle.wcplan_command.specs.Arguments.{command_value};
+ghost use Rattle.wcplan_command.specs.Arguments.{command_view};
 ghost use Rattle.wcplan_command.specs.Program.{AreWorldsIn, HoldsInput, IsNotJson, IsPlanCause, IsReadFault, IsRepeatedMember, IsTextCause, input_path};
 ghost use Rattle.wcplan_command.specs.ModuleKeys.{IsMeant};
 ghost use Rattle.wcplan_command.specs.Private.Runs.{AreWorldsOf, IsMeaningCause, IsUnknownWorld, IsUnselected, IsWorldsCause};
 
 use crate::arguments::{Command, is_standard};
 use crate::explained_part::resolve_fault;
-use crate::faults::ProgramFault;
+use crate::fault::ProgramFault;
 use crate::json_place::{json_end, repeated_member};
 use crate::listing::world_listing;
 use std::alloc::{AllocError, Global};
@@ -31,9 +31,9 @@ pub(crate) fn read_worlds<'a, F: FileStore>(
     command: &Command<'a>,
     files: &F,
 ) -> Result<Metadata, ProgramFault<'a>>
-    ensures worlds { IfOk result (λ m. AreWorldsIn (command_value command.now) (F.held files.now)
+    ensures worlds { IfOk result (λ m. AreWorldsIn (command_view command.now) (F.held files.now)
         m.resolve m.world.0) }
-    ensures fault { IfErr result (IsPlanCause (command_value command.now) (F.held files.now)
+    ensures fault { IfErr result (IsPlanCause (command_view command.now) (F.held files.now)
         (FailsToRead F.read_fails files.now)) }
 {
     let bytes = read_file(command.worlds, files)?;
@@ -50,9 +50,9 @@ fn worlds_in<'a>(
     command: &Command<'a>,
     text: &str,
 ) -> Result<Metadata, ProgramFault<'a>>
-    ensures worlds { IfOk result (λ m. AreWorldsOf (command_value command.now)
+    ensures worlds { IfOk result (λ m. AreWorldsOf (command_view command.now)
         (document text.now) m.resolve m.world.0) }
-    ensures fault { IfErr result (IsWorldsCause (command_value command.now) text.now) }
+    ensures fault { IfErr result (IsWorldsCause (command_view command.now) text.now) }
 {
     let document = document_in(alloc, seed, text)?;
     let world = meant_world(alloc, &document, command.world)?;

@@ -5,7 +5,7 @@ ghost use Rattle.wc_world.specs.Places.{IsWorldExplained};
 ghost use Rattle.wcplan_command.specs.Details.{IsExplanation};
 ghost use Rattle.wcplan_command.specs.Private.Runs.{IsOfWorld};
 
-use crate::faults::ProgramFault;
+use crate::fault::ProgramFault;
 use crate::nearest::near_place;
 use std::alloc::{AllocError, Global};
 use wc_encoder::ComponentEncoder;

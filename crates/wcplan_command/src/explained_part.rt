@@ -4,10 +4,10 @@ ghost use Rattle.std.specs.Prelude.{◌≡◌, IfOk, Some, string_bytes};
 ghost use Rattle.std.specs.Option.{option_map};
 ghost use Rattle.wc_resolve.specs.ResolveParts.{parts_view};
 ghost use Rattle.wc_resolve.specs.Views.{package_name_view};
-ghost use Rattle.wcplan_command.specs.Parts.{declared_name, package_text, part_name};
+ghost use Rattle.wcplan_command.specs.ExplainedPart.{declared_name, package_text, part_name};
 ghost use Rattle.wcplan_command.specs.Private.Runs.{IsExplainedPlace, IsOfFault, IsOfRefused};
 
-use crate::faults::ProgramFault;
+use crate::fault::ProgramFault;
 use std::alloc::{AllocError, Global};
 use std::fmt;
 use wc_resolve::{PackageName, Part, Parts, RefusedParts, ResolveFault};
@@ -23,7 +23,7 @@ pub struct ExplainedPart {
 }
 
 impl fmt::Display for ExplainedPart {
-    ghost use Rattle.wcplan_command.specs.Parts.{part_text};
+    ghost use Rattle.wcplan_command.specs.ExplainedPart.{part_text};
 
     ghost output = { λ x. Some (part_text x.part (option_map string_bytes x.name)) };
 
@@ -43,7 +43,7 @@ impl fmt::Display for ExplainedPart {
 pub(crate) struct PartPath(pub(crate) Part);
 
 impl fmt::Display for PartPath {
-    ghost use Rattle.wcplan_command.specs.Parts.{path_text};
+    ghost use Rattle.wcplan_command.specs.ExplainedPart.{path_text};
 
     ghost output = { λ path. Some (path_text path.0) };
 

@@ -3,9 +3,9 @@
 ghost use Rattle.std.specs.Prelude.{◌≡◌, All, IfNone, IfSome, map, true};
 ghost use Rattle.std.specs.Option.{option_map};
 ghost use Rattle.wc_selection.specs.Texts.{text_of};
-ghost use Rattle.wcplan_command.specs.FileNames.{AreFilesNamed, IsFilesCause, IsFirstUnfit, IsNameCause, AreNamesFit, is_file_name, is_parted, main_file};
+ghost use Rattle.wcplan_command.specs.FileNames.{AreFilesNamed, IsFilesCause, IsFirstUnfit, IsNameCause, AreNamesFit, is_file_name, is_parted};
 
-use crate::faults::SelectionFault;
+use crate::fault::SelectionFault;
 use wc_selection::has_text;
 
 /// The name of the file of the main module.

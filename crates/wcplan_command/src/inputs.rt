@@ -8,13 +8,13 @@ ghost use Rattle.wc_selection.specs.KeyNames.{request_keys};
 ghost use Rattle.wc_selection.specs.Keys.{AreKeysApart, named_key, texts_of};
 ghost use Rattle.wc_selection.specs.Texts.{AreDistinct};
 ghost use Rattle.wc_program.specs.Files.{FailsToRead};
-ghost use Rattle.wcplan_command.specs.Arguments.{command_value};
+ghost use Rattle.wcplan_command.specs.Arguments.{command_view};
 ghost use Rattle.wcplan_command.specs.ModuleKeys.{AreNamesThere, adapter_names, request_of};
 ghost use Rattle.wcplan_command.specs.Program.{AreAdaptersIn, AreWorldsIn, IsAdaptersCause, IsEncoderOf, IsListed, IsListedCause, IsMainCause, IsMainIn, IsModulesCause, IsNoExport, IsPartsWith, IsPlanCause, IsUnknownKey};
 
 use crate::arguments::Command;
 use crate::documents::{read_file, read_worlds};
-use crate::faults::{ProgramFault, SelectionFault};
+use crate::fault::{ProgramFault, SelectionFault};
 use crate::listing::listing;
 use crate::module_keys::{adapter_keys, check_names, command_keys, required_keys, task_hook};
 use std::alloc::{AllocError, Global};
@@ -32,8 +32,8 @@ pub(crate) fn read_encoder<'a, F: FileStore>(
     command: &Command<'a>,
     files: &F,
 ) -> Result<ComponentEncoder, ProgramFault<'a>>
-    ensures encoder { IfOk result (IsEncoderOf (command_value command.now) (F.held files.now)) }
-    ensures fault { IfErr result (IsPlanCause (command_value command.now) (F.held files.now)
+    ensures encoder { IfOk result (IsEncoderOf (command_view command.now) (F.held files.now)) }
+    ensures fault { IfErr result (IsPlanCause (command_view command.now) (F.held files.now)
         (FailsToRead F.read_fails files.now)) }
 {
     let chosen = chosen_world(alloc, seed, command, files)?;
@@ -56,15 +56,15 @@ fn chosen_world<'a, F: FileStore>(
     command: &Command<'a>,
     files: &F,
 ) -> Result<ChosenWorld, ProgramFault<'a>>
-    ensures worlds { IfOk result (λ w. AreWorldsIn (command_value command.now) (F.held files.now)
+    ensures worlds { IfOk result (λ w. AreWorldsIn (command_view command.now) (F.held files.now)
         w.metadata.resolve w.metadata.world.0) }
     ensures keys { IfOk result (λ w. map named_key w.keys.items
-        ≡ request_keys (request_of (command_value command.now)) w.metadata.resolve
+        ≡ request_keys (request_of (command_view command.now)) w.metadata.resolve
         w.metadata.world.0) }
     ensures differ { IfOk result (λ w. AreKeysApart (map named_key w.keys.items)) }
-    ensures there { IfOk result (λ w. AreNamesThere (command_value command.now)
+    ensures there { IfOk result (λ w. AreNamesThere (command_view command.now)
         (map named_key w.keys.items)) }
-    ensures fault { IfErr result (IsPlanCause (command_value command.now) (F.held files.now)
+    ensures fault { IfErr result (IsPlanCause (command_view command.now) (F.held files.now)
         (FailsToRead F.read_fails files.now)) }
 {
     let metadata = read_worlds(alloc, seed, command, files)?;
@@ -81,9 +81,9 @@ fn check_listed<'a>(
     command: &Command<'a>,
     keys: &[(WorldKey, String)],
 ) -> Result<(), ProgramFault<'a>>
-    ensures there { OnOk result (AreNamesThere (command_value command.now)
+    ensures there { OnOk result (AreNamesThere (command_view command.now)
         (map named_key keys.now)) }
-    ensures fault { IfErr result (IsListedCause (command_value command.now)
+    ensures fault { IfErr result (IsListedCause (command_view command.now)
         (map named_key keys.now)) }
 {
     match check_names(alloc, seed, command, keys) {
@@ -138,11 +138,11 @@ fn read_parts<'a, F: FileStore>(
     files: &F,
 ) -> Result<EncoderParts, ProgramFault<'a>>
     requires keys { AreKeysApart (map named_key chosen.keys.items) }
-    requires names { AreDistinct (adapter_names (command_value command.now)) }
-    ensures parts { IfOk result (λ p. IsPartsWith (command_value command.now) (F.held files.now)
+    requires names { AreDistinct (adapter_names (command_view command.now)) }
+    ensures parts { IfOk result (λ p. IsPartsWith (command_view command.now) (F.held files.now)
         (map named_key chosen.keys.items) (parts_view p)) }
     ensures metadata { IfOk result (λ p. p.metadata ≡ chosen.metadata) }
-    ensures fault { IfErr result (IsModulesCause (command_value command.now) (F.held files.now)
+    ensures fault { IfErr result (IsModulesCause (command_view command.now) (F.held files.now)
         (FailsToRead F.read_fails files.now)) }
 {
     let ChosenWorld { metadata, keys } = chosen;
@@ -187,10 +187,10 @@ fn read_adapters<'a, F: FileStore>(
     files: &F,
 ) -> Result<Map<String, Adapter>, ProgramFault<'a>>
     requires keys { AreKeysApart (map named_key keys.now) }
-    requires names { AreDistinct (adapter_names (command_value command.now)) }
+    requires names { AreDistinct (adapter_names (command_view command.now)) }
     ensures adapters { IfOk result (λ m. AreAdaptersIn (F.held files.now)
-        (command_value command.now) (map named_key keys.now) (map adapter_entry m.entries)) }
-    ensures fault { IfErr result (IsAdaptersCause (command_value command.now)
+        (command_view command.now) (map named_key keys.now) (map adapter_entry m.entries)) }
+    ensures fault { IfErr result (IsAdaptersCause (command_view command.now)
         (FailsToRead F.read_fails files.now)) }
 {
     let given = adapter_keys(alloc, seed, command, keys)?;

@@ -4,18 +4,18 @@ ghost use Rattle.std.specs.Prelude.{◌≡◌, ◌++◌, IfNone, IfOk, IfSome, O
 ghost use Rattle.json.specs.Json.{string};
 ghost use Rattle.wc_program.specs.Program.{Prints, failure};
 ghost use Rattle.wc_program.specs.Screen.{Becomes};
-ghost use Rattle.wc_record.specs.Shapes.{PutsJson};
+ghost use Rattle.wc_record.specs.Objects.{PutsJson};
 ghost use Rattle.wc_record.specs.Texts.{text_of};
 ghost use Rattle.wcplan_command.specs.Details.{fault_lines};
-ghost use Rattle.wcplan_command.specs.Faults.{NeedsText, program_fault_text};
+ghost use Rattle.wcplan_command.specs.Fault.{NeedsText, program_fault_text};
 ghost use Rattle.wcplan_command.specs.JsonFaults.{IsReportedJson, fault_json, fault_place, members_text, part_place, world_place};
 
 use crate::explained::Explained;
 use crate::explained_part::ExplainedPart;
-use crate::faults::ProgramFault;
+use crate::fault::ProgramFault;
 use json::Writer;
 use std::alloc::{AllocError, Global};
-use wc_program::{FAILURE, Message, Printable, Screen, print};
+use wc_program::{FAILURE, Printable, Screen, TextBetween, print};
 use wc_record::{part_to_json, world_place_to_json};
 use wc_write::{PutFailed, Sink};
 
@@ -193,7 +193,7 @@ fn print_json<E: Screen, T: Printable>(err: &mut E, text: &T) -> u8
     ensures { Prints (T.text text.now ++ codes "\n") failure
         (Becomes E.ends err.old err.new) result }
 {
-    let line = Message {
+    let line = TextBetween {
         before: b"",
         text,
         after: b"\n",

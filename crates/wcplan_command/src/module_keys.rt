@@ -8,11 +8,11 @@ ghost use Rattle.wc_selection.specs.Keys.{AreKeysApart, named_key, texts_of};
 ghost use Rattle.wc_selection.specs.Requests.{exporter_name, given_keys, request_value};
 ghost use Rattle.wc_selection.specs.ModuleKeys.{AreKeysThere, required_keys};
 ghost use Rattle.wc_selection.specs.Texts.{first_parts, text_of, text_pair};
-ghost use Rattle.wcplan_command.specs.Arguments.{command_value};
+ghost use Rattle.wcplan_command.specs.Arguments.{command_view};
 ghost use Rattle.wcplan_command.specs.ModuleKeys.{AreNamesThere, IsGivenCause, IsNamesCause, hook_of, request_of};
 
 use crate::arguments::Command;
-use crate::faults::SelectionFault;
+use crate::fault::SelectionFault;
 use crate::file_names::file_fault;
 use std::alloc::{AllocError, Global};
 use wc_maps::{Seed, Set};
@@ -23,7 +23,7 @@ use wc_selection::{
 
 /// The keys that a command gives.
 fn key_request<'r, 'a>(command: &'r Command<'a>) -> KeyRequest<'r, 'a>
-    ensures { request_value result ≡ request_of (command_value command.now) }
+    ensures { request_value result ≡ request_of (command_view command.now) }
 {
     KeyRequest {
         exports: &command.exports,
@@ -48,7 +48,7 @@ pub(crate) fn command_keys(
 ) -> Result<Vec<(WorldKey, String)>, AllocError>
     requires { world.0 < length resolve.now.worlds }
     ensures keys { IfOk result (λ v. map named_key v.items
-        ≡ request_keys (request_of (command_value command.now)) resolve.now world.0) }
+        ≡ request_keys (request_of (command_view command.now)) resolve.now world.0) }
     ensures differ { IfOk result (λ v. AreKeysApart (map named_key v.items)) }
 {
     let request = key_request(command);
@@ -75,9 +75,9 @@ pub(crate) fn check_names<'a>(
     command: &Command<'a>,
     keys: &[(WorldKey, String)],
 ) -> Result<(), SelectionFault<'a>>
-    ensures there { OnOk result (AreNamesThere (command_value command.now)
+    ensures there { OnOk result (AreNamesThere (command_view command.now)
         (map named_key keys.now)) }
-    ensures fault { IfErr result (IsNamesCause (command_value command.now)
+    ensures fault { IfErr result (IsNamesCause (command_view command.now)
         (map named_key keys.now)) }
 {
     let adapters = first_parts(alloc, &command.adapters)?;
@@ -101,9 +101,9 @@ fn check_keys<'a>(
     command: &Command<'a>,
     keys: &[(WorldKey, String)],
 ) -> Result<(), SelectionFault<'a>>
-    ensures there { OnOk result (AreKeysThere (given_keys (request_of (command_value command.now)))
+    ensures there { OnOk result (AreKeysThere (given_keys (request_of (command_view command.now)))
         (texts_of (map named_key keys.now))) }
-    ensures fault { IfErr result (IsGivenCause (given_keys (request_of (command_value command.now)))
+    ensures fault { IfErr result (IsGivenCause (given_keys (request_of (command_view command.now)))
         (texts_of (map named_key keys.now))) }
 {
     let request = key_request(command);
@@ -139,7 +139,7 @@ pub(crate) fn required_keys(
 ) -> Result<Set<WorldKey>, AllocError>
     requires { AreKeysApart (map named_key keys.now) }
     ensures { IfOk result (λ set. map key_view set.keys
-        ≡ required_keys (request_of (command_value command.now)) (exporter_name exporter.entry)
+        ≡ required_keys (request_of (command_view command.now)) (exporter_name exporter.entry)
         (map named_key keys.now)) }
 {
     let request = key_request(command);
@@ -158,7 +158,7 @@ pub(crate) fn adapter_keys<'k, 'a>(
     keys: &'k [(WorldKey, String)],
 ) -> Result<AdapterKeys<'k, 'a>, AllocError>
     requires { AreKeysApart (map named_key keys.now) }
-    ensures { IfOk result (AreAdapterKeys (request_of (command_value command.now))
+    ensures { IfOk result (AreAdapterKeys (request_of (command_view command.now))
         (map named_key keys.now)) }
 {
     let request = key_request(command);
@@ -172,7 +172,7 @@ pub(crate) fn adapter_keys<'k, 'a>(
 ///
 /// `AllocError`: an allocation failed.
 pub(crate) fn task_hook(alloc: Global, command: &Command<'_>) -> Result<String, AllocError>
-    ensures { IfOk result (λ hook. string_bytes hook ≡ hook_of (command_value command.now)) }
+    ensures { IfOk result (λ hook. string_bytes hook ≡ hook_of (command_view command.now)) }
 {
     match command.task_hook {
         Some(name) => String::from_str(alloc, name),

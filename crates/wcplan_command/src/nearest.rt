@@ -5,13 +5,13 @@ ghost use Rattle.std.specs.Option.{IfSome, IsSome, option_map};
 ghost use Rattle.std.specs.Str.{str_eq_ignore_ascii_case};
 ghost use Rattle.semver.specs.Identifiers.{parts_text};
 ghost use Rattle.wc_encoder.specs.EncoderParts.{world_exports, world_imports};
-ghost use Rattle.wc_resolve.specs.Queries.{key_text};
+ghost use Rattle.wc_resolve.specs.Resolve.{key_text};
 ghost use Rattle.wc_resolve.specs.Ranges.{IsItemIn, IsKeyIn};
 ghost use Rattle.wc_resolve.specs.Views.{interface_view, item_view, world_entry};
 ghost use Rattle.wc_json.specs.Keys.{rest_after};
 ghost use Rattle.wc_names.specs.Keys.{as_interface};
 ghost use Rattle.wc_selection.specs.KeyNames.{unversioned_text};
-ghost use Rattle.wc_validate.specs.Places.{subject_view};
+ghost use Rattle.wc_validate.specs.Explain.{subject_view};
 ghost use Rattle.wcplan_command.specs.Nearest.{exported_interface, exported_name, first_near, function_name, imported_name, interface_alike, interface_for, interface_named, is_alike, is_near, key_texts, names_in, near_function, near_import, near_interface, near_place, near_result, near_subject, nearest};
 
 use std::alloc::{AllocError, Global};

@@ -3,19 +3,19 @@
 ghost use Rattle.std.specs.Prelude.{◌≡◌, IfErr, IfOk, IfSome, OnOk, Some, map, string_bytes};
 ghost use Rattle.std.specs.Option.{option_map};
 ghost use Rattle.wc_uses.specs.PlanViews.{plan_view};
-ghost use Rattle.wc_plan.specs.Faults.{AreNameable};
+ghost use Rattle.wc_plan.specs.Fault.{AreNameable};
 ghost use Rattle.wc_plan.specs.Plans.{plan_of};
 ghost use Rattle.wc_world.specs.WorldViews.{world_view};
 ghost use Rattle.wc_selection.specs.Texts.{text_of};
 ghost use Rattle.wc_program.specs.Files.{FailsFrom, store_change};
 ghost use Rattle.wc_program.specs.Screen.{Becomes};
 ghost use Rattle.wc_ways.specs.WaysFaults.{IsWaysFault};
-ghost use Rattle.wcplan_command.specs.Arguments.{command_value};
+ghost use Rattle.wcplan_command.specs.Arguments.{command_view};
 ghost use Rattle.wcplan_command.specs.Program.{IsFileFault, IsPrintedText, IsPrintedWays, WritesAll, file_view, files_of, path_in, printed_text, record_line};
 ghost use Rattle.wcplan_command.specs.Private.Runs.{IsDescriptionFault, IsMakingFault, IsWritingFault};
 
 use crate::arguments::Command;
-use crate::faults::ProgramFault;
+use crate::fault::ProgramFault;
 use crate::lines::plan_lines;
 use std::alloc::{AllocError, Global};
 use wc_gc::GcFault;
@@ -35,7 +35,7 @@ pub(crate) fn description_of<'a>(
 ) -> Result<Vec<u8>, ProgramFault<'a>>
     requires nameable { AreNameable (world_view world.now) }
     requires plan { plan_view plan.now ≡ plan_of (world_view world.now) }
-    ensures text { IfOk result (λ text. IsPrintedText (command_value command.now)
+    ensures text { IfOk result (λ text. IsPrintedText (command_view command.now)
         (world_view world.now) text.items) }
     ensures fault { IfErr result (IsDescriptionFault (world_view world.now)) }
 {

@@ -2,15 +2,15 @@
 
 ghost use Rattle.std.specs.Prelude.{◌≡◌, ◌++◌, IfErr, IfOk, IsErr, OnOk};
 ghost use Rattle.std.specs.IoError.{error_kind};
-ghost use Rattle.wc_plan.specs.Faults.{AreNameable};
+ghost use Rattle.wc_plan.specs.Fault.{AreNameable};
 ghost use Rattle.wc_uses.specs.PlanViews.{plan_view};
 ghost use Rattle.wc_plan.specs.Plans.{plan_of};
 ghost use Rattle.wc_world.specs.WorldViews.{world_view};
-ghost use Rattle.wcplan_command.specs.Arguments.{command_value};
+ghost use Rattle.wcplan_command.specs.Arguments.{command_view};
 ghost use Rattle.wc_program.specs.Files.{store_change};
 ghost use Rattle.wc_program.specs.Screen.{Becomes};
 ghost use Rattle.wc_program.specs.Program.{Prints, failure, wrong_arguments};
-ghost use Rattle.wcplan_command.specs.Faults.{NeedsText};
+ghost use Rattle.wcplan_command.specs.Fault.{NeedsText};
 ghost use Rattle.wcplan_command.specs.Program.{CommandEnds, EndsWell, EndsWith, EndsWithout, EndsWithoutArguments, IsEncoderOf, IsPlanned, IsReported, IsReportedAs, IsRunCause, PrintsAsked, ProgramEnds};
 ghost use Rattle.wcplan_command.specs.Private.Runs.{AnswersStop, IsMadeFor, IsReportedWith};
 ghost use Rattle.wcplan_command.specs.Usage.{fault_and_usage, fault_line, help_text};
@@ -18,7 +18,7 @@ ghost use Rattle.wcplan_command.specs.Usage.{fault_and_usage, fault_line, help_t
 use crate::arguments::{Command, NoCommand, parse};
 use crate::details::UNPLACED;
 use crate::explained::world_fault;
-use crate::faults::{ProgramFault, UNPRINTED};
+use crate::fault::{ProgramFault, UNPRINTED};
 use crate::inputs::read_encoder;
 use crate::json_faults::report_json;
 use crate::outputs::{description_of, outputs_of, write_and_print};
@@ -30,8 +30,8 @@ use wc_maps::Seed;
 use wc_plan::laws::worlds_nameable;
 use wc_plan::{Plan, plan};
 use wc_program::{
-    DirectoryStore, FAILURE, Message, NoArguments, OUT_OF_MEMORY, Printable, Program, SUCCESS,
-    Screen, Shell, WRONG_ARGUMENTS, print, put_after,
+    DirectoryStore, FAILURE, NoArguments, OUT_OF_MEMORY, Printable, Program, SUCCESS, Screen,
+    Shell, TextBetween, WRONG_ARGUMENTS, print, put_after,
 };
 use wc_world::{ComponentWorld, PlainOptions};
 use wc_write::{PutFailed, Sink};
@@ -128,7 +128,7 @@ fn run_and_report<F: DirectoryStore, O: Screen, E: Screen>(
     command: &Command<'_>,
     shell: &mut Shell<F, O, E>,
 ) -> u8
-    ensures { CommandEnds (command_value command.now)
+    ensures { CommandEnds (command_view command.now)
         (store_change F.held F.makes F.read_fails F.make_fails F.write_fails
         shell.old.files shell.new.files)
         (Becomes O.ends shell.old.out shell.new.out) (Becomes E.ends shell.old.err shell.new.err)
@@ -183,11 +183,11 @@ pub fn run_command<'a, F: DirectoryStore, O: Screen>(
     out: &mut O,
 ) -> Result<(), ProgramFault<'a>>
     ensures done { OnOk result (EndsWell
-        (command_value command.now)
+        (command_view command.now)
         (store_change F.held F.makes F.read_fails F.make_fails F.write_fails files.old files.new)
         (Becomes O.ends out.old out.new)) }
     ensures fault { IfErr result (IsRunCause
-        (command_value command.now)
+        (command_view command.now)
         (store_change F.held F.makes F.read_fails F.make_fails F.write_fails files.old files.new)
         (Becomes O.ends out.old out.new)) }
 {
@@ -203,13 +203,13 @@ fn run_encoder<'a, F: DirectoryStore, O: Screen>(
     files: &mut F,
     out: &mut O,
 ) -> Result<(), ProgramFault<'a>>
-    requires { IsEncoderOf (command_value command.now) (F.held files.old) encoder.now }
+    requires { IsEncoderOf (command_view command.now) (F.held files.old) encoder.now }
     ensures done { OnOk result (EndsWell
-        (command_value command.now)
+        (command_view command.now)
         (store_change F.held F.makes F.read_fails F.make_fails F.write_fails files.old files.new)
         (Becomes O.ends out.old out.new)) }
     ensures fault { IfErr result (IsRunCause
-        (command_value command.now)
+        (command_view command.now)
         (store_change F.held F.makes F.read_fails F.make_fails F.write_fails files.old files.new)
         (Becomes O.ends out.old out.new)) }
 {
@@ -229,15 +229,15 @@ fn run_world<'a, F: DirectoryStore, O: Screen>(
     files: &mut F,
     out: &mut O,
 ) -> Result<(), ProgramFault<'a>>
-    requires made { IsMadeFor (command_value command.now) (F.held files.old)
+    requires made { IsMadeFor (command_view command.now) (F.held files.old)
         (world_view world.now) }
     requires nameable { AreNameable (world_view world.now) }
     ensures done { OnOk result (EndsWell
-        (command_value command.now)
+        (command_view command.now)
         (store_change F.held F.makes F.read_fails F.make_fails F.write_fails files.old files.new)
         (Becomes O.ends out.old out.new)) }
     ensures fault { IfErr result (IsRunCause
-        (command_value command.now)
+        (command_view command.now)
         (store_change F.held F.makes F.read_fails F.make_fails F.write_fails files.old files.new)
         (Becomes O.ends out.old out.new)) }
 {
@@ -262,16 +262,16 @@ fn run_plan<'a, F: DirectoryStore, O: Screen>(
     files: &mut F,
     out: &mut O,
 ) -> Result<(), ProgramFault<'a>>
-    requires planned { IsPlanned (command_value command.now) (F.held files.old)
+    requires planned { IsPlanned (command_view command.now) (F.held files.old)
         (world_view planned.world.now) }
     requires nameable { AreNameable (world_view planned.world.now) }
     requires plan { plan_view planned.plan.now ≡ plan_of (world_view planned.world.now) }
     ensures done { OnOk result (EndsWell
-        (command_value command.now)
+        (command_view command.now)
         (store_change F.held F.makes F.read_fails F.make_fails F.write_fails files.old files.new)
         (Becomes O.ends out.old out.new)) }
     ensures fault { IfErr result (IsRunCause
-        (command_value command.now)
+        (command_view command.now)
         (store_change F.held F.makes F.read_fails F.make_fails F.write_fails files.old files.new)
         (Becomes O.ends out.old out.new)) }
 {
@@ -350,7 +350,7 @@ fn print_help<O: Screen, E: Screen>(out: &mut O, err: &mut E) -> u8
     ensures { PrintsAsked help_text
         (Becomes O.ends out.old out.new) (Becomes E.ends err.old err.new) result }
 {
-    let text = Message {
+    let text = TextBetween {
         before: USAGE,
         text: &OPTIONS,
         after: b"",
@@ -381,7 +381,7 @@ fn print_line<E: Screen, T: Printable>(err: &mut E, text: &T) -> u8
     ensures { Prints (fault_line (T.text text.now)) failure
         (Becomes E.ends err.old err.new) result }
 {
-    let line = Message {
+    let line = TextBetween {
         before: b"wcplan: ",
         text,
         after: b"\n",
@@ -394,7 +394,7 @@ fn print_usage_fault<E: Screen>(err: &mut E, text: &[u8]) -> u8
     ensures { Prints (fault_and_usage text.now) wrong_arguments
         (Becomes E.ends err.old err.new) result }
 {
-    let lines = Message {
+    let lines = TextBetween {
         before: b"wcplan: ",
         text: &text,
         after: AND_USAGE,

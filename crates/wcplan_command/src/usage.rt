@@ -2,7 +2,7 @@
 
 ghost use Rattle.std.specs.Prelude.{◌≡◌, IfOk, string_bytes};
 ghost use Rattle.wc_json.specs.Escape.{escaped};
-ghost use Rattle.wcplan_command.specs.Arguments.{wrong_value};
+ghost use Rattle.wcplan_command.specs.Arguments.{wrong_view};
 ghost use Rattle.wcplan_command.specs.Usage.{wrong_text};
 
 use crate::arguments::WrongArgument;
@@ -61,7 +61,7 @@ impl WrongArgument<'_> {
     /// `AllocError`: an allocation failed.
     pub fn text(&self, alloc: Global) -> Result<String, AllocError>
         ensures { IfOk result (λ text. string_bytes text
-            ≡ escaped (wrong_text (wrong_value self.now))) }
+            ≡ escaped (wrong_text (wrong_view self.now))) }
     {
         let text = wrong_text(alloc, self)?;
         escaped(alloc, &text)
@@ -70,7 +70,7 @@ impl WrongArgument<'_> {
 
 /// The text that says what is wrong.
 fn wrong_text(alloc: Global, wrong: &WrongArgument<'_>) -> Result<String, AllocError>
-    ensures { IfOk result (λ text. string_bytes text ≡ wrong_text (wrong_value wrong.now)) }
+    ensures { IfOk result (λ text. string_bytes text ≡ wrong_text (wrong_view wrong.now)) }
 {
     match wrong {
         WrongArgument::UnknownOption(argument) => format!(in alloc; "unknown option {argument}"),

@@ -7,7 +7,7 @@ use Rattle.std.proofs.lemmas.Bool.{true≢false}
 use Rattle.std.proofs.lemmas.Option.{same_Some}
 use Rattle.std.specs.Prelude.{IfOk, IfErr, IsErr}
 use Rattle.wctrim_command.specs.declared.command.Command.{Command}
-use Rattle.wctrim_command.specs.Command.{CommandValue, command_value, dedupe, scan, trim, IsCommandLine, IsExecutable, IsPageOption, AreExports}
+use Rattle.wctrim_command.specs.Command.{CommandView, command_view, dedupe, scan, trim, IsCommandLine, IsExecutable, IsPageOption, AreExports}
 use Rattle.wctrim_command.specs.Private.TrimArguments.{trim_parts, IsTrimOf, TrimParts}
 use Rattle.wctrim_command.proofs.TrimArgumentsLemmas.{trim_valid, trim_complete}
 
@@ -45,13 +45,13 @@ is_first argument (x ∷ xs) = bytes_eq x argument
 abbrev trim_line_of : List ℕ → List ℕ → List (List ℕ) → List (List ℕ)
 trim_line_of source target after_paths = codes "trim" ∷ source ∷ target ∷ after_paths
 
-line_of_parts : (source target : List ℕ) (after_paths : List (List ℕ)) (parts : Option TrimParts) (c : CommandValue) → trim_parts after_paths ≡ parts
+line_of_parts : (source target : List ℕ) (after_paths : List (List ℕ)) (parts : Option TrimParts) (c : CommandView) → trim_parts after_paths ≡ parts
     → IsTrimOf source target parts c → IsCommandLine (trim_line_of source target after_paths) c
 line_of_parts source target after_paths parts c at h =
     rw h.4 (after_paths, refl, trim_valid after_paths h.0 h.1 h.2 (at ∙ h.3))
 
 -- the parts of the arguments after the paths, of any trim that they spell
-parts_of_line : (source target : List ℕ) (after_paths : List (List ℕ)) (d : CommandValue) → IsCommandLine (trim_line_of source target after_paths) d
+parts_of_line : (source target : List ℕ) (after_paths : List (List ℕ)) (d : CommandView) → IsCommandLine (trim_line_of source target after_paths) d
     → IsTrimOf source target (trim_parts after_paths) d
 parts_of_line source target after_paths (dedupe s t) e = absurd (true≢false (ap (is_first (codes "trim")) e))
 parts_of_line source target after_paths (scan s) e = absurd (true≢false (ap (is_first (codes "trim")) e))
@@ -64,7 +64,7 @@ parts_of_line source target after_paths (trim s t realloc page_size_log2 exports
 same_trim : (source target : List ℕ) (a b : TrimParts) → a ≡ b → trim source target a.0 a.1 a.2 ≡ trim source target b.0 b.1 b.2
 same_trim source target a b e = ap (λ (t : TrimParts). trim source target t.0 t.1 t.2) e
 
-one_trim : (source target : List ℕ) (parts : Option TrimParts) (c d : CommandValue) → IsTrimOf source target parts c → IsTrimOf source target parts d → d ≡ c
+one_trim : (source target : List ℕ) (parts : Option TrimParts) (c d : CommandView) → IsTrimOf source target parts c → IsTrimOf source target parts d → d ≡ c
 one_trim source target parts c d h k = k.4
     ∙ (same_trim source target (k.0, k.1, k.2) (h.0, h.1, h.2) (same_Some {A = TrimParts} (k.0, k.1, k.2) (h.0, h.1, h.2) (sym k.3 ∙ h.3)) ∙ sym h.4)
 
@@ -77,7 +77,7 @@ small_page page_size_log2 after_paths (inl h) = omega (arith, h.0)
 small_page page_size_log2 after_paths (inr (inl h)) = omega (arith, h.0)
 small_page page_size_log2 after_paths (inr (inr h)) = omega (arith, h.0)
 
-executable : (arguments : List (List ℕ)) (c : CommandValue) → IsCommandLine arguments c → IsExecutable c
+executable : (arguments : List (List ℕ)) (c : CommandView) → IsCommandLine arguments c → IsExecutable c
 executable arguments (dedupe s t) e = tt
 executable arguments (scan s) e = tt
 executable arguments (trim s t realloc page_size_log2 exports) (after_paths, e, line) = (exports_some exports line.are_exports, small_page page_size_log2 line.paged line.is_page)
@@ -85,25 +85,25 @@ executable arguments (trim s t realloc page_size_log2 exports) (after_paths, e, 
 -- what the arguments of a trim are, where its parts were found
 
 pub trim_line : {E : Type 0} (source target : List ℕ) (after_paths arguments : List (List ℕ)) (r : Result Command E)
-    → arguments ≡ trim_line_of source target after_paths → IfOk r (λ c. IsTrimOf source target (trim_parts after_paths) (command_value c))
-    → IfOk r (λ c. IsCommandLine arguments (command_value c))
-trim_line source target after_paths arguments (Ok c) is h = rw is (line_of_parts source target after_paths (trim_parts after_paths) (command_value c) refl h)
+    → arguments ≡ trim_line_of source target after_paths → IfOk r (λ c. IsTrimOf source target (trim_parts after_paths) (command_view c))
+    → IfOk r (λ c. IsCommandLine arguments (command_view c))
+trim_line source target after_paths arguments (Ok c) is h = rw is (line_of_parts source target after_paths (trim_parts after_paths) (command_view c) refl h)
 trim_line source target after_paths arguments (Err e) is h = tt
 
 pub trim_unique : {E : Type 0} (source target : List ℕ) (after_paths arguments : List (List ℕ)) (r : Result Command E)
-    → arguments ≡ trim_line_of source target after_paths → IfOk r (λ c. IsTrimOf source target (trim_parts after_paths) (command_value c))
-    → IfOk r (λ c. (d : CommandValue) → IsCommandLine arguments d → d ≡ command_value c)
+    → arguments ≡ trim_line_of source target after_paths → IfOk r (λ c. IsTrimOf source target (trim_parts after_paths) (command_view c))
+    → IfOk r (λ c. (d : CommandView) → IsCommandLine arguments d → d ≡ command_view c)
 trim_unique source target after_paths arguments (Ok c) is h =
-    rw is (λ d line. one_trim source target (trim_parts after_paths) (command_value c) d h (parts_of_line source target after_paths d line))
+    rw is (λ d line. one_trim source target (trim_parts after_paths) (command_view c) d h (parts_of_line source target after_paths d line))
 trim_unique source target after_paths arguments (Err e) is h = tt
 
 pub trim_executable : {E : Type 0} (source target : List ℕ) (after_paths : List (List ℕ)) (r : Result Command E)
-    → IfOk r (λ c. IsTrimOf source target (trim_parts after_paths) (command_value c)) → IfOk r (λ c. IsExecutable (command_value c))
-trim_executable source target after_paths (Ok c) h = executable (trim_line_of source target after_paths) (command_value c)
-    (line_of_parts source target after_paths (trim_parts after_paths) (command_value c) refl h)
+    → IfOk r (λ c. IsTrimOf source target (trim_parts after_paths) (command_view c)) → IfOk r (λ c. IsExecutable (command_view c))
+trim_executable source target after_paths (Ok c) h = executable (trim_line_of source target after_paths) (command_view c)
+    (line_of_parts source target after_paths (trim_parts after_paths) (command_view c) refl h)
 trim_executable source target after_paths (Err e) h = tt
 
-no_trim : (source target : List ℕ) (after_paths : List (List ℕ)) → trim_parts after_paths ≡ None → (d : CommandValue)
+no_trim : (source target : List ℕ) (after_paths : List (List ℕ)) → trim_parts after_paths ≡ None → (d : CommandView)
     → ¬ (IsCommandLine (trim_line_of source target after_paths) d)
 no_trim source target after_paths none d line =
     let found = parts_of_line source target after_paths d line in
@@ -112,6 +112,6 @@ no_trim source target after_paths none d line =
 
 pub trim_usage : {E : Type 0} (source target : List ℕ) (after_paths arguments : List (List ℕ)) (r : Result Command E)
     → arguments ≡ trim_line_of source target after_paths → (IsErr r → trim_parts after_paths ≡ None)
-    → IfErr r (λ e. (d : CommandValue) → ¬ (IsCommandLine arguments d))
+    → IfErr r (λ e. (d : CommandView) → ¬ (IsCommandLine arguments d))
 trim_usage source target after_paths arguments (Ok c) is h = tt
 trim_usage source target after_paths arguments (Err e) is h = rw is (no_trim source target after_paths (h refl))

@@ -1,5 +1,5 @@
 mod TrimArgumentsLemmas
 mod CommandLemmas
-mod FaultsLemmas
+mod FaultLemmas
 mod ExecutionLemmas
 mod ProgramLemmas

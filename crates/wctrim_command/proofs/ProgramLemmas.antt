@@ -5,13 +5,13 @@ use Rattle.wc_program.specs.Files.{FileChange}
 use Rattle.wc_program.specs.Program.{Prints, failure}
 use Rattle.wc_program.specs.Screen.{Becomes, output_ends}
 use Rattle.wc_program.proofs.ScreenLemmas.{hands_on_more}
-use Rattle.wctrim_command.specs.Command.{CommandValue}
+use Rattle.wctrim_command.specs.Command.{CommandView}
 use Rattle.wctrim_command.specs.Program.{EndsInFault, IsReported, IsRunCause, IsRunFault, LeavesOutput, fault_line, run_fault_text}
 use Rattle.wctrim_command.specs.declared.fault.ToolFault.TheVariants.{Output}
 use Rattle.wctrim_command.specs.declared.program.RunFault.{RunFault}
 use Rattle.wctrim_command.specs.declared.program.RunFault.TheVariants.{CannotRead, CannotWrite, Tool}
 
-module _ {S : Type 0} (c : CommandValue) (files : FileChange) (written sent : S → Option (List ℕ)) (is_failed : S → Bool) (before middle after : S) where
+module _ {S : Type 0} (c : CommandView) (files : FileChange) (written sent : S → Option (List ℕ)) (is_failed : S → Bool) (before middle after : S) where
   abbrev Ends : S → S → Option (List ℕ) → Type 0
   Ends = output_ends written sent is_failed
 

@@ -3,41 +3,41 @@ use Rattle.std.specs.Prelude.{◌≡◌, ◌≢◌, ◌↔◌, ℕ, List, [], Op
 use Rattle.wc_read.specs.Sections.{IsComponent}
 use Rattle.wc_read.specs.Modules.{ModuleValue, SpellsModule}
 use Rattle.wc_read.specs.declared.fault.ReadFault.TheVariants.{Memory as read_memory, Component}
-use Rattle.wc_dedupe.specs.Renaming.{RenameValue}
+use Rattle.wc_dedupe.specs.Renaming.{RenameView}
 use Rattle.wc_dedupe.specs.Dedupe.{IsDeduped, IsDedupeCause}
 use Rattle.wc_dedupe.specs.declared.fault.DedupeFault.TheVariants.{Memory as dedupe_memory}
-use Rattle.wc_gc.specs.Liveness.{TrimInput, trim_input_for_names}
-use Rattle.wc_gc.specs.Parts.{SettingsValue}
+use Rattle.wc_gc.specs.LiveItems.{TrimInput, trim_input_for_names}
+use Rattle.wc_gc.specs.Parts.{SettingsView}
 use Rattle.wc_gc.specs.TrimmedText.{IsTrimmed}
-use Rattle.wc_gc.specs.Trimming.{IsTrimFault}
+use Rattle.wc_gc.specs.Trim.{IsTrimFault}
 use Rattle.wc_gc.specs.declared.fault.GcFault.TheVariants.{Memory as gc_memory}
-use Rattle.wctrim_command.specs.Command.{CommandValue, dedupe, scan, trim}
+use Rattle.wctrim_command.specs.Command.{CommandView, dedupe, scan, trim}
 use Rattle.wctrim_command.specs.Lines.{lines_of}
 use Rattle.wctrim_command.specs.Scan.{scan_lines}
 use Rattle.wctrim_command.specs.declared.fault.ToolFault.{ToolFault}
 use Rattle.wctrim_command.specs.declared.fault.ToolFault.TheVariants.{Memory, Dedupe, Trim, Read, Output}
 
 -- the cause of a fault of trimming
-abbrev pub IsTrimsCause : SettingsValue → TrimInput → ToolFault → Type 0
+abbrev pub IsTrimsCause : SettingsView → TrimInput → ToolFault → Type 0
 IsTrimsCause s w Memory = Unit {0}
 IsTrimsCause s w (Trim f) = (f ≢ gc_memory) × IsTrimFault s w f
 IsTrimsCause s w f = ⊥
 
 -- how a trim's adapter is trimmed
-abbrev pub settings_of : Option (List ℕ) → ℕ → SettingsValue
+abbrev pub settings_of : Option (List ℕ) → ℕ → SettingsView
 settings_of realloc page_size_log2 = record { realloc = realloc; page_size_log2 = page_size_log2 }
 
 -- the command makes these lines of the input, and these bytes, where it makes any
-abbrev pub Runs : CommandValue → List ℕ → List ℕ → Option (List ℕ) → Type 0
+abbrev pub Runs : CommandView → List ℕ → List ℕ → Option (List ℕ) → Type 0
 Runs (dedupe source target) input lines answer =
-    (bytes : List ℕ) × (renames : List RenameValue) × IsDeduped input bytes renames × (lines ≡ lines_of renames) × (answer ≡ Some bytes)
+    (bytes : List ℕ) × (renames : List RenameView) × IsDeduped input bytes renames × (lines ≡ lines_of renames) × (answer ≡ Some bytes)
 Runs (scan source) input lines answer =
     (m : ModuleValue) × SpellsModule input m × (lines ≡ scan_lines m) × (answer ≡ None)
 Runs (trim source target realloc page_size_log2 exports) input lines answer =
     (bytes : List ℕ) × IsTrimmed (settings_of realloc page_size_log2) (trim_input_for_names input exports) bytes × (lines ≡ []) × (answer ≡ Some bytes)
 
 -- the cause of a fault. Memory and Output may come with any input: that a put failed is said of the sink
-abbrev pub IsToolCause : CommandValue → List ℕ → ToolFault → Type 0
+abbrev pub IsToolCause : CommandView → List ℕ → ToolFault → Type 0
 IsToolCause c input Memory = Unit {0}
 IsToolCause (dedupe source target) input (Dedupe f) = (f ≢ dedupe_memory) × IsDedupeCause input f
 IsToolCause (dedupe source target) input (Read f) = ⊥

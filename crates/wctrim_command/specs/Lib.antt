@@ -1,7 +1,7 @@
 pub mod Command
 pub mod Lines
 pub mod Scan
-pub mod Faults
+pub mod Fault
 pub mod Execution
 pub mod Program
 pub mod Private

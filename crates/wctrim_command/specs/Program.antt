@@ -9,10 +9,10 @@ use Rattle.wc_program.specs.declared.files.ReadProblem.{ReadProblem}
 use Rattle.wc_program.specs.declared.files.ReadProblem.TheVariants.{Memory as read_memory}
 use Rattle.wc_program.specs.declared.program.NoArguments.{NoArguments}
 use Rattle.wc_program.specs.declared.program.NoArguments.TheVariants.{Empty, NoMemory, NoText}
-use Rattle.wctrim_command.specs.Command.{CommandValue, source_of, target_of, IsCommandLine}
+use Rattle.wctrim_command.specs.Command.{CommandView, source_of, target_of, IsCommandLine}
 use Rattle.wctrim_command.specs.Lines.{line_feed}
 use Rattle.wctrim_command.specs.Execution.{Runs, IsToolCause}
-use Rattle.wctrim_command.specs.Faults.{tool_fault_text}
+use Rattle.wctrim_command.specs.Fault.{tool_fault_text}
 use Rattle.wctrim_command.specs.declared.fault.ToolFault.{ToolFault}
 use Rattle.wctrim_command.specs.declared.fault.ToolFault.TheVariants.{Memory, Output}
 use Rattle.wctrim_command.specs.declared.program.RunFault.{RunFault}
@@ -39,7 +39,7 @@ IsAnswered (Some target) None before after = after ≡ before
 IsAnswered None answer before after = after ≡ before
 
 -- the command made these lines of the bytes of its input file, and the output file has its answer
-pub record IsDone (c : CommandValue) (before after : Option Held) (lines : List ℕ) : Type 0 where
+pub record IsDone (c : CommandView) (before after : Option Held) (lines : List ℕ) : Type 0 where
   pub input : List ℕ
   pub answer : Option (List ℕ)
   pub read : Holds before (source_of c) input
@@ -47,16 +47,16 @@ pub record IsDone (c : CommandValue) (before after : Option Held) (lines : List 
   pub written : IsAnswered (target_of c) answer before after
 
 -- the input file could not be read, for a problem other than memory
-abbrev pub IsUnreadInput : CommandValue → FileChange → Type 0
+abbrev pub IsUnreadInput : CommandView → FileChange → Type 0
 IsUnreadInput c files = (p : ReadProblem) × files.IsFailedRead (source_of c) p × (p ≢ read_memory)
 
 -- it is too large for memory, and each file has the bytes that it had
-abbrev pub IsTooLarge : CommandValue → FileChange → ToolFault → Type 0
+abbrev pub IsTooLarge : CommandView → FileChange → ToolFault → Type 0
 IsTooLarge c files Memory = files.IsFailedRead (source_of c) read_memory × (files.after ≡ files.before)
 IsTooLarge c files f = ⊥
 
 -- the bytes of the input file were refused, and each file has the bytes that it had
-pub record IsRefused (c : CommandValue) (before after : Option Held) (fault : ToolFault) : Type 0 where
+pub record IsRefused (c : CommandView) (before after : Option Held) (fault : ToolFault) : Type 0 where
   pub input : List ℕ
   pub read : Holds before (source_of c) input
   pub cause : IsToolCause c input fault
@@ -64,7 +64,7 @@ pub record IsRefused (c : CommandValue) (before after : Option Held) (fault : To
 
 -- after these lines the output file was to have the answer, and the write of this failed; each other file has the bytes
 -- that it had
-pub record IsUnwritten (c : CommandValue) (files : FileChange) (lines target : List ℕ) : Type 0 where
+pub record IsUnwritten (c : CommandView) (files : FileChange) (lines target : List ℕ) : Type 0 where
   pub input : List ℕ
   pub answer : List ℕ
   pub read : Holds files.before (source_of c) input
@@ -74,7 +74,7 @@ pub record IsUnwritten (c : CommandValue) (files : FileChange) (lines target : L
   pub others : KeepsOthers files.before files.after target
 
 -- the cause of a fault of a command that was run on its files, after these lines
-abbrev pub IsRunCause : CommandValue → FileChange → List ℕ → RunFault → Type 0
+abbrev pub IsRunCause : CommandView → FileChange → List ℕ → RunFault → Type 0
 IsRunCause c files lines (CannotRead path) = (path.now ≡ source_of c) × (files.after ≡ files.before) × (lines ≡ []) × IsUnreadInput c files
 IsRunCause c files lines (Tool fault) = (IsRefused c files.before files.after fault ⊎ IsTooLarge c files fault) × (lines ≡ [])
 IsRunCause c files lines (CannotWrite path) = IsUnwritten c files lines path.now
@@ -86,7 +86,7 @@ LeavesOutput (CannotWrite path) lines out = out (printed lines)
 LeavesOutput f lines out = out nothing
 
 -- a command that was run on its files has this fault
-abbrev pub IsRunFault : CommandValue → FileChange → (Printing → Type 0) → RunFault → Type 0
+abbrev pub IsRunFault : CommandView → FileChange → (Printing → Type 0) → RunFault → Type 0
 IsRunFault c files out f = (lines : List ℕ) × IsRunCause c files lines f × LeavesOutput f lines out
 
 -- the text of a fault
@@ -100,23 +100,23 @@ abbrev pub IsReported : (Printing → Type 0) → RunFault → List ℕ → Type
 IsReported out fault lines = ((fault ≢ Tool Output) × out (printed (lines ++ fault_line (run_fault_text fault)))) ⊎ out failed
 
 -- the command did its work, and its lines were printed
-abbrev pub EndsWell : CommandValue → Option Held → Option Held → (Printing → Type 0) → Type 0
+abbrev pub EndsWell : CommandView → Option Held → Option Held → (Printing → Type 0) → Type 0
 EndsWell c before after out = (lines : List ℕ) × IsDone c before after lines × out (printed lines)
 
 -- the command could not be run, and why was printed, unless the output failed
-abbrev pub EndsInFault : CommandValue → FileChange → (Printing → Type 0) → Type 0
+abbrev pub EndsInFault : CommandView → FileChange → (Printing → Type 0) → Type 0
 EndsInFault c files out = (fault : RunFault) × (lines : List ℕ) × IsRunCause c files lines fault × IsReported out fault lines
 
 -- how a run of a command ends
-abbrev pub CommandEnds : CommandValue → FileChange → (Printing → Type 0) → ℕ → Type 0
+abbrev pub CommandEnds : CommandView → FileChange → (Printing → Type 0) → ℕ → Type 0
 CommandEnds c files out status =
     (EndsWell c files.before files.after out × (status ≡ success)) ⊎ (EndsInFault c files out × (status ≡ failure))
 
 -- how the program ends with some arguments
 abbrev pub EndsWith : List (List ℕ) → FileChange → (Printing → Type 0) → ℕ → Type 0
 EndsWith arguments files out status =
-    ((c : CommandValue) × IsCommandLine arguments c × CommandEnds c files out status)
-    ⊎ (((c : CommandValue) → ¬ (IsCommandLine arguments c)) × (files.after ≡ files.before) × Prints usage_text wrong_arguments out status)
+    ((c : CommandView) × IsCommandLine arguments c × CommandEnds c files out status)
+    ⊎ (((c : CommandView) → ¬ (IsCommandLine arguments c)) × (files.after ≡ files.before) × Prints usage_text wrong_arguments out status)
 
 -- how it ends without arguments: there are none, there was no memory for them, or one is no text
 abbrev pub EndsWithout : NoArguments → FileChange → (Printing → Type 0) → ℕ → Type 0

@@ -1,7 +1,7 @@
 //! The arguments of a command.
 
 ghost use Rattle.std.specs.Prelude.{◌≡◌, IfOk, IfErr, IsErr, None, map, string_bytes};
-ghost use Rattle.wctrim_command.specs.Command.{CommandValue, command_value, IsCommandLine, IsExecutable};
+ghost use Rattle.wctrim_command.specs.Command.{CommandView, command_view, IsCommandLine, IsExecutable};
 ghost use Rattle.wctrim_command.specs.Private.TrimArguments.{trim_parts, IsTrimOf};
 
 use crate::trim_arguments::trim_arguments;
@@ -37,7 +37,7 @@ impl<'a> Command<'a> {
 
     /// The path of the file that is read.
     pub fn source(&self) -> &'a str
-        ensures { result.now ≡ source_of (command_value self.now) }
+        ensures { result.now ≡ source_of (command_view self.now) }
     {
         match *self {
             Command::Dedupe { source, .. } | Command::Scan { source } => source,
@@ -47,7 +47,7 @@ impl<'a> Command<'a> {
 
     /// The path of the file that is written, `None` where none is.
     pub fn target(&self) -> Option<&'a str>
-        ensures { option_map (λ t. t.now) result ≡ target_of (command_value self.now) }
+        ensures { option_map (λ t. t.now) result ≡ target_of (command_view self.now) }
     {
         match *self {
             Command::Dedupe { target, .. } => Some(target),
@@ -72,12 +72,12 @@ pub struct Usage;
 /// `Usage`: they are the arguments of no command.
 pub fn parse(arguments: &[String]) -> Result<Command<'_>, Usage>
     ensures command { IfOk result (λ c. IsCommandLine (map string_bytes arguments.now)
-        (command_value c)) }
+        (command_view c)) }
     // No other command has these arguments.
-    ensures unique { IfOk result (λ c. (d : CommandValue)
-        → IsCommandLine (map string_bytes arguments.now) d → d ≡ command_value c) }
-    ensures executable { IfOk result (λ c. IsExecutable (command_value c)) }
-    ensures usage { IfErr result (λ _. (c : CommandValue)
+    ensures unique { IfOk result (λ c. (d : CommandView)
+        → IsCommandLine (map string_bytes arguments.now) d → d ≡ command_view c) }
+    ensures executable { IfOk result (λ c. IsExecutable (command_view c)) }
+    ensures usage { IfErr result (λ _. (c : CommandView)
         → ¬ (IsCommandLine (map string_bytes arguments.now) c)) }
 {
     match arguments {
@@ -102,7 +102,7 @@ fn parse_trim<'a>(
     after_paths: &'a [String],
 ) -> Result<Command<'a>, Usage>
     ensures parts { IfOk result (λ c. IsTrimOf source.now target.now
-        (trim_parts (map string_bytes after_paths.now)) (command_value c)) }
+        (trim_parts (map string_bytes after_paths.now)) (command_view c)) }
     ensures none { IsErr result → trim_parts (map string_bytes after_paths.now) ≡ None }
 {
     let parsed = trim_arguments(after_paths)?;

@@ -1,16 +1,15 @@
 //! A command, from the bytes of its input to the bytes of its output.
 
-ghost use Rattle.std.specs.Prelude.{◌≡◌, ◌≢◌, ◌≤◌, true, ℕ, List, [], map, string_bytes, IfOk, IfErr, IsErrOf, OnOk};
+ghost use Rattle.std.specs.Prelude.{◌≡◌, ◌≢◌, ◌≤◌, true, ℕ, List, [], map, IfOk, IfErr, IsErrOf, OnOk};
 ghost use Rattle.std.specs.Option.{option_map};
 ghost use Rattle.std.specs.Cow.{cow_slice_items};
 ghost use Rattle.std.specs.Io.KnownBytes.{Appends};
 ghost use Rattle.wc_read.specs.Modules.{ModuleValue, SpellsModule};
-ghost use Rattle.wc_dedupe.specs.Renaming.{RenameValue};
+ghost use Rattle.wc_dedupe.specs.Renaming.{RenameView};
 ghost use Rattle.wc_dedupe.specs.Dedupe.{IsDeduped};
-ghost use Rattle.wc_gc.specs.Liveness.{names_of, trim_input_for_names};
+ghost use Rattle.wc_gc.specs.LiveItems.{names_of, trim_input_for_names};
 ghost use Rattle.wc_maps.specs.Names.{first_occurrences};
-ghost use Rattle.wc_gc.specs.declared.fault.GcFault.TheVariants.{Memory as gc_memory};
-ghost use Rattle.wctrim_command.specs.Command.{dedupe, scan, command_value, IsExecutable};
+ghost use Rattle.wctrim_command.specs.Command.{dedupe, scan, command_view, IsExecutable};
 ghost use Rattle.wc_gc.specs.Parts.{settings};
 ghost use Rattle.wc_gc.specs.TrimmedText.{IsTrimmed};
 ghost use Rattle.wctrim_command.specs.Lines.{lines_of};
@@ -56,12 +55,12 @@ pub fn execute<S: Sink>(
     out: &mut S,
 ) -> Result<Option<Vec<u8>>, ToolFault>
     // A trim has an export at least, and an exponent of 16 at most; `parse` gives no other.
-    requires { IsExecutable (command_value command.now) }
+    requires { IsExecutable (command_view command.now) }
     ensures done { IfOk result (λ r. (lines : List ℕ)
-        × Runs (command_value command.now) input.now lines (option_map (λ v. v.items) r)
+        × Runs (command_view command.now) input.now lines (option_map (λ v. v.items) r)
         × Appends (S.written out.old) (S.written out.new) lines) }
     ensures works { OnOk result (S.is_failed out.new ≡ S.is_failed out.old) }
-    ensures fault { IfErr result (IsToolCause (command_value command.now) input.now) }
+    ensures fault { IfErr result (IsToolCause (command_view command.now) input.now) }
     ensures output { IsErrOf result ToolFault.Output → S.is_failed out.new ≡ true }
     ensures quiet { IfErr result (λ e. e ≢ ToolFault.Output → out.new ≡ out.old) }
 {
@@ -89,7 +88,7 @@ pub fn execute<S: Sink>(
 
 /// The bytes of the module with its repeated imports renamed. A line is put for each rename.
 fn dedupe<S: Sink>(alloc: Global, input: &[u8], out: &mut S) -> Result<Vec<u8>, ToolFault>
-    ensures done { IfOk result (λ v. (renames : List RenameValue)
+    ensures done { IfOk result (λ v. (renames : List RenameView)
         × IsDeduped input.now v.items renames
         × Appends (S.written out.old) (S.written out.new) (lines_of renames)) }
     ensures works { OnOk result (S.is_failed out.new ≡ S.is_failed out.old) }

@@ -40,7 +40,7 @@ impl From<AllocError> for ToolFault {
 }
 
 impl From<DedupeFault> for ToolFault {
-    ghost use Rattle.wctrim_command.specs.Faults.{of_dedupe};
+    ghost use Rattle.wctrim_command.specs.Fault.{of_dedupe};
 
     ghost from_gives = { λ f e. e ≡ of_dedupe f };
 
@@ -53,7 +53,7 @@ impl From<DedupeFault> for ToolFault {
 }
 
 impl From<GcFault> for ToolFault {
-    ghost use Rattle.wctrim_command.specs.Faults.{of_trim};
+    ghost use Rattle.wctrim_command.specs.Fault.{of_trim};
 
     ghost from_gives = { λ f e. e ≡ of_trim f };
 
@@ -66,7 +66,7 @@ impl From<GcFault> for ToolFault {
 }
 
 impl From<ReadFault> for ToolFault {
-    ghost use Rattle.wctrim_command.specs.Faults.{of_read};
+    ghost use Rattle.wctrim_command.specs.Fault.{of_read};
 
     ghost from_gives = { λ f e. e ≡ of_read f };
 
@@ -87,7 +87,7 @@ impl From<PutFailed> for ToolFault {
 }
 
 impl Printable for ToolFault {
-    ghost use Rattle.wctrim_command.specs.Faults.{tool_fault_text};
+    ghost use Rattle.wctrim_command.specs.Fault.{tool_fault_text};
 
     ghost text = { tool_fault_text };
 

@@ -18,11 +18,11 @@
 //!     input: &[u8],
 //! ) -> Result<Option<Vec<u8>>, ToolFault>
 //!     ensures lines { IfOk result (λ answer. IfSome answer (λ lines.
-//!         (c : CommandValue) × (written : Option (List ℕ))
+//!         (c : CommandView) × (written : Option (List ℕ))
 //!         × IsCommandLine (map string_bytes arguments.now) c
 //!         × Runs c input.now lines.items written)) }
 //!     ensures usage { IfOk result (λ answer. IfNone answer
-//!         ((c : CommandValue) → ¬ (IsCommandLine (map string_bytes arguments.now) c))) }
+//!         ((c : CommandView) → ¬ (IsCommandLine (map string_bytes arguments.now) c))) }
 //! {
 //!     let Ok(command) = parse(arguments) else {
 //!         return Ok(None);
@@ -33,7 +33,7 @@
 //! }
 //! ```
 //!
-//! This function is proved in `wc_example_rows`, as `examples::tool::printed_lines`.
+//! This function is proved in `wc_example_rows`, as `examples::wctrim::printed_lines`.
 #![tactic(auto)]
 
 mod command;

@@ -1,6 +1,6 @@
 //! The lines that print renamed imports.
 
-ghost use Rattle.wc_dedupe.specs.Renames.{rename_value, rename_values};
+ghost use Rattle.wc_dedupe.specs.Renames.{rename_view, rename_values};
 ghost use Rattle.wc_write.specs.Puts.{Puts, PutsAny};
 ghost use Rattle.wctrim_command.specs.Lines.{line_of, lines_of};
 
@@ -33,7 +33,7 @@ pub(crate) fn put_renames<S: Sink>(out: &mut S, renames: &[Rename]) -> Result<()
 /// Puts the line `MODULE: OLD -> NEW` of a rename.
 fn put_rename<S: Sink>(out: &mut S, rename: &Rename) -> Result<(), PutFailed>
     ensures { Puts S.written S.is_failed out.old out.new
-        (line_of (rename_value rename.now)) result }
+        (line_of (rename_view rename.now)) result }
 {
     out.put(rename.module.as_bytes())?;
     out.put(COLON)?;

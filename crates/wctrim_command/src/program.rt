@@ -6,7 +6,7 @@ ghost use Rattle.std.specs.IoError.{error_kind};
 ghost use Rattle.wc_program.specs.Files.{file_change};
 ghost use Rattle.wc_program.specs.Program.{Prints, failure};
 ghost use Rattle.wc_program.specs.Screen.{Becomes, output_ends, printed};
-ghost use Rattle.wctrim_command.specs.Command.{command_value, IsExecutable};
+ghost use Rattle.wctrim_command.specs.Command.{command_view, IsExecutable};
 ghost use Rattle.wctrim_command.specs.Execution.{Runs, IsToolCause};
 ghost use Rattle.wctrim_command.specs.Program.{EndsWell, IsRunFault, CommandEnds, EndsWith, EndsWithout, ProgramEnds, EndsWithoutArguments, fault_line, run_fault_text};
 
@@ -17,8 +17,8 @@ use std::alloc::Global;
 use std::io::{self, ErrorKind};
 use wc_maps::Seed;
 use wc_program::{
-    FAILURE, FileStore, Message, NoArguments, Output, Printable, Program, ReadProblem, SUCCESS,
-    Shell, WRONG_ARGUMENTS, print, put_after, read_file,
+    FAILURE, FileStore, NoArguments, Output, Printable, Program, ReadProblem, SUCCESS, Shell,
+    TextBetween, WRONG_ARGUMENTS, print, put_after, read_file,
 };
 use wc_write::{PutFailed, Sink};
 
@@ -112,8 +112,8 @@ impl<F: FileStore, O: Output> Program<F, O, ()> for Wctrim {
 
 /// Runs a command on its files, and prints why it could not be run. The answer is the exit status.
 fn run_and_report<F: FileStore, O: Output>(command: &Command<'_>, shell: &mut Shell<F, O, ()>) -> u8
-    requires { IsExecutable (command_value command.now) }
-    ensures { CommandEnds (command_value command.now)
+    requires { IsExecutable (command_view command.now) }
+    ensures { CommandEnds (command_view command.now)
         (file_change F.held F.read_fails F.write_fails shell.old.files shell.new.files)
         (Becomes (output_ends O.written O.sent O.is_failed) shell.old.out shell.new.out)
         result }
@@ -135,7 +135,7 @@ fn report<O: Output>(out: &mut O, fault: &RunFault<'_>) -> u8
     ensures { Prints (fault_line (run_fault_text fault.now)) failure
         (Becomes (output_ends O.written O.sent O.is_failed) out.old out.new) result }
 {
-    let line = Message {
+    let line = TextBetween {
         before: b"wctrim: ",
         text: fault,
         after: b"\n",
@@ -162,11 +162,11 @@ pub fn run_command<'a, F: FileStore, O: Output>(
     files: &mut F,
     out: &mut O,
 ) -> Result<(), RunFault<'a>>
-    requires { IsExecutable (command_value command.now) }
+    requires { IsExecutable (command_view command.now) }
     ensures done { OnOk result (EndsWell
-        (command_value command.now) (F.held files.old) (F.held files.new)
+        (command_view command.now) (F.held files.old) (F.held files.new)
         (Becomes (output_ends O.written O.sent O.is_failed) out.old out.new)) }
-    ensures fault { IfErr result (IsRunFault (command_value command.now)
+    ensures fault { IfErr result (IsRunFault (command_view command.now)
         (file_change F.held F.read_fails F.write_fails files.old files.new)
         (Becomes (output_ends O.written O.sent O.is_failed) out.old out.new)) }
 {
@@ -197,11 +197,11 @@ fn execute_and_flush<O: Output>(
     input: &[u8],
     out: &mut O,
 ) -> Result<Option<Vec<u8>>, ToolFault>
-    requires { IsExecutable (command_value command.now) }
+    requires { IsExecutable (command_view command.now) }
     ensures done { IfOk result (λ r. (lines : List ℕ)
-        × Runs (command_value command.now) input.now lines (option_map (λ v. v.items) r)
+        × Runs (command_view command.now) input.now lines (option_map (λ v. v.items) r)
         × Becomes (output_ends O.written O.sent O.is_failed) out.old out.new (printed lines)) }
-    ensures fault { IfErr result (IsToolCause (command_value command.now) input.now) }
+    ensures fault { IfErr result (IsToolCause (command_view command.now) input.now) }
     ensures output { IsErrOf result ToolFault.Output → O.is_failed out.new ≡ true }
     ensures quiet { IfErr result (λ e. e ≢ ToolFault.Output → out.new ≡ out.old) }
 {

@@ -1,5 +1,5 @@
 -- What was printed of an adapter, or why it could not be, as of the bytes that spell it.
-use Rattle.std.proofs.Common.{◌≡◌, ◌≢◌, ◌+◌, ◌<◌, ℕ, Bool, List, [], ◌∷◌, length, map, take, get_or, String, Global, string_bytes, Option, None, Result, Ok, Err, OnOk, IfErr, refl, sym, ◌∙◌, ap, subst}
+use Rattle.std.proofs.Common.{◌≡◌, ◌+◌, ◌<◌, ℕ, List, [], ◌∷◌, length, map, take, get_or, String, Global, string_bytes, None, Result, Ok, Err, OnOk, IfErr, sym, ◌∙◌, ap, subst}
 use Rattle.std.proofs.lemmas.List.{map-append, take_more}
 use Rattle.std.specs.Borrow.{Bor}
 use Rattle.indexmap.specs.IndexSet.{insert_key}
@@ -9,28 +9,28 @@ use Rattle.wc_read.specs.Modules.{ModuleValue, SpellsModule}
 use Rattle.wc_read.specs.Names.{GlobalNameValue}
 use Rattle.wc_read.specs.Reading.Names.{AreFunctionNames}
 use Rattle.wc_maps.specs.Names.{first_occurrences}
-use Rattle.wc_gc.specs.Liveness.{IsFault, IsLivenessCause, TrimInput, names_of, trim_input, trim_input_for_names}
+use Rattle.wc_gc.specs.LiveItems.{IsFault, IsLivenessCause, TrimInput, names_of}
 use Rattle.wc_gc.specs.LiveChains.{AreImportChains, AreWhyImports}
 use Rattle.wc_gc.specs.declared.fault.GcFault.{GcFault}
 use Rattle.wc_gc.specs.declared.fault.GcFault.TheVariants.{Memory as gc_memory}
 use Rattle.wc_gc.specs.declared.import_chains.ImportChains.{ImportChains}
-use Rattle.wc_program.specs.Screen.{Printing, nothing, printed, failed}
-use Rattle.wcwhy_command.specs.Arguments.{CommandValue, text_of}
-use Rattle.wcwhy_command.specs.Faults.{of_adapter}
+use Rattle.wc_program.specs.Screen.{Printing, nothing}
+use Rattle.wcwhy_command.specs.Arguments.{CommandView, text_of}
+use Rattle.wcwhy_command.specs.Fault.{of_adapter}
 use Rattle.wcwhy_command.specs.Program.{HasNoCause, IsPrintCause, IsPrintedOf, IsReasonsText}
 use Rattle.wcwhy_command.specs.Patterns.{first_unknown}
-use Rattle.wcwhy_command.specs.Private.Runs.{ArePrinted, IsReasonsCause, PrintsSome}
-use Rattle.wcwhy_command.specs.declared.faults.WhyFault.{WhyFault}
-use Rattle.wcwhy_command.specs.declared.faults.WhyFault.TheVariants.{Memory, CannotRead, Adapter, NoImport, Output}
+use Rattle.wcwhy_command.specs.Private.Execution.{ArePrinted, IsReasonsCause, PrintsSome}
+use Rattle.wcwhy_command.specs.declared.fault.WhyFault.{WhyFault}
+use Rattle.wcwhy_command.specs.declared.fault.WhyFault.TheVariants.{Memory, NoImport, Output}
 
 -- a fault of liveness, with each export counted once
-pub adapter_cause : (c : CommandValue) (bytes : List ℕ) (names : List (List ℕ)) (out : Printing → Type 0) (f : GcFault) → names ≡ first_occurrences c.exports → out nothing
+pub adapter_cause : (c : CommandView) (bytes : List ℕ) (names : List (List ℕ)) (out : Printing → Type 0) (f : GcFault) → names ≡ first_occurrences c.exports → out nothing
     → IsFault (record { bytes = bytes; required = names }) f → IsPrintCause c bytes out (of_adapter f)
 adapter_cause c bytes names out gc_memory same still h = tt
 adapter_cause c bytes names out f same still h =
     (((λ e. cc), subst (λ (ns : List (List ℕ)). IsFault (record { bytes = bytes; required = ns }) f) same h), still)
 
-pub no_cause : (c : CommandValue) (bytes : List ℕ) (names : List (List ℕ)) → names ≡ first_occurrences c.exports
+pub no_cause : (c : CommandView) (bytes : List ℕ) (names : List (List ℕ)) → names ≡ first_occurrences c.exports
     → ((f : GcFault) → ¬ (IsLivenessCause (record { bytes = bytes; required = names }) f)) → HasNoCause c bytes
 no_cause c bytes names same none = subst (λ (ns : List (List ℕ)). (f : GcFault) → ¬ (IsLivenessCause (record { bytes = bytes; required = ns }) f)) same none
 
@@ -39,7 +39,7 @@ pub chains_of_read : (one : HasOneValue SpellsModule) (w : TrimInput) (m : Modul
     → AreImportChains w.required m c
 chains_of_read one w m c spelled (n, also, chains) = subst (λ (k : ModuleValue). AreImportChains w.required k c) (one w.bytes n m also spelled) chains
 
-module _ (c : CommandValue) (bytes : List ℕ) (m : ModuleValue) (spelled : SpellsModule bytes m) (out : Printing → Type 0) where
+module _ (c : CommandView) (bytes : List ℕ) (m : ModuleValue) (spelled : SpellsModule bytes m) (out : Printing → Type 0) where
   pub printed_of : {T : Type 0} (names : List GlobalNameValue) (r : Result T WhyFault) → AreFunctionNames bytes names → OnOk r (ArePrinted c m names out)
       → OnOk r (PrintsSome (IsPrintedOf c bytes) out)
   printed_of names (Ok x) named (text, known, is, shown) =
@@ -57,7 +57,7 @@ module _ (c : CommandValue) (bytes : List ℕ) (m : ModuleValue) (spelled : Spel
   some_cause_of (Err f) none h = cause_of none f h
 
 -- an adapter that has some of the imports that each option asks for
-pub printed_adapter : (c : CommandValue) (m : ModuleValue) (names : List GlobalNameValue) (required : List (List ℕ)) (out : Printing → Type 0)
+pub printed_adapter : (c : CommandView) (m : ModuleValue) (names : List GlobalNameValue) (required : List (List ℕ)) (out : Printing → Type 0)
     → required ≡ first_occurrences c.exports → first_unknown m.imports c.imports ≡ None → PrintsSome (IsReasonsText c.dot required m names c.imports) out
     → ArePrinted c m names out
 printed_adapter c m names required out same known (text, is, shown) =

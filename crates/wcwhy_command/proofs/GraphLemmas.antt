@@ -1,19 +1,17 @@
 -- The parts of a graph, which are put one after another.
-use Rattle.std.proofs.Common.{◌≡◌, ℕ, Bool, true, false, List, [], ◌++◌, codes, Option, Some, None, refl, sym, ◌∙◌, ap, subst, inl, inr}
+use Rattle.std.proofs.Common.{◌≡◌, ℕ, Bool, List, ◌++◌, codes, Option, Some, refl}
 use Rattle.std.proofs.KnownBytes.{Appends-kept, Appends-trans}
-use Rattle.std.proofs.lemmas.Option.{same_Some}
 use Rattle.std.specs.Io.KnownBytes.{Appends, Keeps}
 use Rattle.std.specs.List.{slice_get}
 use Rattle.wc_read.specs.Imports.{ImportValue}
 use Rattle.wc_gc.specs.declared.import_chains.ImportChains.{ImportChains}
 use Rattle.wc_program.specs.Screen.{HandsOn}
-use Rattle.wcwhy_command.specs.Arguments.{PatternValue}
-use Rattle.wcwhy_command.specs.Graph.{AreMarks, IsImportNode, import_node, import_text}
-use Rattle.wcwhy_command.specs.Patterns.{is_shown}
+use Rattle.wcwhy_command.specs.Arguments.{PatternView}
+use Rattle.wcwhy_command.specs.Graph.{AreMarks}
 use Rattle.wcwhy_command.specs.Private.Reasons.{AreItemsOf, AreNodesOf, AreReasons, IsGraphOf, PutsSome, adapter_in}
 use Rattle.wcwhy_command.specs.declared.reasons.Reasons.{Reasons}
 
-pub graph_put : (r : Reasons) (patterns : List PatternValue) (marks : List Bool) (a b c d e : Option (List ℕ)) → AreReasons r
+pub graph_put : (r : Reasons) (patterns : List PatternView) (marks : List Bool) (a b c d e : Option (List ℕ)) → AreReasons r
     → AreMarks r.chains.now (adapter_in r).imports patterns marks → Appends a b (codes "digraph wcwhy {\n") → PutsSome (AreItemsOf r marks) b c
     → PutsSome (AreNodesOf r patterns) c d → Appends d e (codes "}\n") → PutsSome (IsGraphOf r patterns) a e
 graph_put r patterns marks a b c d e are marked head (items, are_items, put_items) (imports, are_imports, put_imports) foot = (
@@ -38,10 +36,5 @@ pub handed_on : (a b c s : Option (List ℕ)) (text : List ℕ) → Appends a b 
 handed_on a b c s text put kept sent = record { put = Appends-kept a b c text put kept; sent = Appends-kept a b s text put sent }
 
 -- the node of an import, by what is at its position
-module _ (c : ImportChains) (imports : List ImportValue) (patterns : List PatternValue) (position : ℕ) (j : ImportValue) (p : Option ℕ)
-    (at : slice_get imports position ≡ Some j) (place_at : slice_get c.imports.items position ≡ Some p) where
-  pub node_of : (text : List ℕ) → text ≡ import_text (is_shown patterns j) j position p → IsImportNode c imports patterns position text
-  node_of text is i q e f =
-      let same : j ≡ i = same_Some j i (sym at ∙ e) in
-      let alike : p ≡ q = same_Some p q (sym place_at ∙ f) in
-      is ∙ ap (λ k. import_text (is_shown patterns k) k position p) same ∙ ap (import_text (is_shown patterns i) i position) alike
+module _ (c : ImportChains) (imports : List ImportValue) (patterns : List PatternView) (position : ℕ) (j : ImportValue) (p : Option ℕ)
+    (at : slice_get imports position ≡ Some j) (index_at : slice_get c.imports.items position ≡ Some p) where

@@ -1,5 +1,5 @@
 -- Each import is an item, which is where its position says.
-use Rattle.std.proofs.Common.{◌≡◌, ℕ, zero, suc, ◌+◌, ◌<◌, List, [], ◌∷◌, length, get_or, true, false, Some, None, Option, IfSome, option_map, refl, sym, ◌∙◌, ap, subst, arith, inl, inr}
+use Rattle.std.proofs.Common.{◌≡◌, ℕ, zero, suc, ◌+◌, ◌<◌, List, [], ◌∷◌, length, get_or, true, Some, None, Option, IfSome, option_map, refl, ◌∙◌, ap, subst, arith, inl, inr}
 use Rattle.std.proofs.lemmas.Bool.{cases_Bool}
 use Rattle.std.proofs.lemmas.List.Elements.{Contains-get_or}
 use Rattle.std.proofs.lemmas.Option.{slice_get_within, get_or_from_slice_get, slice_get-get_or, slice_get-map, slice_get_read}
@@ -16,8 +16,8 @@ use Rattle.wc_read.specs.declared.operators.Space.TheVariants.{Funcs, Tables, Me
 use Rattle.wc_read.specs.declared.types.ImportType.{ImportType}
 use Rattle.wc_read.specs.declared.types.ImportType.TheVariants.{Func, Table, Memory, Global}
 use Rattle.wc_gc.specs.Decoded.{ItemIndex}
-use Rattle.wc_gc.specs.Restriction.{is_in_space, positions_from}
-use Rattle.wc_gc.specs.LiveChains.{AreImportChains, AreImportPositions}
+use Rattle.wc_gc.specs.RestrictionLaws.{is_in_space, positions_from}
+use Rattle.wc_gc.specs.LiveChains.{AreImportChains}
 use Rattle.wc_gc.specs.declared.import_chains.ImportChains.{ImportChains}
 
 abbrev space_of : ImportType → Space
@@ -44,24 +44,24 @@ item_from (j ∷ js) first (suc position) i e =
       | inr other ↦ (x, rw other at)
     ]
 
--- the place of an import's item is in range
-pub place_there : (required : List (List ℕ)) (m : ModuleValue) (c : ImportChains) (position place : ℕ) (i : ImportValue) → AreImportChains required m c
-    → slice_get m.imports position ≡ Some i → slice_get c.imports.items position ≡ Some (Some place) → place < length c.order.items
-place_there required m c position place i a e f =
+-- the index of an import's item is in range
+pub index_there : (required : List (List ℕ)) (m : ModuleValue) (c : ImportChains) (position index : ℕ) (i : ImportValue) → AreImportChains required m c
+    → slice_get m.imports position ≡ Some i → slice_get c.imports.items position ≡ Some (Some index) → index < length c.order.items
+index_there required m c position index i a e f =
     let x = item_from m.imports 0 position i e in
     let at : slice_get (positions_from x.0.0 0 m.imports) x.0.1 ≡ Some position = x.1 ∙ ap Some (omega arith) in
-    slice_get_within c.order.items place x.0 (a.imports.at position x.0 (Some place) at f)
+    slice_get_within c.order.items index x.0 (a.imports.at position x.0 (Some index) at f)
 
 pub got_contains : (xs : List ItemIndex) (k : ℕ) (x : ItemIndex) → slice_get xs k ≡ Some x → Contains xs x
 got_contains xs k x e = subst (Contains xs) (get_or_from_slice_get xs k x x e) (Contains-get_or xs k x (slice_get_within xs k x e))
 
--- the same of a place that was read, if there is one
-pub place_inside : (required : List (List ℕ)) (m : ModuleValue) (c : ImportChains) (position : ℕ) (p : Option ℕ) (i : ImportValue) → AreImportChains required m c
+-- the same of an index that was read, if there is one
+pub index_inside : (required : List (List ℕ)) (m : ModuleValue) (c : ImportChains) (position : ℕ) (p : Option ℕ) (i : ImportValue) → AreImportChains required m c
     → slice_get m.imports position ≡ Some i → slice_get c.imports.items position ≡ Some p → IfSome p (λ q. q < length c.order.items)
-place_inside required m c position None i a e f = tt
-place_inside required m c position (Some place) i a e f = place_there required m c position place i a e f
+index_inside required m c position None i a e f = tt
+index_inside required m c position (Some index) i a e f = index_there required m c position index i a e f
 
--- an import, and the place of its item, that were read
+-- an import, and the index of its item, that were read
 pub import_at : (r : Reasons) (k : ℕ) (i : Import) → k < length r.adapter.now.imports.items → i ≡ get_or r.adapter.now.imports.items k i
     → slice_get (adapter_in r).imports k ≡ Some (import_value i)
 import_at r k i lt is =
@@ -74,10 +74,10 @@ there r k a lt =
     let mapped = length-map r.adapter.now.imports.items import_value in
     omega (arith, each, mapped, lt)
 
-pub place_read : (r : Reasons) (k : ℕ) (p : Option ℕ) → AreReasons r → k < length r.adapter.now.imports.items → p ≡ get_or r.chains.now.imports.items k p
+pub index_read : (r : Reasons) (k : ℕ) (p : Option ℕ) → AreReasons r → k < length r.adapter.now.imports.items → p ≡ get_or r.chains.now.imports.items k p
     → slice_get r.chains.now.imports.items k ≡ Some p
-place_read r k p a lt is = slice_get_read r.chains.now.imports.items (length r.chains.now.imports.items) k p refl (there r k a lt) is
+index_read r k p a lt is = slice_get_read r.chains.now.imports.items (length r.chains.now.imports.items) k p refl (there r k a lt) is
 
-pub place_known : (r : Reasons) (k : ℕ) → AreReasons r → k < length r.adapter.now.imports.items
+pub index_known : (r : Reasons) (k : ℕ) → AreReasons r → k < length r.adapter.now.imports.items
     → slice_get r.chains.now.imports.items k ≡ Some (get_or r.chains.now.imports.items k None)
-place_known r k a lt = slice_get-get_or r.chains.now.imports.items k None (there r k a lt)
+index_known r k a lt = slice_get-get_or r.chains.now.imports.items k None (there r k a lt)

@@ -1,5 +1,5 @@
 -- What is printed of an import, by whether it is asked for and where its item is.
-use Rattle.std.proofs.Common.{◌≡◌, ℕ, List, [], map, Bool, Option, Result, Ok, Err, IfOk, String, Global, string_bytes, nat_eq, option_map, true, false, Some, None, refl, sym, ◌∙◌, ap, subst, inl, inr}
+use Rattle.std.proofs.Common.{◌≡◌, ℕ, List, map, Bool, Option, Result, Ok, Err, IfOk, String, Global, string_bytes, nat_eq, option_map, true, Some, None, sym, ◌∙◌, ap, subst, inl, inr}
 use Rattle.std.proofs.lemmas.Map.Made.{lookup-map_values}
 use Rattle.std.specs.Borrow.{Bor}
 use Rattle.std.specs.Map.{lookup}
@@ -14,28 +14,25 @@ use Rattle.wc_read.specs.Names.{GlobalNameValue}
 use Rattle.wc_gc.specs.Decoded.{ItemIndex}
 use Rattle.wc_gc.specs.LiveChains.{AreImportChains}
 use Rattle.wc_gc.specs.declared.import_chains.ImportChains.{ImportChains}
-use Rattle.wcwhy_command.specs.Arguments.{PatternValue, text_of}
+use Rattle.wcwhy_command.specs.Arguments.{PatternView, text_of}
 use Rattle.wcwhy_command.specs.Lines.{IsChainText, IsLineText, IsTextOf, chain_text, name_in, unreached_text}
 use Rattle.wcwhy_command.specs.Patterns.{are_asked, is_shown}
 use Rattle.wcwhy_command.proofs.ItemLemmas.{got_contains}
 
-module _ (required : List (List ℕ)) (m : ModuleValue) (names : List GlobalNameValue) (patterns : List PatternValue) (position : ℕ) (j : ImportValue) (text : List ℕ)
+module _ (required : List (List ℕ)) (m : ModuleValue) (names : List GlobalNameValue) (patterns : List PatternView) (position : ℕ) (j : ImportValue) (text : List ℕ)
     (at : slice_get m.imports position ≡ Some j) where
   of_this : IsTextOf required m names patterns position j text → IsLineText required m names patterns position text
   of_this t i e = subst (λ z. IsTextOf required m names patterns position z text) (same_Some j i (sym at ∙ e)) t
 
-  pub hidden_line : is_shown patterns j ≡ false → text ≡ [] → IsLineText required m names patterns position text
-  hidden_line hidden none = of_this (inl (hidden, none))
-
   module _ (c : ImportChains) (a : AreImportChains required m c) (shown : is_shown patterns j ≡ true) where
-    pub reached_line : (place : ℕ) → slice_get c.imports.items position ≡ Some (Some place)
-        → ((x : ItemIndex) → slice_get c.order.items place ≡ Some x → IsChainText required m names j x text)
+    pub reached_line : (index : ℕ) → slice_get c.imports.items position ≡ Some (Some index)
+        → ((x : ItemIndex) → slice_get c.order.items index ≡ Some x → IsChainText required m names j x text)
         → IsLineText required m names patterns position text
-    reached_line place e chain = of_this (inr (
+    reached_line index e chain = of_this (inr (
       shown,
       λ x item.
-          let found = a.imports.at position x (Some place) item e in
-          inl ((a.live x).0 (got_contains c.order.items place x found), chain x found),
+          let found = a.imports.at position x (Some index) item e in
+          inl ((a.live x).0 (got_contains c.order.items index x found), chain x found),
     ))
 
     pub unreached_line : slice_get c.imports.items position ≡ Some None → text ≡ unreached_text (are_asked patterns) j
@@ -45,20 +42,20 @@ module _ (required : List (List ℕ)) (m : ModuleValue) (names : List GlobalName
 -- the lines of an import, of which it is known what was answered for them
 
 pub chain_lines : {E : Type 0} (r : Result (String Global) E) (required : List (List ℕ)) (m : ModuleValue) (names : List GlobalNameValue) (i : ImportValue)
-    (chains : ImportChains) (place : ℕ) (c : Chain) → AreImportChains required m chains
-    → ((needed : List (List ℕ)) (n : ModuleValue) (x : ItemIndex) → AreImportChains needed n chains → slice_get chains.order.items place ≡ Some x → IsChainTo needed n x c)
+    (chains : ImportChains) (index : ℕ) (c : Chain) → AreImportChains required m chains
+    → ((needed : List (List ℕ)) (n : ModuleValue) (x : ItemIndex) → AreImportChains needed n chains → slice_get chains.order.items index ≡ Some x → IsChainTo needed n x c)
     → IfOk r (λ t. string_bytes t ≡ chain_text names i c)
-    → IfOk r (λ t. (x : ItemIndex) → slice_get chains.order.items place ≡ Some x → IsChainText required m names i x (string_bytes t))
-chain_lines (Ok t) required m names i chains place c a found h = λ x e. (c, found required m x a e, h)
-chain_lines (Err e) required m names i chains place c a found h = tt
+    → IfOk r (λ t. (x : ItemIndex) → slice_get chains.order.items index ≡ Some x → IsChainText required m names i x (string_bytes t))
+chain_lines (Ok t) required m names i chains index c a found h = λ x e. (c, found required m x a e, h)
+chain_lines (Err e) required m names i chains index c a found h = tt
 
-module _ (required : List (List ℕ)) (m : ModuleValue) (names : List GlobalNameValue) (patterns : List PatternValue) (position : ℕ) (j : ImportValue)
+module _ (required : List (List ℕ)) (m : ModuleValue) (names : List GlobalNameValue) (patterns : List PatternView) (position : ℕ) (j : ImportValue)
     (at : slice_get m.imports position ≡ Some j) (c : ImportChains) (a : AreImportChains required m c) (shown : is_shown patterns j ≡ true) where
-  pub reached_lines : {E : Type 0} (r : Result (String Global) E) (place : ℕ) → slice_get c.imports.items position ≡ Some (Some place)
-      → IfOk r (λ t. (x : ItemIndex) → slice_get c.order.items place ≡ Some x → IsChainText required m names j x (string_bytes t))
+  pub reached_lines : {E : Type 0} (r : Result (String Global) E) (index : ℕ) → slice_get c.imports.items position ≡ Some (Some index)
+      → IfOk r (λ t. (x : ItemIndex) → slice_get c.order.items index ≡ Some x → IsChainText required m names j x (string_bytes t))
       → IfOk r (λ t. IsLineText required m names patterns position (string_bytes t))
-  reached_lines (Ok t) place e h = reached_line required m names patterns position j (string_bytes t) at c a shown place e h
-  reached_lines (Err f) place e h = tt
+  reached_lines (Ok t) index e h = reached_line required m names patterns position j (string_bytes t) at c a shown index e h
+  reached_lines (Err f) index e h = tt
 
   pub unreached_lines : {E : Type 0} (r : Result (String Global) E) (asked : Bool) → slice_get c.imports.items position ≡ Some None → asked ≡ are_asked patterns
       → IfOk r (λ t. string_bytes t ≡ unreached_text asked j) → IfOk r (λ t. IsLineText required m names patterns position (string_bytes t))

@@ -1,16 +1,16 @@
--- The places of imports that are asked for are marked, and then their finders.
-use Rattle.std.proofs.Common.{◌≡◌, ◌≢◌, ◌↔◌, ◌⊎◌, ℕ, zero, suc, ◌+◌, ◌<◌, ◌≤◌, Bool, true, false, List, [], ◌∷◌, length, replicate, set, Option, Some, None, refl, sym, ◌∙◌, ap, subst, arith, inl, inr}
+-- The indices of imports that are asked for are marked, and then their finders.
+use Rattle.std.proofs.Common.{◌≡◌, ◌≢◌, ◌⊎◌, ℕ, zero, suc, ◌+◌, ◌<◌, ◌≤◌, Bool, true, false, List, [], ◌∷◌, length, replicate, set, Option, Some, None, refl, sym, ◌∙◌, ap, subst, arith, inl, inr}
 use Rattle.std.proofs.lemmas.Bool.{cases_Bool}
 use Rattle.std.proofs.lemmas.List.{length-set, length-replicate}
 use Rattle.std.proofs.lemmas.Option.{same_Some, slice_get_within}
 use Rattle.std.specs.List.{slice_get}
 use Rattle.wc_read.specs.Imports.{ImportValue}
 use Rattle.wc_gc.specs.declared.import_chains.ImportChains.{ImportChains}
-use Rattle.wcwhy_command.specs.Arguments.{PatternValue}
+use Rattle.wcwhy_command.specs.Arguments.{PatternView}
 use Rattle.wcwhy_command.specs.Graph.{AreMarks, IsOnChain, here, before}
 use Rattle.wcwhy_command.specs.Patterns.{is_shown}
 use Rattle.wcwhy_command.specs.Marks.{AreTaken, IsTaken, first, next}
-use Rattle.wcwhy_command.specs.Private.Marks.{AreHere, IsHere, place_at, shown_by}
+use Rattle.wcwhy_command.specs.Private.Marks.{AreHere, IsHere, index_at, shown_by}
 
 -- marks, when one is set
 
@@ -55,44 +55,44 @@ stays_set marks k j lt e = elim (same_or j k) [
 
 -- imports that are asked for
 
-module _ (c : ImportChains) (imports : List ImportValue) (patterns : List PatternValue) where
+module _ (c : ImportChains) (imports : List ImportValue) (patterns : List PatternView) where
   pub none_here : (marks : List Bool) → marks ≡ replicate (length c.order.items) false → AreHere c imports patterns 0 marks
   none_here marks e = record {
     sized = ap length e ∙ length-replicate (length c.order.items) false;
-    marked = λ place lt. (
-      (λ is. absurd (none_is_set (length c.order.items) place (subst (λ (ms : List Bool). slice_get ms place ≡ Some true) e is))),
+    marked = λ index lt. (
+      (λ is. absurd (none_is_set (length c.order.items) index (subst (λ (ms : List Bool). slice_get ms index ≡ Some true) e is))),
       (λ is. absurd (omega (arith, is.1))),
     );
   }
 
-  more_here : (n place : ℕ) → IsHere c imports patterns n place → IsHere c imports patterns (n + 1) place
-  more_here n place (position, lt, at) = (position, omega (arith, lt), at)
+  more_here : (n index : ℕ) → IsHere c imports patterns n index → IsHere c imports patterns (n + 1) index
+  more_here n index (position, lt, at) = (position, omega (arith, lt), at)
 
-  less_here : (n place : ℕ) → IsHere c imports patterns (n + 1) place → IsHere c imports patterns n place ⊎ (place_at c imports patterns n ≡ Some place)
-  less_here n place (position, lt, at) = elim (same_or position n) [
-    | inl same ↦ inr (subst (λ k. place_at c imports patterns k ≡ Some place) same at)
+  less_here : (n index : ℕ) → IsHere c imports patterns (n + 1) index → IsHere c imports patterns n index ⊎ (index_at c imports patterns n ≡ Some index)
+  less_here n index (position, lt, at) = elim (same_or position n) [
+    | inl same ↦ inr (subst (λ k. index_at c imports patterns k ≡ Some index) same at)
     | inr differ ↦ inl (position, (let less : position < n = omega (arith, lt, differ) in less), at)
   ]
 
-  pub one_here : (n place : ℕ) (marks : List Bool) → place < length marks → place_at c imports patterns n ≡ Some place
-      → AreHere c imports patterns n marks → AreHere c imports patterns (n + 1) (set marks place true)
-  one_here n place marks lt at a = record {
-    sized = length-set marks place true ∙ a.sized;
+  pub one_here : (n index : ℕ) (marks : List Bool) → index < length marks → index_at c imports patterns n ≡ Some index
+      → AreHere c imports patterns n marks → AreHere c imports patterns (n + 1) (set marks index true)
+  one_here n index marks lt at a = record {
+    sized = length-set marks index true ∙ a.sized;
     marked = λ other less.
-        let inside : other < length marks = subst (λ k. other < k) (length-set marks place true) less in (
-          (λ is. elim (was_set marks place other is) [
+        let inside : other < length marks = subst (λ k. other < k) (length-set marks index true) less in (
+          (λ is. elim (was_set marks index other is) [
             | inl same ↦ (n, omega arith, at ∙ ap Some (sym same))
             | inr old ↦ more_here n other ((a.marked other inside).0 old)
           ]),
           (λ is. elim (less_here n other is) [
-            | inl old ↦ stays_set marks place other lt ((a.marked other inside).1 old)
-            | inr new ↦ let same : other ≡ place = same_Some other place (sym new ∙ at) in
-                subst (λ k. slice_get (set marks place true) k ≡ Some true) (sym same) (set_at marks place lt)
+            | inl old ↦ stays_set marks index other lt ((a.marked other inside).1 old)
+            | inr new ↦ let same : other ≡ index = same_Some other index (sym new ∙ at) in
+                subst (λ k. slice_get (set marks index true) k ≡ Some true) (sym same) (set_at marks index lt)
           ]),
         );
   }
 
-  pub no_more_here : (n : ℕ) (marks : List Bool) → place_at c imports patterns n ≡ None → AreHere c imports patterns n marks
+  pub no_more_here : (n : ℕ) (marks : List Bool) → index_at c imports patterns n ≡ None → AreHere c imports patterns n marks
       → AreHere c imports patterns (n + 1) marks
   no_more_here n marks none a = record {
     sized = a.sized;
@@ -105,45 +105,45 @@ module _ (c : ImportChains) (imports : List ImportValue) (patterns : List Patter
     );
   }
 
-  pub hidden_place : (position : ℕ) (i : ImportValue) (p : Option ℕ) → slice_get imports position ≡ Some i → slice_get c.imports.items position ≡ Some p
-      → is_shown patterns i ≡ false → None ≡ place_at c imports patterns position
-  hidden_place position i p e f hidden = rw (e, f, hidden) refl
+  pub hidden_index : (position : ℕ) (i : ImportValue) (p : Option ℕ) → slice_get imports position ≡ Some i → slice_get c.imports.items position ≡ Some p
+      → is_shown patterns i ≡ false → None ≡ index_at c imports patterns position
+  hidden_index position i p e f hidden = rw (e, f, hidden) refl
 
-  -- what is at a place that is marked for an import
-  shown_from : (i : Option ImportValue) (p : Option (Option ℕ)) (place : ℕ) → shown_by patterns i p ≡ Some place
-      → (j : ImportValue) × (i ≡ Some j) × (is_shown patterns j ≡ true) × (p ≡ Some (Some place))
-  shown_from None p place e = absurd cc
-  shown_from (Some j) None place e = absurd cc
-  shown_from (Some j) (Some q) place e = elim (cases_Bool (is_shown patterns j)) [
+  -- what is at an index that is marked for an import
+  shown_from : (i : Option ImportValue) (p : Option (Option ℕ)) (index : ℕ) → shown_by patterns i p ≡ Some index
+      → (j : ImportValue) × (i ≡ Some j) × (is_shown patterns j ≡ true) × (p ≡ Some (Some index))
+  shown_from None p index e = absurd cc
+  shown_from (Some j) None index e = absurd cc
+  shown_from (Some j) (Some q) index e = elim (cases_Bool (is_shown patterns j)) [
     | inl shown ↦ (j, refl, shown, ap Some (rw shown at e))
-    | inr hidden ↦ absurd (let none : None ≡ Some place = rw hidden at e in cc)
+    | inr hidden ↦ absurd (let none : None ≡ Some index = rw hidden at e in cc)
   ]
 
-  on_from_here : (n place : ℕ) → IsHere c imports patterns n place → IsOnChain c imports patterns place
-  on_from_here n place (position, lt, at) =
-      let s = shown_from (slice_get imports position) (slice_get c.imports.items position) place at in
+  on_from_here : (n index : ℕ) → IsHere c imports patterns n index → IsOnChain c imports patterns index
+  on_from_here n index (position, lt, at) =
+      let s = shown_from (slice_get imports position) (slice_get c.imports.items position) index at in
       here position s.0 s.1 s.2 s.3
 
-  shown_at : (position place : ℕ) (i : ImportValue) → slice_get imports position ≡ Some i → is_shown patterns i ≡ true
-      → slice_get c.imports.items position ≡ Some (Some place) → place_at c imports patterns position ≡ Some place
-  shown_at position place i e shown f = rw (e, f, shown) refl
+  shown_at : (position index : ℕ) (i : ImportValue) → slice_get imports position ≡ Some i → is_shown patterns i ≡ true
+      → slice_get c.imports.items position ≡ Some (Some index) → index_at c imports patterns position ≡ Some index
+  shown_at position index i e shown f = rw (e, f, shown) refl
 
   module _ (marks : List Bool) (last : List Bool) (a : AreHere c imports patterns (length imports) marks) (t : AreTaken c marks 0 last)
-      (in_range : (position place : ℕ) (i : ImportValue) → slice_get imports position ≡ Some i → slice_get c.imports.items position ≡ Some (Some place) → place < length c.order.items) where
-    on_from_taken : (place : ℕ) → IsTaken c marks place → IsOnChain c imports patterns place
-    on_from_taken place (first is) = on_from_here (length imports) place ((a.marked place (slice_get_within marks place true is)).0 is)
-    on_from_taken place (next from is e) = before from (on_from_taken from is) e
+      (in_range : (position index : ℕ) (i : ImportValue) → slice_get imports position ≡ Some i → slice_get c.imports.items position ≡ Some (Some index) → index < length c.order.items) where
+    on_from_taken : (index : ℕ) → IsTaken c marks index → IsOnChain c imports patterns index
+    on_from_taken index (first is) = on_from_here (length imports) index ((a.marked index (slice_get_within marks index true is)).0 is)
+    on_from_taken index (next from is e) = before from (on_from_taken from is) e
 
-    marked_from_on : (place : ℕ) → IsOnChain c imports patterns place → slice_get last place ≡ Some true
-    marked_from_on place (here position i e shown f) =
-        t.kept place ((a.marked place (subst (λ k. place < k) (sym a.sized) (in_range position place i e f))).1
-        (position, slice_get_within imports position i e, shown_at position place i e shown f))
-    marked_from_on place (before from on e) = t.taken from place (omega arith) (marked_from_on from on) e
+    marked_from_on : (index : ℕ) → IsOnChain c imports patterns index → slice_get last index ≡ Some true
+    marked_from_on index (here position i e shown f) =
+        t.kept index ((a.marked index (subst (λ k. index < k) (sym a.sized) (in_range position index i e f))).1
+        (position, slice_get_within imports position i e, shown_at position index i e shown f))
+    marked_from_on index (before from on e) = t.taken from index (omega arith) (marked_from_on from on) e
 
     pub all_marks : AreMarks c imports patterns last
     all_marks = record {
       sized = t.sized ∙ a.sized;
-      marked = λ place lt. ((λ is. on_from_taken place (t.only place is)), (λ on. marked_from_on place on));
+      marked = λ index lt. ((λ is. on_from_taken index (t.only index is)), (λ on. marked_from_on index on));
     }
 
 -- their finders
@@ -152,38 +152,38 @@ module _ (c : ImportChains) (old : List Bool) where
   pub none_taken : AreTaken c old (length old) old
   none_taken = record {
     sized = refl;
-    only = λ place is. first is;
-    kept = λ place is. is;
-    taken = λ place finder le is e. absurd (let lt = slice_get_within old place true is in omega (arith, le, lt));
+    only = λ index is. first is;
+    kept = λ index is. is;
+    taken = λ index finder le is e. absurd (let lt = slice_get_within old index true is in omega (arith, le, lt));
   }
 
-  pub one_taken : (place finder : ℕ) (marks : List Bool) → AreTaken c old (place + 1) marks → slice_get marks place ≡ Some true
-      → slice_get c.finder.items place ≡ Some finder → finder ≤ place → AreTaken c old place (set marks finder true)
-  one_taken place finder marks t is at le =
-      let inside : finder < length marks = (let lt = slice_get_within marks place true is in omega (arith, lt)) in
+  pub one_taken : (index finder : ℕ) (marks : List Bool) → AreTaken c old (index + 1) marks → slice_get marks index ≡ Some true
+      → slice_get c.finder.items index ≡ Some finder → finder ≤ index → AreTaken c old index (set marks finder true)
+  one_taken index finder marks t is at le =
+      let inside : finder < length marks = (let lt = slice_get_within marks index true is in omega (arith, lt)) in
       record {
         sized = length-set marks finder true ∙ t.sized;
         only = λ other e. elim (was_set marks finder other e) [
-          | inl same ↦ subst (IsTaken c old) (sym same) (next place (t.only place is) at)
+          | inl same ↦ subst (IsTaken c old) (sym same) (next index (t.only index is) at)
           | inr before_it ↦ t.only other before_it
         ];
         kept = λ other e. stays_set marks finder other inside (t.kept other e);
-        taken = λ other its from e f. elim (same_or other place) [
+        taken = λ other its from e f. elim (same_or other index) [
           | inl same ↦ let one : its ≡ finder = same_Some its finder (sym f ∙ subst (λ k. slice_get c.finder.items k ≡ Some finder) (sym same) at) in
               subst (λ k. slice_get (set marks finder true) k ≡ Some true) (sym one) (set_at marks finder inside)
-          | inr differ ↦ let past : place + 1 ≤ other = omega (arith, from, differ) in
+          | inr differ ↦ let past : index + 1 ≤ other = omega (arith, from, differ) in
               let apart : other ≢ finder = (λ same. absurd (omega (arith, same, le, past))) in
               stays_set marks finder its inside (t.taken other its past (sym (set_other marks finder other apart) ∙ e) f)
         ];
       }
 
-  pub not_taken : (place : ℕ) (marks : List Bool) → AreTaken c old (place + 1) marks → slice_get marks place ≡ Some false → AreTaken c old place marks
-  not_taken place marks t is = record {
+  pub not_taken : (index : ℕ) (marks : List Bool) → AreTaken c old (index + 1) marks → slice_get marks index ≡ Some false → AreTaken c old index marks
+  not_taken index marks t is = record {
     sized = t.sized;
     only = t.only;
     kept = t.kept;
-    taken = λ other its from e f. elim (same_or other place) [
+    taken = λ other its from e f. elim (same_or other index) [
       | inl same ↦ absurd (let both : Some false ≡ Some true = sym is ∙ subst (λ k. slice_get marks k ≡ Some true) same e in cc)
-      | inr differ ↦ t.taken other its (let past : place + 1 ≤ other = omega (arith, from, differ) in past) e f
+      | inr differ ↦ t.taken other its (let past : index + 1 ≤ other = omega (arith, from, differ) in past) e f
     ];
   }

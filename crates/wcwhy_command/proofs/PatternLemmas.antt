@@ -1,11 +1,10 @@
 -- Options that are gone through one after another.
-use Rattle.std.proofs.Common.{◌≡◌, ℕ, zero, suc, ◌+◌, ◌<◌, ◌≤◌, Bool, true, false, not, ◌||◌, ◌==◌, List, [], ◌∷◌, length, map, take, get_or, Option, Some, None, refl, subst, arith, inl, inr}
+use Rattle.std.proofs.Common.{◌≡◌, ℕ, zero, suc, ◌+◌, ◌<◌, Bool, true, false, not, ◌==◌, List, [], ◌∷◌, length, map, take, get_or, Some, None, refl, subst, arith, inl, inr}
 use Rattle.std.proofs.lemmas.Bool.{cases_Bool}
 use Rattle.std.proofs.lemmas.Bool.Decides.{nat_tests}
 use Rattle.std.specs.List.{find, list_any}
-use Rattle.wc_read.specs.Imports.{ImportValue}
-use Rattle.wcwhy_command.specs.Arguments.{pattern_value}
-use Rattle.wcwhy_command.specs.Patterns.{are_asked, is_match, is_shown}
+use Rattle.wcwhy_command.specs.Arguments.{pattern_view}
+use Rattle.wcwhy_command.specs.Patterns.{are_asked}
 use Rattle.wcwhy_command.specs.declared.arguments.ImportPattern.{ImportPattern}
 
 module _ {X Y : Type 0} (v : X → Y) (f : Y → Bool) where
@@ -44,11 +43,6 @@ module _ {X Y : Type 0} (v : X → Y) (f : Y → Bool) where
 is_empty : (n : ℕ) → (suc n == 0) ≡ false
 is_empty n = grind (arith, nat_tests)
 
-pub asked_is : (patterns : List ImportPattern) → are_asked (map pattern_value patterns) ≡ not (length patterns == 0)
+pub asked_is : (patterns : List ImportPattern) → are_asked (map pattern_view patterns) ≡ not (length patterns == 0)
 asked_is [] = refl
 asked_is (p ∷ patterns) = rw (is_empty (length patterns)) refl
-
-pub shown_is : (patterns : List ImportPattern) (i : ImportValue)
-    → is_shown (map pattern_value patterns) i ≡ ((length patterns == 0) || list_any (λ q. is_match q i) (map pattern_value patterns))
-shown_is [] i = refl
-shown_is (p ∷ patterns) i = rw (is_empty (length patterns)) refl

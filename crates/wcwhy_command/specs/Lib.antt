@@ -7,6 +7,6 @@ pub mod Joined
 pub mod Lines
 pub mod Graph
 pub mod Marks
-pub mod Faults
+pub mod Fault
 pub mod Program
 pub mod Private

@@ -1,5 +1,5 @@
 -- The lines that say why imports stay.
-use Rattle.std.specs.Prelude.{◌≡◌, ◌⊎◌, ℕ, Bool, true, false, nat_eq, cond, List, [], ◌∷◌, ◌++◌, length, codes, decimal, Option, Some, None}
+use Rattle.std.specs.Prelude.{◌≡◌, ◌⊎◌, ℕ, Bool, true, false, nat_eq, cond, List, [], ◌++◌, length, codes, decimal, Option, Some, None}
 use Rattle.std.specs.List.{flat_map, slice_get}
 use Rattle.std.specs.Map.{lookup}
 use Rattle.wc_json.specs.Escape.{escaped}
@@ -9,11 +9,11 @@ use Rattle.wc_read.specs.Names.{GlobalNameValue}
 use Rattle.wc_read.specs.declared.operators.Space.{Space}
 use Rattle.wc_read.specs.declared.operators.Space.TheVariants.{Types, Funcs, Tables, Memories, Globals}
 use Rattle.wc_gc.specs.Decoded.{ItemIndex}
-use Rattle.wc_gc.specs.Liveness.{IsLive}
-use Rattle.wc_gc.specs.Restriction.{IsImportItem}
+use Rattle.wc_gc.specs.LiveItems.{IsLive}
+use Rattle.wc_gc.specs.RestrictionLaws.{IsImportItem}
 use Rattle.wc_gc.specs.LiveChains.{IsChainTo}
 use Rattle.wc_gc.specs.declared.import_chains.Chain.{Chain}
-use Rattle.wcwhy_command.specs.Arguments.{PatternValue}
+use Rattle.wcwhy_command.specs.Arguments.{PatternView}
 use Rattle.wcwhy_command.specs.Joined.{AreJoined}
 use Rattle.wcwhy_command.specs.Patterns.{are_asked, is_shown}
 use Rattle.wcwhy_command.specs.Texts.{word}
@@ -64,17 +64,17 @@ IsImportText required m names asked i x text =
     ⊎ ((¬ (IsLive required m x)) × (text ≡ unreached_text asked i))
 
 -- what is printed of an import: nothing, if it is not asked for
-abbrev pub IsTextOf : List (List ℕ) → ModuleValue → List GlobalNameValue → List PatternValue → ℕ → ImportValue → List ℕ → Type 0
+abbrev pub IsTextOf : List (List ℕ) → ModuleValue → List GlobalNameValue → List PatternView → ℕ → ImportValue → List ℕ → Type 0
 IsTextOf required m names patterns position i text =
     ((is_shown patterns i ≡ false) × (text ≡ []))
     ⊎ ((is_shown patterns i ≡ true)
     × ((x : ItemIndex) → IsImportItem m.imports position x → IsImportText required m names (are_asked patterns) i x text))
 
 -- what is printed of the import at a position
-abbrev pub IsLineText : List (List ℕ) → ModuleValue → List GlobalNameValue → List PatternValue → ℕ → List ℕ → Type 0
+abbrev pub IsLineText : List (List ℕ) → ModuleValue → List GlobalNameValue → List PatternView → ℕ → List ℕ → Type 0
 IsLineText required m names patterns position text =
     (i : ImportValue) → slice_get m.imports position ≡ Some i → IsTextOf required m names patterns position i text
 
 -- what is printed of all imports, in order
-abbrev pub AreLines : List (List ℕ) → ModuleValue → List GlobalNameValue → List PatternValue → List ℕ → Type 0
+abbrev pub AreLines : List (List ℕ) → ModuleValue → List GlobalNameValue → List PatternView → List ℕ → Type 0
 AreLines required m names patterns lines = AreJoined (length m.imports) (IsLineText required m names patterns) lines

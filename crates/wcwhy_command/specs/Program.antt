@@ -1,12 +1,12 @@
 -- The program: what it prints, and its exit status. No file is changed.
-use Rattle.std.specs.Prelude.{◌≡◌, ◌≢◌, ◌⊎◌, ℕ, Bool, true, false, List, map, Option, Some, None, String, Ok, Err, ⊤}
+use Rattle.std.specs.Prelude.{◌≡◌, ◌≢◌, ◌⊎◌, ℕ, Bool, true, false, List, Option, Some, None, String, Ok, Err, ⊤}
 use Rattle.std.specs.declared.alloc.Global.{Global}
 use Rattle.wc_json.specs.Escape.{escaped}
 use Rattle.wc_read.specs.Modules.{ModuleValue, SpellsModule}
 use Rattle.wc_read.specs.Names.{GlobalNameValue}
 use Rattle.wc_read.specs.Reading.Names.{AreFunctionNames}
 use Rattle.wc_maps.specs.Names.{first_occurrences}
-use Rattle.wc_gc.specs.Liveness.{IsFault, IsLivenessCause, trim_input_for_names}
+use Rattle.wc_gc.specs.LiveItems.{IsFault, IsLivenessCause, trim_input_for_names}
 use Rattle.wc_gc.specs.declared.fault.GcFault.{GcFault}
 use Rattle.wc_gc.specs.declared.fault.GcFault.TheVariants.{Memory as gc_memory}
 use Rattle.wc_program.specs.FaultTexts.{memory_text}
@@ -15,28 +15,28 @@ use Rattle.wc_program.specs.Program.{success, failure, wrong_arguments, Prints, 
 use Rattle.wc_program.specs.Screen.{Printing, nothing, printed, failed}
 use Rattle.wc_program.specs.declared.program.NoArguments.{NoArguments}
 use Rattle.wc_program.specs.declared.program.NoArguments.TheVariants.{Empty, NoMemory, NoText}
-use Rattle.wcwhy_command.specs.Arguments.{CommandValue, PatternValue, Reading, Stop, help, version, wrong, WrongValue, pattern_value}
+use Rattle.wcwhy_command.specs.Arguments.{CommandView, PatternView, Reading, Stop, help, version, wrong, WrongView, pattern_view}
 use Rattle.wcwhy_command.specs.Reading.{AsksMemory, read_arguments}
 use Rattle.wcwhy_command.specs.Usage.{usage_text, help_text, version_text, wrong_text, no_text, fault_line, fault_and_usage}
 use Rattle.wcwhy_command.specs.Lines.{AreLines}
 use Rattle.wcwhy_command.specs.Graph.{IsGraph}
 use Rattle.wcwhy_command.specs.Patterns.{first_unknown}
-use Rattle.wcwhy_command.specs.Faults.{why_fault_text}
-use Rattle.wcwhy_command.specs.declared.faults.WhyFault.{WhyFault}
-use Rattle.wcwhy_command.specs.declared.faults.WhyFault.TheVariants.{Memory, CannotRead, Adapter, NoImport, Output}
+use Rattle.wcwhy_command.specs.Fault.{why_fault_text}
+use Rattle.wcwhy_command.specs.declared.fault.WhyFault.{WhyFault}
+use Rattle.wcwhy_command.specs.declared.fault.WhyFault.TheVariants.{Memory, CannotRead, Adapter, NoImport, Output}
 
 -- what is printed of an adapter of which exports are required, and whose functions have these names: a graph, where it is asked
 -- for; else lines
-abbrev pub IsReasonsText : Bool → List (List ℕ) → ModuleValue → List GlobalNameValue → List PatternValue → List ℕ → Type 0
+abbrev pub IsReasonsText : Bool → List (List ℕ) → ModuleValue → List GlobalNameValue → List PatternView → List ℕ → Type 0
 IsReasonsText true required m names patterns text = IsGraph required m names patterns text
 IsReasonsText false required m names patterns text = AreLines required m names patterns text
 
 -- the same for a command, with each export counted once
-abbrev pub IsTextFor : CommandValue → ModuleValue → List GlobalNameValue → List ℕ → Type 0
+abbrev pub IsTextFor : CommandView → ModuleValue → List GlobalNameValue → List ℕ → Type 0
 IsTextFor c m names text = IsReasonsText c.dot (first_occurrences c.exports) m names c.imports text
 
 -- the bytes spell an adapter that has some of the imports that each option asks for, and this is printed of it
-pub record IsPrintedOf (c : CommandValue) (bytes text : List ℕ) : Type 0 where
+pub record IsPrintedOf (c : CommandView) (bytes text : List ℕ) : Type 0 where
   pub adapter : ModuleValue
   pub spelled : SpellsModule bytes adapter
   pub known : first_unknown adapter.imports c.imports ≡ None
@@ -45,29 +45,29 @@ pub record IsPrintedOf (c : CommandValue) (bytes text : List ℕ) : Type 0 where
   pub is : IsTextFor c adapter names text
 
 -- no fault of liveness has a cause
-abbrev pub HasNoCause : CommandValue → List ℕ → Type 0
+abbrev pub HasNoCause : CommandView → List ℕ → Type 0
 HasNoCause c bytes = (f : GcFault) → ¬ (IsLivenessCause (trim_input_for_names bytes c.exports) f)
 
 -- why nothing is printed of the bytes of an adapter
-abbrev pub IsBytesCause : CommandValue → List ℕ → WhyFault → Type 0
+abbrev pub IsBytesCause : CommandView → List ℕ → WhyFault → Type 0
 IsBytesCause c bytes (Adapter f) = (f ≢ gc_memory) × IsFault (trim_input_for_names bytes c.exports) f
 IsBytesCause c bytes (NoImport p) =
-    HasNoCause c bytes × (m : ModuleValue) × SpellsModule bytes m × (first_unknown m.imports c.imports ≡ Some (pattern_value p))
+    HasNoCause c bytes × (m : ModuleValue) × SpellsModule bytes m × (first_unknown m.imports c.imports ≡ Some (pattern_view p))
 IsBytesCause c bytes f = ⊥
 
 -- why bytes could not be printed of: where memory runs out, it is left open what was printed before
-abbrev pub IsPrintCause : CommandValue → List ℕ → (Printing → Type 0) → WhyFault → Type 0
+abbrev pub IsPrintCause : CommandView → List ℕ → (Printing → Type 0) → WhyFault → Type 0
 IsPrintCause c bytes out Memory = ⊤
 IsPrintCause c bytes out Output = out failed
 IsPrintCause c bytes out f = IsBytesCause c bytes f × out nothing
 
 -- why a command could not be run
-abbrev pub IsRunCause : CommandValue → Option Held → (Printing → Type 0) → WhyFault → Type 0
+abbrev pub IsRunCause : CommandView → Option Held → (Printing → Type 0) → WhyFault → Type 0
 IsRunCause c before out (CannotRead path) = (path.now ≡ c.source) × out nothing
 IsRunCause c before out f = (bytes : List ℕ) × Holds before c.source bytes × IsPrintCause c bytes out f
 
 -- the command did its work
-abbrev pub EndsWell : CommandValue → Option Held → (Printing → Type 0) → Type 0
+abbrev pub EndsWell : CommandView → Option Held → (Printing → Type 0) → Type 0
 EndsWell c before out = (bytes text : List ℕ) × Holds before c.source bytes × IsPrintedOf c bytes text × out (printed text)
 
 -- a fault is printed in a line, or that there was no memory for its text
@@ -80,7 +80,7 @@ abbrev pub EndsWithoutMemory : (Printing → Type 0) → (Printing → Type 0) �
 EndsWithoutMemory out err status = out nothing × Prints (fault_line memory_text) failure err status
 
 -- a command did its work, or could not be run, and then its fault is printed to the other output
-abbrev pub CommandEnds : CommandValue → Option Held → (Printing → Type 0) → (Printing → Type 0) → ℕ → Type 0
+abbrev pub CommandEnds : CommandView → Option Held → (Printing → Type 0) → (Printing → Type 0) → ℕ → Type 0
 CommandEnds c before out err status =
     (EndsWell c before out × err nothing × (status ≡ success))
     ⊎ ((fault : WhyFault) × IsRunCause c before out fault × IsReported fault err status)
@@ -91,13 +91,13 @@ StopEnds help out err status = Prints help_text success out status × err nothin
 StopEnds version out err status = Prints version_text success out status × err nothing
 StopEnds (wrong w) out err status = out nothing × Prints (fault_and_usage (escaped (wrong_text w))) wrong_arguments err status
 
-abbrev pub ReadingEnds : Reading CommandValue → Option Held → (Printing → Type 0) → (Printing → Type 0) → ℕ → Type 0
+abbrev pub ReadingEnds : Reading CommandView → Option Held → (Printing → Type 0) → (Printing → Type 0) → ℕ → Type 0
 ReadingEnds (Ok c) before out err status = CommandEnds c before out err status
 ReadingEnds (Err stop) before out err status = StopEnds stop out err status
 
 -- where there is no command, memory is asked for by arguments, or by the text of what is wrong with them
 abbrev pub NeedsMemory : List (List ℕ) → Type 0
-NeedsMemory arguments = AsksMemory arguments ⊎ ((w : WrongValue) × (read_arguments arguments ≡ Err (wrong w)))
+NeedsMemory arguments = AsksMemory arguments ⊎ ((w : WrongView) × (read_arguments arguments ≡ Err (wrong w)))
 
 -- how the program ends with some arguments
 abbrev pub EndsWith : List (List ℕ) → Option Held → Option Held → (Printing → Type 0) → (Printing → Type 0) → ℕ → Type 0

@@ -1,6 +1,6 @@
 -- The texts that say how the program is called, and what is wrong with a call.
 use Rattle.std.specs.Prelude.{ℕ, List, ◌++◌, codes}
-use Rattle.wcwhy_command.specs.Arguments.{WrongValue, unknown_option, missing_value, repeated_option, missing}
+use Rattle.wcwhy_command.specs.Arguments.{WrongView, unknown_option, missing_value, repeated_option, missing}
 
 -- the usage text
 abbrev pub usage_text : List ℕ
@@ -23,7 +23,7 @@ abbrev pub version_text : List ℕ
 version_text = codes "wcwhy 0.262.0\n"
 
 -- what is wrong with an argument
-abbrev pub wrong_text : WrongValue → List ℕ
+abbrev pub wrong_text : WrongView → List ℕ
 wrong_text (unknown_option argument) = codes "unknown option " ++ argument
 wrong_text (missing_value option) = codes "missing value of " ++ option
 wrong_text (repeated_option option) = option ++ codes " twice"

@@ -2,8 +2,8 @@
 
 ghost use Rattle.std.specs.Prelude.{◌≡◌, IfErr, OnOk, false, map, string_bytes, true};
 ghost use Rattle.std.specs.Option.{option_map};
-ghost use Rattle.wcwhy_command.specs.Arguments.{IsRead, IsReadWithoutMemory, IsStopOf, command_value, pattern_value};
-ghost use Rattle.wcwhy_command.specs.Reading.{AsksMemory, KeepsMore, add_dot, add_text, draft_value, finish, none_read, pair_of, pattern_of, plain_command, read_arguments, take_option, take_pair, take_up, with_import};
+ghost use Rattle.wcwhy_command.specs.Arguments.{IsRead, IsReadWithoutMemory, IsStopOf, command_view, pattern_view};
+ghost use Rattle.wcwhy_command.specs.Reading.{AsksMemory, KeepsMore, add_text, draft_view, finish, none_read, pair_of, pattern_of, plain_command, read_arguments, take_option, take_pair, take_up, with_import};
 ghost use Rattle.wcwhy_command.specs.declared.arguments.NoCommand.TheVariants.{Memory};
 
 use std::alloc::{AllocFailed, Global};
@@ -107,7 +107,7 @@ pub fn parse(alloc: Global, arguments: &[String]) -> Result<Command<'_>, NoComma
 
 /// The command without options and exports, whose path is empty.
 fn no_options<'a>(alloc: Global) -> Command<'a>
-    ensures { command_value result ≡ plain_command }
+    ensures { command_view result ≡ plain_command }
 {
     Command {
         source: "",
@@ -123,9 +123,9 @@ fn take_up<'a>(
     draft: &mut Draft,
     argument: &'a str,
 ) -> Result<(), NoCommand<'a>>
-    ensures taken { OnOk result (take_up (command_value command.old) (draft_value draft.old)
-        argument.now ≡ Ok (command_value command.new, draft_value draft.new)) }
-    ensures stops { let c = command_value command.old in let d = draft_value draft.old in
+    ensures taken { OnOk result (take_up (command_view command.old) (draft_view draft.old)
+        argument.now ≡ Ok (command_view command.new, draft_view draft.new)) }
+    ensures stops { let c = command_view command.old in let d = draft_view draft.old in
         IfErr result (IsStopOf (KeepsMore c) (take_up c d argument.now)) }
 {
     if draft.is_ended {
@@ -152,9 +152,9 @@ fn add_text<'a>(
     draft: &mut Draft,
     argument: &'a str,
 ) -> Result<(), NoCommand<'a>>
-    ensures added { OnOk result (add_text (command_value command.old) (draft_value draft.old)
-        argument.now ≡ Ok (command_value command.new, draft_value draft.new)) }
-    ensures stops { let c = command_value command.old in let d = draft_value draft.old in
+    ensures added { OnOk result (add_text (command_view command.old) (draft_view draft.old)
+        argument.now ≡ Ok (command_view command.new, draft_view draft.new)) }
+    ensures stops { let c = command_view command.old in let d = draft_view draft.old in
         IfErr result (IsStopOf (KeepsMore c) (add_text c d argument.now)) }
 {
     if draft.has_source {
@@ -172,9 +172,9 @@ fn take_option<'a>(
     draft: &mut Draft,
     argument: &'a str,
 ) -> Result<(), NoCommand<'a>>
-    ensures taken { OnOk result (take_option (command_value command.old) (draft_value draft.old)
-        argument.now ≡ Ok (command_value command.new, draft_value draft.new)) }
-    ensures stops { let c = command_value command.old in let d = draft_value draft.old in
+    ensures taken { OnOk result (take_option (command_view command.old) (draft_view draft.old)
+        argument.now ≡ Ok (command_view command.new, draft_view draft.new)) }
+    ensures stops { let c = command_view command.old in let d = draft_view draft.old in
         IfErr result (IsStopOf (KeepsMore c) (take_option c d argument.now)) }
 {
     if argument == "--help" || argument == "-h" {
@@ -195,9 +195,9 @@ fn take_option<'a>(
 
 /// Takes up an argument that is `--import=MODULE[=NAME]`.
 fn take_pair<'a>(command: &mut Command<'a>, argument: &'a str) -> Result<(), NoCommand<'a>>
-    ensures taken { OnOk result (take_pair (command_value command.old) argument.now
-        ≡ Ok (command_value command.new)) }
-    ensures stops { let c = command_value command.old in
+    ensures taken { OnOk result (take_pair (command_view command.old) argument.now
+        ≡ Ok (command_view command.new)) }
+    ensures stops { let c = command_view command.old in
         IfErr result (IsStopOf (λ next. KeepsMore c (next, none_read))
         (take_pair c argument.now)) }
 {
@@ -209,8 +209,8 @@ fn take_pair<'a>(command: &mut Command<'a>, argument: &'a str) -> Result<(), NoC
 
 /// Adds the pattern of an option `--import`.
 fn add_import<'a>(command: &mut Command<'a>, value: &'a str) -> Result<(), NoCommand<'a>>
-    ensures added { OnOk result (with_import (command_value command.old) value.now
-        ≡ command_value command.new) }
+    ensures added { OnOk result (with_import (command_view command.old) value.now
+        ≡ command_view command.new) }
     ensures memory { IfErr result (λ e. e ≡ NoCommand.Memory) }
 {
     command.imports.push(pattern(value))?;
@@ -219,7 +219,7 @@ fn add_import<'a>(command: &mut Command<'a>, value: &'a str) -> Result<(), NoCom
 
 /// The imports that the value of an option asks for.
 fn pattern(value: &str) -> ImportPattern<'_>
-    ensures { pattern_value result ≡ pattern_of value.now }
+    ensures { pattern_view result ≡ pattern_of value.now }
 {
     match pair(value) {
         Some((module, name)) => ImportPattern {
@@ -256,7 +256,7 @@ fn set_dot<'a>(dot: &mut bool, name: &'a str) -> Result<(), NoCommand<'a>>
 /// Refuses arguments that end in `--import`, or lack IN or EXPORT, in this order.
 fn finish<'a>(command: Command<'a>, draft: &Draft) -> Result<Command<'a>, NoCommand<'a>>
     ensures { IsReadWithoutMemory result
-        (finish (command_value command.entry) (draft_value draft.now)) }
+        (finish (command_view command.entry) (draft_view draft.now)) }
 {
     if draft.is_pending {
         return Err(NoCommand::Wrong(WrongArgument::MissingValue("--import")));

@@ -1,16 +1,16 @@
 //! The text that is printed for the bytes of an adapter.
 
 ghost use Rattle.std.specs.Prelude.{◌≡◌, IfErr, IfOk, IsErrOf, OnOk, map, true};
-ghost use Rattle.wc_gc.specs.Liveness.{names_of};
+ghost use Rattle.wc_gc.specs.LiveItems.{names_of};
 ghost use Rattle.wc_maps.specs.Names.{first_occurrences};
 ghost use Rattle.wc_program.specs.Screen.{Becomes, output_ends};
-ghost use Rattle.wcwhy_command.specs.Arguments.{command_value, text_of};
+ghost use Rattle.wcwhy_command.specs.Arguments.{command_view, text_of};
 ghost use Rattle.wcwhy_command.specs.Program.{IsPrintCause, IsPrintedOf};
 ghost use Rattle.wcwhy_command.specs.Private.Reasons.{AreReasons, IsSearched, IsTextOfReasons, PutsSome, adapter_in, names_in, required_in};
-ghost use Rattle.wcwhy_command.specs.Private.Runs.{ArePrinted, IsReasonsCause, PrintsSome};
+ghost use Rattle.wcwhy_command.specs.Private.Execution.{ArePrinted, IsReasonsCause, PrintsSome};
 
 use crate::arguments::Command;
-use crate::faults::{PrintFault, WhyFault};
+use crate::fault::{PrintFault, WhyFault};
 use crate::graph::put_graph;
 use crate::lines::put_lines;
 use crate::patterns::first_unknown;
@@ -31,9 +31,9 @@ pub(crate) fn print_reasons<'a, O: Output>(
     bytes: &[u8],
     out: &mut O,
 ) -> Result<(), WhyFault<'a>>
-    ensures done { OnOk result (PrintsSome (IsPrintedOf (command_value command.now) bytes.now)
+    ensures done { OnOk result (PrintsSome (IsPrintedOf (command_view command.now) bytes.now)
         (Becomes (output_ends O.written O.sent O.is_failed) out.old out.new)) }
-    ensures fault { IfErr result (IsPrintCause (command_value command.now) bytes.now
+    ensures fault { IfErr result (IsPrintCause (command_view command.now) bytes.now
         (Becomes (output_ends O.written O.sent O.is_failed) out.old out.new)) }
 {
     match required_exports(alloc, seed, &command.exports) {
@@ -64,9 +64,9 @@ fn print_required<'a, O: Output>(
 ) -> Result<(), WhyFault<'a>>
     requires { names_of required.now.keys
         ≡ first_occurrences (map text_of command.now.exports.items) }
-    ensures done { OnOk result (PrintsSome (IsPrintedOf (command_value command.now) bytes.now)
+    ensures done { OnOk result (PrintsSome (IsPrintedOf (command_view command.now) bytes.now)
         (Becomes (output_ends O.written O.sent O.is_failed) out.old out.new)) }
-    ensures fault { IfErr result (IsPrintCause (command_value command.now) bytes.now
+    ensures fault { IfErr result (IsPrintCause (command_view command.now) bytes.now
         (Becomes (output_ends O.written O.sent O.is_failed) out.old out.new)) }
 {
     match why_imports(alloc, bytes, required) {
@@ -89,10 +89,10 @@ fn print_found<'a, O: Output>(
     found: &Found<'_, '_>,
     out: &mut O,
 ) -> Result<(), WhyFault<'a>>
-    requires { IsSearched (command_value command.now) bytes.now found.now }
-    ensures done { OnOk result (PrintsSome (IsPrintedOf (command_value command.now) bytes.now)
+    requires { IsSearched (command_view command.now) bytes.now found.now }
+    ensures done { OnOk result (PrintsSome (IsPrintedOf (command_view command.now) bytes.now)
         (Becomes (output_ends O.written O.sent O.is_failed) out.old out.new)) }
-    ensures fault { IfErr result (IsPrintCause (command_value command.now) bytes.now
+    ensures fault { IfErr result (IsPrintCause (command_view command.now) bytes.now
         (Becomes (output_ends O.written O.sent O.is_failed) out.old out.new)) }
 {
     // The bytes are those of a module: there is no fault but that memory runs out.
@@ -122,10 +122,10 @@ fn print_adapter<'a, O: Output>(
     requires chains { AreReasons reasons.now }
     requires required { required_in reasons.now
         ≡ first_occurrences (map text_of command.now.exports.items) }
-    ensures done { OnOk result (ArePrinted (command_value command.now)
+    ensures done { OnOk result (ArePrinted (command_view command.now)
         (adapter_in reasons.now) (names_in reasons.now)
         (Becomes (output_ends O.written O.sent O.is_failed) out.old out.new)) }
-    ensures fault { IfErr result (IsReasonsCause (command_value command.now)
+    ensures fault { IfErr result (IsReasonsCause (command_view command.now)
         (adapter_in reasons.now)
         (Becomes (output_ends O.written O.sent O.is_failed) out.old out.new)) }
 {
@@ -148,7 +148,7 @@ fn put_and_flush<O: Output>(
 ) -> Result<(), PrintFault>
     requires { AreReasons reasons.now }
     ensures done { OnOk result (PrintsSome (IsTextOfReasons reasons.now command.now.dot
-        (command_value command.now).imports)
+        (command_view command.now).imports)
         (Becomes (output_ends O.written O.sent O.is_failed) out.old out.new)) }
     ensures output { IsErrOf result PrintFault.Output → O.is_failed out.new ≡ true }
 {
@@ -166,7 +166,7 @@ fn put_reasons<S: Sink>(
 ) -> Result<(), PrintFault>
     requires { AreReasons reasons.now }
     ensures done { OnOk result (PutsSome (IsTextOfReasons reasons.now command.now.dot
-        (command_value command.now).imports) (S.written out.old) (S.written out.new)) }
+        (command_view command.now).imports) (S.written out.old) (S.written out.new)) }
     ensures works { OnOk result (S.is_failed out.new ≡ S.is_failed out.old) }
     ensures output { IsErrOf result PrintFault.Output → S.is_failed out.new ≡ true }
 {

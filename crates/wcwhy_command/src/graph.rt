@@ -2,12 +2,12 @@
 
 ghost use Rattle.std.specs.Prelude.{◌≡◌, ◌<◌, length, map, IfOk, IsErrOf, OnOk, string_bytes, true};
 ghost use Rattle.wc_read.specs.Imports.{import_value};
-ghost use Rattle.wcwhy_command.specs.Arguments.{pattern_value};
-ghost use Rattle.wcwhy_command.specs.Graph.{AreMarks, IsArrow, IsPlaceText, export_text, import_node};
+ghost use Rattle.wcwhy_command.specs.Arguments.{pattern_view};
+ghost use Rattle.wcwhy_command.specs.Graph.{AreMarks, IsArrow, IsNodeAt, export_text, import_node};
 ghost use Rattle.wcwhy_command.specs.Private.Reasons.{AreItemsOf, AreNodesOf, AreReasons, IsGraphOf, IsItemOf, IsNodeOf, PutsSome, adapter_in, names_in};
 
 use crate::arguments::ImportPattern;
-use crate::faults::PrintFault;
+use crate::fault::PrintFault;
 use crate::lines::{item_text, title};
 use crate::marks::marks_of;
 use crate::patterns::is_shown;
@@ -27,7 +27,7 @@ pub(crate) fn put_graph<S: Sink>(
     out: &mut S,
 ) -> Result<(), PrintFault>
     requires { AreReasons reasons.now }
-    ensures done { OnOk result (PutsSome (IsGraphOf reasons.now (map pattern_value patterns.now))
+    ensures done { OnOk result (PutsSome (IsGraphOf reasons.now (map pattern_view patterns.now))
         (S.written out.old) (S.written out.new)) }
     ensures works { OnOk result (S.is_failed out.new ≡ S.is_failed out.old) }
     ensures output { IsErrOf result PrintFault.Output → S.is_failed out.new ≡ true }
@@ -46,8 +46,8 @@ fn put_marked<S: Sink>(
 ) -> Result<(), PrintFault>
     requires chains { AreReasons reasons.now }
     requires marked { AreMarks reasons.now.chains.now (adapter_in reasons.now).imports
-        (map pattern_value patterns.now) marks.now }
-    ensures done { OnOk result (PutsSome (IsGraphOf reasons.now (map pattern_value patterns.now))
+        (map pattern_view patterns.now) marks.now }
+    ensures done { OnOk result (PutsSome (IsGraphOf reasons.now (map pattern_view patterns.now))
         (S.written out.old) (S.written out.new)) }
     ensures works { OnOk result (S.is_failed out.new ≡ S.is_failed out.old) }
     ensures output { IsErrOf result PrintFault.Output → S.is_failed out.new ≡ true }
@@ -72,28 +72,28 @@ fn put_items<S: Sink>(
     ensures works { OnOk result (S.is_failed out.new ≡ S.is_failed out.old) }
     ensures output { IsErrOf result PrintFault.Output → S.is_failed out.new ≡ true }
 {
-    for place in 0..marks.len() {
-        put_item(alloc, reasons, marks, place, out)?;
+    for index in 0..marks.len() {
+        put_item(alloc, reasons, marks, index, out)?;
     }
     Ok(())
 }
 
-/// Puts the node at a place of `chains.order`; nothing where it isn't marked.
+/// Puts the node at an index of `chains.order`; nothing where it isn't marked.
 fn put_item<S: Sink>(
     alloc: Global,
     reasons: &Reasons<'_, '_>,
     marks: &[bool],
-    place: usize,
+    index: usize,
     out: &mut S,
 ) -> Result<(), PrintFault>
     requires sized { length marks.now ≡ length reasons.now.chains.now.order.items }
-    requires there { place < length marks.now }
-    ensures done { OnOk result (PutsSome (IsItemOf reasons.now marks.now place)
+    requires there { index < length marks.now }
+    ensures done { OnOk result (PutsSome (IsItemOf reasons.now marks.now index)
         (S.written out.old) (S.written out.new)) }
     ensures works { OnOk result (S.is_failed out.new ≡ S.is_failed out.old) }
     ensures output { IsErrOf result PrintFault.Output → S.is_failed out.new ≡ true }
 {
-    let text = marked_text(alloc, reasons, marks, place)?;
+    let text = marked_text(alloc, reasons, marks, index)?;
     out.put(text.as_bytes())?;
     Ok(())
 }
@@ -103,52 +103,52 @@ fn marked_text(
     alloc: Global,
     reasons: &Reasons<'_, '_>,
     marks: &[bool],
-    place: usize,
+    index: usize,
 ) -> Result<String, AllocError>
     requires sized { length marks.now ≡ length reasons.now.chains.now.order.items }
-    requires there { place < length marks.now }
-    ensures { IfOk result (λ t. IsItemOf reasons.now marks.now place (string_bytes t)) }
+    requires there { index < length marks.now }
+    ensures { IfOk result (λ t. IsItemOf reasons.now marks.now index (string_bytes t)) }
 {
-    if marks[place] {
-        place_text(alloc, reasons, place)
+    if marks[index] {
+        item_node(alloc, reasons, index)
     } else {
         Ok(String::new(alloc))
     }
 }
 
-/// The node of the item at a place, and the arrow to it.
-fn place_text(alloc: Global, reasons: &Reasons<'_, '_>, place: usize) -> Result<String, AllocError>
-    requires { place < length reasons.now.chains.now.order.items }
-    ensures { IfOk result (λ t. IsPlaceText reasons.now.chains.now (names_in reasons.now)
-        place (string_bytes t)) }
+/// The node of the item at an index, and the arrow to it.
+fn item_node(alloc: Global, reasons: &Reasons<'_, '_>, index: usize) -> Result<String, AllocError>
+    requires { index < length reasons.now.chains.now.order.items }
+    ensures { IfOk result (λ t. IsNodeAt reasons.now.chains.now (names_in reasons.now)
+        index (string_bytes t)) }
 {
-    let text = item_text(alloc, reasons.names, reasons.chains.order[place])?;
+    let text = item_text(alloc, reasons.names, reasons.chains.order[index])?;
     let label = graph_text(alloc, &text)?;
-    let arrow = arrow_text(alloc, reasons, place)?;
-    format!(in alloc; "  item{place} [label=\"{label}\"];\n{arrow}")
+    let arrow = arrow_text(alloc, reasons, index)?;
+    format!(in alloc; "  item{index} [label=\"{label}\"];\n{arrow}")
 }
 
-/// The arrow to the item at a place: from its finder, or from the export that names it, whose node is before it.
-fn arrow_text(alloc: Global, reasons: &Reasons<'_, '_>, place: usize) -> Result<String, AllocError>
-    requires { place < length reasons.now.chains.now.order.items }
-    ensures { IfOk result (λ t. IsArrow reasons.now.chains.now place (string_bytes t)) }
+/// The arrow to the item at an index: from its finder, or from the export that names it, whose node is before it.
+fn arrow_text(alloc: Global, reasons: &Reasons<'_, '_>, index: usize) -> Result<String, AllocError>
+    requires { index < length reasons.now.chains.now.order.items }
+    ensures { IfOk result (λ t. IsArrow reasons.now.chains.now index (string_bytes t)) }
 {
-    let finder = reasons.chains.finder[place];
-    if finder == place {
-        export_text(alloc, reasons.chains.exports[place], place)
+    let finder = reasons.chains.finder[index];
+    if finder == index {
+        export_text(alloc, reasons.chains.exports[index], index)
     } else {
-        format!(in alloc; "  item{finder} -> item{place};\n")
+        format!(in alloc; "  item{finder} -> item{index};\n")
     }
 }
 
-/// The node of an export, and the arrow from it to the item at a place.
-fn export_text(alloc: Global, name: &str, place: usize) -> Result<String, AllocError>
-    ensures { IfOk result (λ t. string_bytes t ≡ export_text place name.now) }
+/// The node of an export, and the arrow from it to the item at an index.
+fn export_text(alloc: Global, name: &str, index: usize) -> Result<String, AllocError>
+    ensures { IfOk result (λ t. string_bytes t ≡ export_text index name.now) }
 {
     let name = escaped(alloc, name)?;
     let label = graph_text(alloc, &name)?;
     format!(in alloc;
-        "  export{place} [label=\"export {label}\", shape=box];\n  export{place} -> item{place};\n"
+        "  export{index} [label=\"export {label}\", shape=box];\n  export{index} -> item{index};\n"
     )
 }
 
@@ -160,7 +160,7 @@ fn put_imports<S: Sink>(
     out: &mut S,
 ) -> Result<(), PrintFault>
     requires { AreReasons reasons.now }
-    ensures done { OnOk result (PutsSome (AreNodesOf reasons.now (map pattern_value patterns.now))
+    ensures done { OnOk result (PutsSome (AreNodesOf reasons.now (map pattern_view patterns.now))
         (S.written out.old) (S.written out.new)) }
     ensures works { OnOk result (S.is_failed out.new ≡ S.is_failed out.old) }
     ensures output { IsErrOf result PrintFault.Output → S.is_failed out.new ≡ true }
@@ -182,7 +182,7 @@ fn put_import<S: Sink>(
     requires chains { AreReasons reasons.now }
     requires there { position < length reasons.now.adapter.now.imports.items }
     ensures done { OnOk result (PutsSome
-        (IsNodeOf reasons.now (map pattern_value patterns.now) position)
+        (IsNodeOf reasons.now (map pattern_view patterns.now) position)
         (S.written out.old) (S.written out.new)) }
     ensures works { OnOk result (S.is_failed out.new ≡ S.is_failed out.old) }
     ensures output { IsErrOf result PrintFault.Output → S.is_failed out.new ≡ true }
@@ -201,29 +201,29 @@ fn import_text(
 ) -> Result<String, AllocError>
     requires chains { AreReasons reasons.now }
     requires there { position < length reasons.now.adapter.now.imports.items }
-    ensures { IfOk result (λ t. IsNodeOf reasons.now (map pattern_value patterns.now) position
+    ensures { IfOk result (λ t. IsNodeOf reasons.now (map pattern_view patterns.now) position
         (string_bytes t)) }
 {
     let import = &reasons.adapter.imports[position];
     match reasons.chains.imports[position] {
-        Some(place) if is_shown(patterns, import) => import_node(alloc, import, position, place),
+        Some(index) if is_shown(patterns, import) => import_node(alloc, import, position, index),
         _ => Ok(String::new(alloc)),
     }
 }
 
-/// The node of the import at a position, and the arrow to it from its item, which is at a place.
+/// The node of the import at a position, and the arrow to it from its item, which is at an index.
 fn import_node(
     alloc: Global,
     import: &Import<'_>,
     position: usize,
-    place: usize,
+    index: usize,
 ) -> Result<String, AllocError>
     ensures { IfOk result (λ t. string_bytes t
-        ≡ import_node (import_value import.now) position place) }
+        ≡ import_node (import_value import.now) position index) }
 {
     let title = title(alloc, import)?;
     let label = graph_text(alloc, &title)?;
     format!(in alloc;
-        "  import{position} [label=\"{label}\", shape=box];\n  item{place} -> import{position};\n"
+        "  import{position} [label=\"{label}\", shape=box];\n  item{index} -> import{position};\n"
     )
 }

@@ -8,7 +8,7 @@
 
 mod arguments;
 mod execution;
-mod faults;
+mod fault;
 mod graph;
 mod lines;
 mod marks;
@@ -19,7 +19,7 @@ mod texts;
 mod usage;
 
 pub use arguments::{Command, ImportPattern, NoCommand, WrongArgument, parse};
-pub use faults::WhyFault;
+pub use fault::WhyFault;
 pub use lines::{item_text, push_items};
 pub use marks::with_finders;
 pub use program::{run, run_command};

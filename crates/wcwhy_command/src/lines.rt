@@ -6,12 +6,12 @@ ghost use Rattle.std.specs.Option.{option_map};
 ghost use Rattle.wc_read.specs.Imports.{import_value};
 ghost use Rattle.wc_read.specs.Names.{name_entries};
 ghost use Rattle.wc_gc.specs.Decoded.{ItemIndex};
-ghost use Rattle.wcwhy_command.specs.Arguments.{pattern_value, text_of};
+ghost use Rattle.wcwhy_command.specs.Arguments.{pattern_view, text_of};
 ghost use Rattle.wcwhy_command.specs.Lines.{IsChainText, chain_text, item_line, item_text, name_in, space_name, title, unreached_text};
 ghost use Rattle.wcwhy_command.specs.Private.Reasons.{AreLinesOf, AreReasons, IsLineOf, PutsSome, adapter_in, names_in, required_in};
 
 use crate::arguments::ImportPattern;
-use crate::faults::PrintFault;
+use crate::fault::PrintFault;
 use crate::patterns::is_shown;
 use crate::reasons::Reasons;
 use crate::texts::word;
@@ -30,7 +30,7 @@ pub(crate) fn put_lines<S: Sink>(
     out: &mut S,
 ) -> Result<(), PrintFault>
     requires { AreReasons reasons.now }
-    ensures done { OnOk result (PutsSome (AreLinesOf reasons.now (map pattern_value patterns.now))
+    ensures done { OnOk result (PutsSome (AreLinesOf reasons.now (map pattern_view patterns.now))
         (S.written out.old) (S.written out.new)) }
     ensures works { OnOk result (S.is_failed out.new ≡ S.is_failed out.old) }
     ensures output { IsErrOf result PrintFault.Output → S.is_failed out.new ≡ true }
@@ -52,7 +52,7 @@ fn put_import<S: Sink>(
     requires chains { AreReasons reasons.now }
     requires there { position < length reasons.now.adapter.now.imports.items }
     ensures done { OnOk result (PutsSome
-        (IsLineOf reasons.now (map pattern_value patterns.now) position)
+        (IsLineOf reasons.now (map pattern_view patterns.now) position)
         (S.written out.old) (S.written out.new)) }
     ensures works { OnOk result (S.is_failed out.new ≡ S.is_failed out.old) }
     ensures output { IsErrOf result PrintFault.Output → S.is_failed out.new ≡ true }
@@ -72,7 +72,7 @@ fn import_text(
 ) -> Result<String, AllocError>
     requires chains { AreReasons reasons.now }
     requires there { position < length reasons.now.adapter.now.imports.items }
-    ensures { IfOk result (λ t. IsLineOf reasons.now (map pattern_value patterns.now) position
+    ensures { IfOk result (λ t. IsLineOf reasons.now (map pattern_view patterns.now) position
         (string_bytes t)) }
 {
     let import = &reasons.adapter.imports[position];
@@ -80,26 +80,26 @@ fn import_text(
         return Ok(String::new(alloc));
     }
     match reasons.chains.imports[position] {
-        Some(place) => reached_text(alloc, reasons, import, place),
+        Some(index) => reached_text(alloc, reasons, import, index),
         None => unreached_text(alloc, import, !patterns.is_empty()),
     }
 }
 
-/// The lines of an import whose item is at this place among those that were found.
+/// The lines of an import whose item is at this index among those that were found.
 fn reached_text(
     alloc: Global,
     reasons: &Reasons<'_, '_>,
     import: &Import<'_>,
-    place: usize,
+    index: usize,
 ) -> Result<String, AllocError>
     requires chains { AreReasons reasons.now }
-    requires there { place < length reasons.now.chains.now.order.items }
+    requires there { index < length reasons.now.chains.now.order.items }
     ensures { IfOk result (λ t. (x : ItemIndex)
-        → slice_get reasons.now.chains.now.order.items place ≡ Some x
+        → slice_get reasons.now.chains.now.order.items index ≡ Some x
         → IsChainText (required_in reasons.now) (adapter_in reasons.now) (names_in reasons.now)
         (import_value import.now) x (string_bytes t)) }
 {
-    let chain = reasons.chains.chain(alloc, place)?;
+    let chain = reasons.chains.chain(alloc, index)?;
     chain_text(alloc, reasons.names, import, &chain)
 }
 

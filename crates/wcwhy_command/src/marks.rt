@@ -1,10 +1,10 @@
 //! Which items are on chains to imports that are asked for.
 
 ghost use Rattle.std.specs.Prelude.{◌≡◌, ◌<◌, IfOk, IfSome, false, length, map, replicate};
-ghost use Rattle.wcwhy_command.specs.Arguments.{pattern_value};
+ghost use Rattle.wcwhy_command.specs.Arguments.{pattern_view};
 ghost use Rattle.wcwhy_command.specs.Graph.{AreMarks};
 ghost use Rattle.wcwhy_command.specs.Marks.{AreTaken};
-ghost use Rattle.wcwhy_command.specs.Private.Marks.{AreHere, place_at};
+ghost use Rattle.wcwhy_command.specs.Private.Marks.{AreHere, index_at};
 ghost use Rattle.wcwhy_command.specs.Private.Reasons.{AreReasons, adapter_in};
 
 use crate::arguments::ImportPattern;
@@ -13,7 +13,7 @@ use crate::reasons::Reasons;
 use std::alloc::{AllocError, Global};
 use wc_gc::ImportChains;
 
-/// For each place whether its item is on the chain to an import that is asked for.
+/// For each index whether its item is on the chain to an import that is asked for.
 pub(crate) fn marks_of(
     alloc: Global,
     patterns: &[ImportPattern<'_>],
@@ -21,14 +21,14 @@ pub(crate) fn marks_of(
 ) -> Result<Vec<bool>, AllocError>
     requires { AreReasons reasons.now }
     ensures { IfOk result (λ v. AreMarks reasons.now.chains.now (adapter_in reasons.now).imports
-        (map pattern_value patterns.now) v.items) }
+        (map pattern_view patterns.now) v.items) }
 {
     let marks = vec![in alloc; false; reasons.chains.order.len()]?;
     let marks = with_imports(patterns, reasons, marks);
     Ok(with_finders(reasons.chains, marks))
 }
 
-/// Marks the places of the imports that are asked for.
+/// Marks the indices of the imports that are asked for.
 fn with_imports(
     patterns: &[ImportPattern<'_>],
     reasons: &Reasons<'_, '_>,
@@ -37,27 +37,27 @@ fn with_imports(
     requires chains { AreReasons reasons.now }
     requires none { marks.items ≡ replicate (length reasons.now.chains.now.order.items) false }
     ensures { AreHere reasons.now.chains.now (adapter_in reasons.now).imports
-        (map pattern_value patterns.now) (length (adapter_in reasons.now).imports) result.items }
+        (map pattern_view patterns.now) (length (adapter_in reasons.now).imports) result.items }
 {
     let mut marks = marks;
     for position in 0..reasons.adapter.imports.len() {
-        if let Some(place) = shown_place(patterns, reasons, position) {
-            marks[place] = true;
+        if let Some(index) = shown_index(patterns, reasons, position) {
+            marks[index] = true;
         }
     }
     marks
 }
 
-/// The place of the import at a position, if it is asked for and reached.
-fn shown_place(
+/// The index of the import at a position, if it is asked for and reached.
+fn shown_index(
     patterns: &[ImportPattern<'_>],
     reasons: &Reasons<'_, '_>,
     position: usize,
 ) -> Option<usize>
     requires chains { AreReasons reasons.now }
     requires there { position < length reasons.now.adapter.now.imports.items }
-    ensures place { result ≡ place_at reasons.now.chains.now (adapter_in reasons.now).imports
-        (map pattern_value patterns.now) position }
+    ensures index { result ≡ index_at reasons.now.chains.now (adapter_in reasons.now).imports
+        (map pattern_view patterns.now) position }
     ensures there { IfSome result (λ p. p < length reasons.now.chains.now.order.items) }
 {
     let import = &reasons.adapter.imports[position];
@@ -68,18 +68,18 @@ fn shown_place(
     }
 }
 
-/// Marks the finder of each place that is marked, and its finder, and so on: for marks of some items, the marks of all that
+/// Marks the finder of each index that is marked, and its finder, and so on: for marks of some items, the marks of all that
 /// are on the chains to these (`wc_gc::ImportChains`).
 pub fn with_finders(chains: &ImportChains<'_>, marks: Vec<bool>) -> Vec<bool>
     requires { length marks.items ≡ length chains.now.order.items }
     ensures { AreTaken chains.now marks.items 0 result.items }
 {
     let mut marks = marks;
-    let mut place = marks.len();
-    while place > 0 {
-        place -= 1;
-        if marks[place] {
-            marks[chains.finder[place]] = true;
+    let mut index = marks.len();
+    while index > 0 {
+        index -= 1;
+        if marks[index] {
+            marks[chains.finder[index]] = true;
         }
     }
     marks

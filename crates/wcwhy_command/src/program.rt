@@ -4,21 +4,21 @@ ghost use Rattle.std.specs.Prelude.{◌≡◌, IfErr, IfOk, IsErr, OnOk};
 ghost use Rattle.std.specs.IoError.{error_kind};
 ghost use Rattle.wc_program.specs.Screen.{Becomes, output_ends};
 ghost use Rattle.wc_program.specs.Program.{Prints, failure, success, wrong_arguments};
-ghost use Rattle.wcwhy_command.specs.Arguments.{command_value};
+ghost use Rattle.wcwhy_command.specs.Arguments.{command_view};
 ghost use Rattle.wcwhy_command.specs.Program.{CommandEnds, EndsWell, EndsWith, EndsWithout, EndsWithoutArguments, IsReported, IsRunCause, ProgramEnds};
-ghost use Rattle.wcwhy_command.specs.Private.Runs.{AnswersStop};
+ghost use Rattle.wcwhy_command.specs.Private.Execution.{AnswersStop};
 ghost use Rattle.wcwhy_command.specs.Usage.{fault_and_usage, fault_line, help_text};
 
 use crate::arguments::{Command, NoCommand, parse};
 use crate::execution::print_reasons;
-use crate::faults::WhyFault;
+use crate::fault::WhyFault;
 use crate::usage::{AND_USAGE, NO_TEXT, OPTIONS, USAGE, VERSION};
 use std::alloc::{AllocError, Global};
 use std::io::{self, ErrorKind};
 use wc_maps::Seed;
 use wc_program::{
-    FAILURE, FileStore, Message, NoArguments, OUT_OF_MEMORY, Output, Program, SUCCESS, Screen,
-    Shell, WRONG_ARGUMENTS, print,
+    FAILURE, FileStore, NoArguments, OUT_OF_MEMORY, Output, Program, SUCCESS, Screen, Shell,
+    TextBetween, WRONG_ARGUMENTS, print,
 };
 
 /// Runs the program with these arguments, the first of them the one after the program's name. No file is written. What is
@@ -111,7 +111,7 @@ fn run_and_report<F: FileStore, O: Output, E: Screen>(
     command: &Command<'_>,
     shell: &mut Shell<F, O, E>,
 ) -> u8
-    ensures ends { CommandEnds (command_value command.now) (F.held shell.old.files)
+    ensures ends { CommandEnds (command_view command.now) (F.held shell.old.files)
         (Becomes (output_ends O.written O.sent O.is_failed) shell.old.out shell.new.out)
         (Becomes E.ends shell.old.err shell.new.err) result }
     ensures files { F.held shell.new.files ≡ F.held shell.old.files }
@@ -154,9 +154,9 @@ pub fn run_command<'a, F: FileStore, O: Output>(
     files: &F,
     out: &mut O,
 ) -> Result<(), WhyFault<'a>>
-    ensures done { OnOk result (EndsWell (command_value command.now) (F.held files.now)
+    ensures done { OnOk result (EndsWell (command_view command.now) (F.held files.now)
         (Becomes (output_ends O.written O.sent O.is_failed) out.old out.new)) }
-    ensures fault { IfErr result (IsRunCause (command_value command.now) (F.held files.now)
+    ensures fault { IfErr result (IsRunCause (command_view command.now) (F.held files.now)
         (Becomes (output_ends O.written O.sent O.is_failed) out.old out.new)) }
 {
     match files.read(command.source) {
@@ -179,7 +179,7 @@ fn report<E: Screen>(alloc: Global, err: &mut E, fault: &WhyFault<'_>) -> u8
 fn print_help<O: Screen>(out: &mut O) -> u8
     ensures { Prints help_text success (Becomes O.ends out.old out.new) result }
 {
-    let text = Message {
+    let text = TextBetween {
         before: USAGE,
         text: &OPTIONS,
         after: b"",
@@ -191,7 +191,7 @@ fn print_help<O: Screen>(out: &mut O) -> u8
 fn print_fault<E: Screen>(err: &mut E, text: &[u8]) -> u8
     ensures { Prints (fault_line text.now) failure (Becomes E.ends err.old err.new) result }
 {
-    let line = Message {
+    let line = TextBetween {
         before: b"wcwhy: ",
         text: &text,
         after: b"\n",
@@ -204,7 +204,7 @@ fn print_usage_fault<E: Screen>(err: &mut E, text: &[u8]) -> u8
     ensures { Prints (fault_and_usage text.now) wrong_arguments
         (Becomes E.ends err.old err.new) result }
 {
-    let lines = Message {
+    let lines = TextBetween {
         before: b"wcwhy: ",
         text: &text,
         after: AND_USAGE,

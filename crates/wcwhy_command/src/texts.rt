@@ -41,7 +41,7 @@ fn push_word(out: &mut String, c: char) -> Result<(), AllocError>
     }
 }
 
-/// A text as it stands between the quotes of a label: Graphviz shows this text.
+/// A text as it is between the quotes of a label: Graphviz shows this text.
 ///
 /// # Errors
 ///
@@ -64,7 +64,7 @@ fn graph_characters(alloc: Global, characters: &[char]) -> Result<String, AllocE
     Ok(out)
 }
 
-/// Appends a character as it stands between the quotes of a label.
+/// Appends a character as it is between the quotes of a label.
 fn push_graph(out: &mut String, c: char) -> Result<(), AllocError>
     ensures { OnOk result (string_bytes out.new ≡ string_bytes out.old ++ graph_char c) }
 {

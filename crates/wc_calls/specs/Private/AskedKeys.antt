@@ -2,7 +2,7 @@
 -- What is asked of a world's exports, and the faults of keys.
 use Rattle.std.specs.Prelude.{◌≡◌, ◌⊎◌, ◌<◌, ℕ, Bool, true, false, List, map, Option, ⊤, string_bytes}
 use Rattle.wc_resolve.specs.Views.{key_view}
-use Rattle.wc_resolve.specs.World.{ResolveView}
+use Rattle.wc_resolve.specs.Kinds.{ResolveView}
 use Rattle.wc_selection.specs.KeyNames.{count_unversioned, indexed_keys}
 use Rattle.wc_selection.specs.Keys.{AreKeysApart, NamedKey, export_keys, named_key, texts_of}
 use Rattle.wc_selection.specs.ModuleKeys.{AreKeysThere}
@@ -12,7 +12,7 @@ use Rattle.wc_selection.specs.declared.fault.RequestFault.{RequestFault}
 use Rattle.wc_selection.specs.declared.fault.RequestFault.TheVariants as request
 use Rattle.wc_json.specs.Messages.{AdapterMessageView, KeyMessageView}
 use Rattle.wc_calls.specs.AskedKeys.{gives_none, keys_in, main_keys, request_of}
-use Rattle.wc_calls.specs.MessageFaults.{IsAdaptersCause, IsAskedCause}
+use Rattle.wc_calls.specs.MessageFault.{IsAdaptersCause, IsAskedCause}
 use Rattle.wc_calls.specs.declared.asked_keys.AskedKeys.{AskedKeys}
 use Rattle.wc_calls.specs.declared.message_fault.MessageFault.{MessageFault}
 use Rattle.wc_calls.specs.declared.message_fault.MessageFault.TheVariants.{Memory, UnknownKey, SeveralKeys, RepeatedKey}

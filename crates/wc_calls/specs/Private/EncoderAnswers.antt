@@ -2,8 +2,8 @@
 -- What is answered for an encoder.
 use Rattle.std.specs.Prelude.{◌≡◌, ◌++◌, ℕ, List, [], length, ⊤}
 use Rattle.wc_encoder.specs.EncoderParts.{EncoderView}
-use Rattle.wc_plan.specs.EncoderFaults.{IsWorldCause}
-use Rattle.wc_plan.specs.Faults.{HasNoFault, IsFirstFault}
+use Rattle.wc_plan.specs.Encoder.{IsWorldCause}
+use Rattle.wc_plan.specs.Fault.{HasNoFault, IsFirstFault}
 use Rattle.wc_plan.specs.Plans.{plan_of}
 use Rattle.wc_record.specs.Texts.{plan_text, world_text}
 use Rattle.wc_world.specs.Options.{OptionsOf}

@@ -7,8 +7,8 @@ use Rattle.wc_adapters.specs.Adapters.{library_view}
 use Rattle.wc_encoder.specs.EncoderParts.{EncoderView}
 use Rattle.wc_resolve.specs.Views.{key_view}
 use Rattle.wc_validate.specs.Imports.Map.{required_entry}
-use Rattle.wc_validate.specs.Places.{IsUnplaced}
-use Rattle.wc_validate.specs.Validated.{IsRecordOf, ModuleRecord, ValidationInput, adapter_input}
+use Rattle.wc_validate.specs.Explain.{IsUnplaced}
+use Rattle.wc_validate.specs.Validate.{IsRecordOf, ModuleRecord, ValidationInput, adapter_input}
 use Rattle.wc_validate.specs.declared.fault.ValidateFault.{ValidateFault}
 use Rattle.wc_world.specs.Causes.{IsRefused}
 use Rattle.wc_world.specs.Places.{IsInAdapter, IsValidationPlace}

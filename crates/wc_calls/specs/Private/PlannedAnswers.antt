@@ -2,7 +2,7 @@
 -- What is answered for an encoder and its plan.
 use Rattle.std.specs.Prelude.{ℕ, List, ⊤}
 use Rattle.wc_encoder.specs.EncoderParts.{EncoderView}
-use Rattle.wc_plan.specs.Faults.{IsFirstFault}
+use Rattle.wc_plan.specs.Fault.{IsFirstFault}
 use Rattle.wc_world.specs.Options.{OptionsOf}
 use Rattle.wc_world.specs.Views.{ComponentWorldView}
 use Rattle.wc_world.specs.World.{IsWorldOf}

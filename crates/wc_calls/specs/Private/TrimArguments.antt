@@ -2,7 +2,7 @@
 -- What is passed to the call that trims an adapter.
 use Rattle.std.specs.Prelude.{◌≡◌, ℕ, List, String}
 use Rattle.std.specs.declared.alloc.Global.{Global}
-use Rattle.wc_gc.specs.Liveness.{TrimInput, trim_input, trim_input_for_names}
+use Rattle.wc_gc.specs.LiveItems.{TrimInput, trim_input, trim_input_for_names}
 use Rattle.wc_gc.specs.declared.fault.GcFault.{GcFault}
 use Rattle.wc_calls.specs.Answers.{failed}
 use Rattle.wc_calls.specs.ExportNames.{texts}

@@ -3,7 +3,7 @@
 ghost use Rattle.std.specs.Prelude.{◌≡◌, ℕ, IfOk, List, string_bytes};
 ghost use Rattle.std.specs.Option.{option_map};
 ghost use Rattle.wc_dedupe.specs.Dedupe.{IsDeduped};
-ghost use Rattle.wc_dedupe.specs.Renaming.{RenameValue, original_in};
+ghost use Rattle.wc_dedupe.specs.Renaming.{RenameView, original_in};
 
 use std::alloc::Global;
 use std::borrow::CowSlice;
@@ -17,7 +17,7 @@ pub(crate) fn original_name(
     bytes: &[u8],
     import: &Import<'_>,
 ) -> Result<Option<String>, DedupeFault>
-    ensures { IfOk result (λ name. (out : List ℕ) × (renames : List RenameValue)
+    ensures { IfOk result (λ name. (out : List ℕ) × (renames : List RenameView)
         × IsDeduped bytes.now out renames
         × (option_map string_bytes name
         ≡ original_in renames import.now.module.now import.now.name.now)) }

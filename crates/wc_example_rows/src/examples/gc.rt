@@ -3,10 +3,10 @@
 ghost use Rattle.std.specs.Prelude.{◌≡◌, ◌≢◌, ◌↔◌, [], IfOk, IsTrue, None};
 ghost use Rattle.wc_read.specs.Modules.{ModuleValue, SpellsModule};
 ghost use Rattle.wc_gc.specs.Decoded.{DecodedModule};
-ghost use Rattle.wc_gc.specs.Liveness.{IsLive, names_of, trim_input};
+ghost use Rattle.wc_gc.specs.LiveItems.{IsLive, names_of, trim_input};
 ghost use Rattle.wc_gc.specs.Parts.{settings};
-ghost use Rattle.wc_gc.specs.Traces.{HasCut};
-ghost use Rattle.wc_example_rows.specs.Unedited.{IsTrimmedOwn};
+ghost use Rattle.wc_gc.specs.TraceLaws.{HasCut};
+ghost use Rattle.wc_example_rows.specs.Gc.{IsTrimmedOwn};
 
 use std::alloc::Global;
 use wc_gc::laws::{no_trace, nothing_is_edited};

@@ -2,7 +2,7 @@
 
 ghost use Rattle.std.specs.Prelude.{[], ℕ, List, option_copied};
 ghost use Rattle.wc_names.specs.Finds.{Finds};
-ghost use Rattle.wc_names.specs.Schemes.{NamesResource, legacy, resource_drop};
+ghost use Rattle.wc_names.specs.Mangling.{NamesResource, legacy, resource_drop};
 
 use wc_names::{Legacy, NameMangling};
 

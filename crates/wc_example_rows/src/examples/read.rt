@@ -1,7 +1,7 @@
 //! An example of `wc_read`.
 
 ghost use Rattle.std.specs.Prelude.{◌≡◌, ◌↔◌, Any, IfOk, IsTrue};
-ghost use Rattle.wc_read.specs.Faults.{IfRefused, SpellsNothing};
+ghost use Rattle.wc_read.specs.Fault.{IfRefused, SpellsNothing};
 ghost use Rattle.wc_read.specs.Modules.{ModuleValue, SpellsModule, module_value};
 
 use std::alloc::Global;

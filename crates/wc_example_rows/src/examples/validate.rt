@@ -2,7 +2,7 @@
 
 ghost use Rattle.std.specs.Prelude.{◌≡◌, IfOk, None};
 ghost use Rattle.wc_validate.specs.Imports.Map.{memory_in};
-ghost use Rattle.wc_validate.specs.Validated.{IsRecordOf, ModuleRecord, main_input};
+ghost use Rattle.wc_validate.specs.Validate.{IsRecordOf, ModuleRecord, main_input};
 
 use std::alloc::Global;
 use wc_encoder::ComponentEncoder;

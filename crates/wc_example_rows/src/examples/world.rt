@@ -1,7 +1,7 @@
 //! Examples of `wc_world`.
 
 ghost use Rattle.std.specs.Prelude.{◌≡◌, ◌↔◌, IfOk, IsTrue, map};
-ghost use Rattle.wc_example_rows.specs.Summary.{IsSummary, first_bytes, first_live, first_lowered, is_direct, lowered_entry, lowered_view, needed_options};
+ghost use Rattle.wc_example_rows.specs.World.{IsSummary, first_bytes, first_live, first_lowered, is_direct, lowered_entry, lowered_view, needed_options};
 ghost use Rattle.wc_world.specs.Options.{plain_options};
 ghost use Rattle.wc_world.specs.Slots.{IsSlot1Used};
 ghost use Rattle.wc_world.specs.Views.{ComponentWorldView};

@@ -3,7 +3,7 @@ use Rattle.std.specs.Prelude.{ℕ, List}
 use Rattle.wc_read.specs.Operators.{WithBlock, InstrValue}
 use Rattle.wc_read.specs.declared.operators.Space.TheVariants.{Funcs, Memories, Globals}
 use Rattle.wc_read.specs.declared.operators.BlockType.TheVariants.{Empty}
-use Rattle.wc_write.specs.OperatorText.{instr_text}
+use Rattle.wc_write.specs.Operators.{instr_text}
 use Rattle.wc_gc.specs.AddedCode.{plain, with, const, of_local, of_item}
 use Rattle.wc_gc.specs.declared.machine_operators.MachineOperator.{MachineOperator}
 use Rattle.wc_gc.specs.declared.machine_operators.MachineOperator.TheVariants.{Unreachable, If, End, Call, LocalGet, LocalTee, GlobalGet, GlobalSet, MemoryGrow, I32Const, I32Eq, I32Ne, I32Add, I32Shl}

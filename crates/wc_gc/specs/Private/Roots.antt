@@ -6,7 +6,7 @@ use Rattle.wc_read.specs.Exports.{ExportValue}
 use Rattle.wc_gc.specs.Bits.{bit_of}
 use Rattle.wc_gc.specs.Decoded.{ItemIndex}
 use Rattle.wc_gc.specs.LiveChains.{IsFirstName}
-use Rattle.wc_gc.specs.Private.Searches.{FindsItems, finds}
+use Rattle.wc_gc.specs.Private.Search.{FindsItems, finds}
 use Rattle.wc_gc.specs.declared.finders.Roots.{Roots}
 use Rattle.wc_gc.specs.declared.live.BitVec.{BitVec}
 

@@ -1,14 +1,14 @@
 //! The body at which a search for live items stops.
 
 ghost use Rattle.std.specs.Prelude.{◌≡◌, All, IsTrue, IfOk, MatchOption, true};
-ghost use Rattle.wc_read.specs.Decoding.{body_in};
+ghost use Rattle.wc_read.specs.BodyOperators.{body_in};
 ghost use Rattle.wc_read.specs.Operators.{instr_values};
 ghost use Rattle.wc_gc.specs.Decoded.{ItemIndex, decoded_module, is_in};
 ghost use Rattle.wc_gc.specs.Entries.{refs_in};
 ghost use Rattle.wc_gc.specs.InRange.{is_code_in_range, is_item_in_range};
 ghost use Rattle.wc_gc.specs.Reached.{IsReachedFrom};
-ghost use Rattle.wc_gc.specs.TrimPlaces.{IsFirstOutside, IsOperatorPlace, body_at};
-ghost use Rattle.wc_gc.specs.Private.Explained.{HasFound, IsRefusedFrom};
+ghost use Rattle.wc_gc.specs.TrimPlace.{IsFirstOutside, IsOperatorPlace, body_at};
+ghost use Rattle.wc_gc.specs.Private.TrimPlace.{HasFound, IsRefusedFrom};
 
 use crate::fault::GcFault;
 use crate::live::BitVec;

@@ -3,7 +3,7 @@ use Rattle.std.specs.Prelude.{◌≡◌, ◌≢◌, ◌==◌, ◌+◌, length, f
 use Rattle.wc_read.specs.Types.{type_index, type_indices}
 use Rattle.wc_read.specs.Bodies.{local_count, local_types}
 use Rattle.wc_read.specs.Text.{number_text, val_type_text, vector_text, locals_text}
-use Rattle.wc_read.specs.Reading.Bytes.{number_at, vector_at}
+use Rattle.wc_read.specs.Reading.Reader.{number_at, vector_at}
 use Rattle.wc_read.specs.Reading.Types.{val_type_at}
 use Rattle.wc_read.specs.Reading.Bodies.{locals_at, locals_of}
 use Rattle.wc_read.specs.declared.bodies.Locals.{Locals}

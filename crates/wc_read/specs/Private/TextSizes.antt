@@ -1,8 +1,8 @@
 -- How many bytes the text of a number or of other immediates has.
 use Rattle.std.specs.Prelude.{◌≡◌, ◌⊎◌, ℕ, List, ◌∷◌, ◌++◌, length, Bool, true, Option, Some, None, ◌<◌, ◌≤◌, ◌^◌, ◌*◌, ◌-◌, ℤ, pos, negsuc}
 use Rattle.wc_read.specs.OperatorText.{mem_arg_text}
-use Rattle.wc_read.specs.Reading.Bytes.{Read}
-use Rattle.wc_read.specs.Reading.Operators.{mem_arg_at}
+use Rattle.wc_read.specs.Reading.Reader.{Read}
+use Rattle.wc_read.specs.Reading.Instructions.{mem_arg_at}
 
 -- bytes begin with the text of a value, of so many bytes, and this value is read
 pub record IsTextSize {A : Type 0} (read : Read A) (text : A → List ℕ) (bytes : List ℕ) (size : ℕ) : Type 0 where

@@ -1,7 +1,7 @@
 -- Runs of locals (5.5.13).
 use Rattle.std.specs.Prelude.{ℕ, Some}
 use Rattle.wc_read.specs.Options.{◌>>=◌}
-use Rattle.wc_read.specs.Reading.Bytes.{Read, number_at}
+use Rattle.wc_read.specs.Reading.Reader.{Read, number_at}
 use Rattle.wc_read.specs.Reading.Types.{val_type_at}
 use Rattle.wc_read.specs.declared.types.ValType.{ValType}
 use Rattle.wc_read.specs.declared.bodies.Locals.{Locals}

@@ -9,7 +9,7 @@ use Rattle.wc_read.specs.Order.{content_of}
 use Rattle.wc_read.specs.Imports.{import_value}
 use Rattle.wc_read.specs.Exports.{export_value}
 use Rattle.wc_read.specs.SectionContents.{SectionContentsValue}
-use Rattle.wc_read.specs.Reading.Bytes.{Read, byte_at, where_at, vector_at, bytes_at, number_at, read_all}
+use Rattle.wc_read.specs.Reading.Reader.{Read, byte_at, where_at, vector_at, bytes_at, number_at, read_all}
 use Rattle.wc_read.specs.Reading.Types.{val_type_at}
 use Rattle.wc_read.specs.Reading.Globals.{local_global_value, local_global_at}
 use Rattle.wc_read.specs.Reading.Imports.{import_at}

@@ -1,7 +1,7 @@
 -- A reader of operators of some shapes (5.4).
 use Rattle.std.specs.Prelude.{ℕ, List, [], Option, ◌≡◌, ◌≢◌, Some, None, Result, Ok, Err}
 use Rattle.wc_read.specs.Operators.{instr_value}
-use Rattle.wc_read.specs.Reading.Operators.{instr_at}
+use Rattle.wc_read.specs.Reading.Instructions.{instr_at}
 use Rattle.wc_read.specs.declared.fault.ReadFault.{ReadFault}
 use Rattle.wc_read.specs.declared.fault.ReadFault.TheVariants.{Memory as memory_fault, Component as component_fault}
 use Rattle.wc_read.specs.declared.operators.Instr.{Instr}

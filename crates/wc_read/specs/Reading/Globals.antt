@@ -2,7 +2,7 @@
 use Rattle.std.specs.Prelude.{List, map, Some}
 use Rattle.wc_read.specs.Globals.{LocalGlobalValue}
 use Rattle.wc_read.specs.Options.{◌>>=◌}
-use Rattle.wc_read.specs.Reading.Bytes.{Read}
+use Rattle.wc_read.specs.Reading.Reader.{Read}
 use Rattle.wc_read.specs.Reading.Types.{global_at}
 use Rattle.wc_read.specs.Reading.Inits.{init_bytes_at}
 use Rattle.wc_read.specs.declared.globals.LocalGlobal.{LocalGlobal}

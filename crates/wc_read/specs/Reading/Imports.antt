@@ -2,7 +2,7 @@
 use Rattle.std.specs.Prelude.{◌==◌, if◌then◌else◌, Some, None}
 use Rattle.wc_read.specs.Options.{◌>>=◌}
 use Rattle.wc_read.specs.Imports.{ImportValue}
-use Rattle.wc_read.specs.Reading.Bytes.{Read, byte_at, number_at, name_at}
+use Rattle.wc_read.specs.Reading.Reader.{Read, byte_at, number_at, name_at}
 use Rattle.wc_read.specs.Reading.Types.{global_at}
 use Rattle.wc_read.specs.Reading.Limits.{table_at, memory_at}
 use Rattle.wc_read.specs.declared.types.ImportType.{ImportType}

@@ -3,8 +3,8 @@ use Rattle.std.specs.Prelude.{Bool, false, ◌==◌, ◌||◌, ℕ, zero, suc, L
 use Rattle.wc_read.specs.Operators.{end_code, InstrValue}
 use Rattle.wc_read.specs.Inits.{is_constant}
 use Rattle.wc_read.specs.Options.{◌>>=◌}
-use Rattle.wc_read.specs.Reading.Bytes.{Read, where_at}
-use Rattle.wc_read.specs.Reading.Operators.{instr_at}
+use Rattle.wc_read.specs.Reading.Reader.{Read, where_at}
+use Rattle.wc_read.specs.Reading.Instructions.{instr_at}
 use Rattle.wc_read.specs.declared.operators.Opcode.{Opcode}
 use Rattle.wc_read.specs.declared.operators.Opcode.TheVariants.{Byte, Misc, Vector, Atomic}
 

@@ -4,7 +4,7 @@ use Rattle.wc_read.specs.Names.{GlobalNameValue, SpellsGlobalName, PairsBeforeFa
 use Rattle.wc_read.specs.Options.{◌>>=◌}
 use Rattle.wc_read.specs.Formats.{SpellsVector}
 use Rattle.wc_read.specs.Sections.{SectionValue, SpellsFrames}
-use Rattle.wc_read.specs.Reading.Bytes.{Read, number_at, name_at}
+use Rattle.wc_read.specs.Reading.Reader.{Read, number_at, name_at}
 use Rattle.wc_read.specs.declared.names.GlobalName.{GlobalName}
 
 abbrev pub global_name_value : GlobalName → GlobalNameValue

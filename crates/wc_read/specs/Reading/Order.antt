@@ -3,7 +3,7 @@ use Rattle.std.specs.Prelude.{ℕ, ◌==◌, nat_lt, if◌then◌else◌, Option
 use Rattle.wc_read.specs.Options.{◌>>=◌}
 use Rattle.wc_read.specs.Sections.{SectionValue, custom_id, data_count_id}
 use Rattle.wc_read.specs.Order.{section_position}
-use Rattle.wc_read.specs.Reading.Bytes.{name_at}
+use Rattle.wc_read.specs.Reading.Reader.{name_at}
 
 -- the position that a section takes after another position
 unfoldable pub next_position : ℕ → SectionValue → Option ℕ

@@ -3,7 +3,7 @@ use Rattle.std.specs.Prelude.{map, ℕ, List, Some, Bool, true, false, Option, N
 use Rattle.wc_read.specs.Producers.{ProducerValue, FieldValue, IsProducers, ReadsProducers}
 use Rattle.wc_read.specs.Options.{◌>>=◌}
 use Rattle.wc_read.specs.Sections.{SectionValue}
-use Rattle.wc_read.specs.Reading.Bytes.{Read, name_at, vector_at}
+use Rattle.wc_read.specs.Reading.Reader.{Read, name_at, vector_at}
 use Rattle.wc_read.specs.declared.producers.Producer.{Producer}
 use Rattle.wc_read.specs.declared.producers.ProducersField.{ProducersField}
 

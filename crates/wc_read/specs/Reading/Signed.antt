@@ -2,7 +2,7 @@
 use Rattle.std.specs.Prelude.{ℕ, ◌-◌, ◌^◌, ℤ, pos, negsuc, nat_lt, if◌then◌else◌, Option, Some, None, [], ◌∷◌}
 use Rattle.wc_read.specs.Options.{◌>>=◌}
 use Rattle.wc_read.specs.Signed.{above}
-use Rattle.wc_read.specs.Reading.Bytes.{Read}
+use Rattle.wc_read.specs.Reading.Reader.{Read}
 
 -- what a byte below 128 ends
 abbrev pub last_of : ℕ → ℕ → Option ℤ

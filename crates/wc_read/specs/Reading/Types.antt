@@ -3,7 +3,7 @@ use Rattle.std.specs.Prelude.{ℕ, ℤ, pos, negsuc, ◌==◌, if◌then◌else�
 use Rattle.std.specs.List.{list_all}
 use Rattle.wc_read.specs.Options.{◌>>=◌}
 use Rattle.wc_read.specs.Types.{FuncTypeValue, func_ref, extern_ref, has_type_index}
-use Rattle.wc_read.specs.Reading.Bytes.{Read, as_made, byte_at, coded_at}
+use Rattle.wc_read.specs.Reading.Reader.{Read, as_made, byte_at, coded_at}
 use Rattle.wc_read.specs.Reading.Signed.{signed_at}
 use Rattle.wc_read.specs.declared.types.ValType.{ValType}
 use Rattle.wc_read.specs.declared.types.ValType.TheVariants.{I32, I64, F32, F64, V128, FuncRef, ExternRef, TypeRef}

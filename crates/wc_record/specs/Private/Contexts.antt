@@ -2,7 +2,7 @@
 use Rattle.std.specs.Prelude.{string_bytes}
 use Rattle.std.specs.Option.{option_map}
 use Rattle.json.specs.Json.{Json}
-use Rattle.wc_validate.specs.PlaceViews.{SubjectView, difference_view}
+use Rattle.wc_validate.specs.Place.{SubjectView, difference_view}
 use Rattle.wc_record.specs.Places.{subject_json}
 use Rattle.wc_record.specs.declared.places.Context.{Context}
 

@@ -1,7 +1,7 @@
 //! The first world, interface, type or package that breaks the rule of a fault.
 
 ghost use Rattle.std.specs.Prelude.{All, IfOk, MatchOption, map};
-ghost use Rattle.wc_resolve.specs.Places.{AreFlagsFor, DoesInterfaceFollow, DoesPackageFollow, DoesTypeFollow, DoesWorldFollow, IsFirstBreach};
+ghost use Rattle.wc_resolve.specs.Explain.{AreFlagsFor, DoesInterfaceFollow, DoesPackageFollow, DoesTypeFollow, DoesWorldFollow, IsFirstBreach};
 ghost use Rattle.wc_resolve.specs.ResolveParts.{parts_view};
 ghost use Rattle.wc_resolve.specs.Views.{interface_view, package_view, type_view, world_view};
 

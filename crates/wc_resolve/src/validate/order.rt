@@ -2,9 +2,9 @@
 
 ghost use Rattle.std.specs.Prelude.{◌≡◌, ◌<◌, ℕ, ◌++◌, IfOk, IfErr, OnOk, Contains, length, map};
 ghost use Rattle.std.specs.List.{range_with_len};
-ghost use Rattle.wc_resolve.specs.Faults.{IsOrderCause};
+ghost use Rattle.wc_resolve.specs.Fault.{IsOrderCause};
 ghost use Rattle.wc_resolve.specs.Views.{type_view};
-ghost use Rattle.wc_resolve.specs.World.{IsChildrenFirst, LeadWithin, children};
+ghost use Rattle.wc_resolve.specs.Kinds.{IsChildrenFirst, LeadWithin, children};
 
 use crate::explain::{Part, Refusal};
 use crate::kinds::referenced_indices;

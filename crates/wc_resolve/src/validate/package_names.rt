@@ -5,7 +5,7 @@ ghost use Rattle.wc_resolve.specs.Views.{package_view};
 ghost use Rattle.wc_resolve.specs.WellFormed.{HaveDistinctNames};
 ghost use Rattle.wc_resolve.specs.Refusals.{IsRepeatRefused};
 ghost use Rattle.wc_resolve.specs.ResolveParts.{parts_view};
-ghost use Rattle.wc_resolve.specs.Tables.{AreNamesOf};
+ghost use Rattle.wc_resolve.specs.Validate.{AreNamesOf};
 
 use crate::explain::{Part, Refusal};
 use crate::{Package, PackageName, Parts, ResolveFault};

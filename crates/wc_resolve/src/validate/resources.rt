@@ -5,7 +5,7 @@ ghost use Rattle.wc_resolve.specs.Views.{function_view, interface_view, type_vie
 ghost use Rattle.wc_resolve.specs.ResolveParts.{parts_view};
 ghost use Rattle.wc_resolve.specs.Ranges.{IsFunctionIn};
 ghost use Rattle.wc_resolve.specs.Resources.{AreResourceFlags, is_resource_kind};
-ghost use Rattle.wc_resolve.specs.World.{DoesInterfacePass, DoesTypePass, DoesWorldPass, IsChildrenFirst, children, kind_at};
+ghost use Rattle.wc_resolve.specs.Kinds.{DoesInterfacePass, DoesTypePass, DoesWorldPass, IsChildrenFirst, children, kind_at};
 ghost use Rattle.wc_resolve.specs.WellFormed.{IsFree, IsFunctionFree};
 
 use crate::validate::ranges::is_function_in;

@@ -2,7 +2,7 @@
 //! resources; only the rule of `ByValueResource` reads them.
 
 ghost use Rattle.std.specs.Prelude.{◌↔◌, IfOk, IsTrue};
-ghost use Rattle.wc_resolve.specs.Places.{AreFlagsFor, DoesInterfaceFollow, DoesPackageFollow, DoesTypeFollow, DoesWorldFollow};
+ghost use Rattle.wc_resolve.specs.Explain.{AreFlagsFor, DoesInterfaceFollow, DoesPackageFollow, DoesTypeFollow, DoesWorldFollow};
 ghost use Rattle.wc_resolve.specs.ResolveParts.{parts_view};
 ghost use Rattle.wc_resolve.specs.Views.{interface_view, package_view, type_view, world_view};
 

@@ -3,7 +3,7 @@
 ghost use Rattle.std.specs.Prelude.{◌↔◌, All, IsTrue, IfOk, map};
 ghost use Rattle.std.specs.Option.{IfSome};
 ghost use Rattle.wc_resolve.specs.Views.{function_entry, function_view, interface_view, item_view, kind_view, named_view, type_view, world_entry, world_view};
-ghost use Rattle.wc_resolve.specs.World.{DoesInterfacePass, DoesItemPass, DoesTypePass, DoesWorldPass, SignatureHasOnly, contained_types};
+ghost use Rattle.wc_resolve.specs.Kinds.{DoesInterfacePass, DoesItemPass, DoesTypePass, DoesWorldPass, SignatureHasOnly, contained_types};
 
 use crate::kinds::contained_types;
 use crate::{Function, Interface, TypeDef, TypeDefKind, WitType, World, WorldItem, WorldKey};
@@ -71,7 +71,7 @@ fn item_passes<T: TypeTest>(test: &T, item: &WorldItem) -> bool
     }
 }
 
-#[tactic(auto, unfolding(crate::specs::World::DoesWorldPass))]
+#[tactic(auto, unfolding(crate::specs::Kinds::DoesWorldPass))]
 pub(crate) fn world_passes<T: TypeTest>(test: &T, world: &World) -> bool
     ensures { IsTrue result ↔ DoesWorldPass (T.Passes test.now) (world_view world.now) }
 {
@@ -87,7 +87,7 @@ fn functions_pass<T: TypeTest>(test: &T, functions: &Map<String, Function>) -> b
         .all(|(_name, function)| function_passes(test, function))
 }
 
-#[tactic(auto, unfolding(crate::specs::World::DoesInterfacePass))]
+#[tactic(auto, unfolding(crate::specs::Kinds::DoesInterfacePass))]
 pub(crate) fn interface_passes<T: TypeTest>(test: &T, interface: &Interface) -> bool
     ensures { IsTrue result
         ↔ DoesInterfacePass (T.Passes test.now) (interface_view interface.now) }
@@ -95,7 +95,7 @@ pub(crate) fn interface_passes<T: TypeTest>(test: &T, interface: &Interface) -> 
     functions_pass(test, &interface.functions)
 }
 
-#[tactic(auto, unfolding(crate::specs::World::DoesTypePass))]
+#[tactic(auto, unfolding(crate::specs::Kinds::DoesTypePass))]
 pub(crate) fn type_def_passes<T: TypeTest>(
     alloc: Global,
     test: &T,

@@ -2,13 +2,13 @@
 use Rattle.std.specs.Prelude.{◌≡◌, ℕ, List, Option, Result}
 use Rattle.wc_names.specs.Exports.{ClassifiedExport, CoreExport, ExportKind, ExportMeaning}
 use Rattle.wc_names.specs.Imports.{ExternType}
-use Rattle.wc_names.specs.Schemes.{Scheme, standard, legacy}
+use Rattle.wc_names.specs.Mangling.{Scheme, standard, legacy}
 use Rattle.wc_validate.specs.declared.exports.classify.ExportContext.{ExportContext}
 use Rattle.wc_validate.specs.declared.exports.classify.ExportLookup.{ExportLookup}
 use Rattle.wc_validate.specs.declared.externs.Extern.{Extern}
 use Rattle.wc_validate.specs.Private.Exports.Classify.{AreNamesBy, IsExportOfKind, MeansExport, IsExportFunction, IsTypedExport}
 use Rattle.wc_validate.specs.Private.Externs.{extern_view}
-use Rattle.wc_validate.specs.NameScopes.{HasItsWorld, name_scope_of}
+use Rattle.wc_validate.specs.NameScope.{HasItsWorld, name_scope_of}
 use Rattle.wc_names.specs.declared.exports.Export.{Export}
 use Rattle.wc_read.specs.declared.types.FuncType.{FuncType}
 use Rattle.wc_validate.specs.declared.name_fault.NameFault.{NameFault}

@@ -22,7 +22,7 @@ use Rattle.std.specs.declared.alloc.Global.{Global as Allocator}
 use Rattle.wc_names.specs.declared.exports.Export.{Export as RecordedExport}
 use Rattle.wc_validate.specs.Exports.Map.{ExportRecord, export_entry}
 use Rattle.wc_validate.specs.Imports.Classify.{HasSignature}
-use Rattle.wc_validate.specs.NameScopes.{name_scope_of}
+use Rattle.wc_validate.specs.NameScope.{name_scope_of}
 use Rattle.wc_validate.specs.declared.externs.Extern.{Extern}
 
 -- the type of the item of a kind that has an index in a module

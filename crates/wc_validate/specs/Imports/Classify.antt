@@ -8,7 +8,7 @@ use Rattle.wc_names.specs.Meanings.{Meaning, means, refuses}
 use Rattle.wc_validate.specs.Classifications.{FaultKind, out_of_memory, wrong_signature, refused_name, IsImportClassification}
 use Rattle.wc_names.specs.Views.{ImportView, import_view}
 use Rattle.wc_validate.specs.declared.name_fault.NameFault.{NameFault}
-use Rattle.wc_validate.specs.Faults.{fault_kind}
+use Rattle.wc_validate.specs.Fault.{fault_kind}
 use Rattle.wc_read.specs.declared.exports.ExportKind.{ExportKind}
 use Rattle.std.specs.Option.{IfSome}
 

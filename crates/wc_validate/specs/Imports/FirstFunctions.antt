@@ -17,13 +17,13 @@ use Rattle.wc_validate.specs.Imports.Map.{first_of_names, function_of}
 use Rattle.wc_validate.specs.Imports.Instances.{instance_view}
 
 -- a function with the position of its import, if an import is one of an adapter
-abbrev pub placed_function : ℕ → List ℕ × ImportView → Option (List ℕ × ℕ)
-placed_function n x = option_map (λ (f : List ℕ × FuncTypeValue). (f.0, n)) (function_of x)
+abbrev pub positioned_function : ℕ → List ℕ × ImportView → Option (List ℕ × ℕ)
+positioned_function n x = option_map (λ (f : List ℕ × FuncTypeValue). (f.0, n)) (function_of x)
 
 -- the functions of adapters among imports, with their positions from n
-abbrev pub placed_functions : ℕ → List (List ℕ × ImportView) → List (List ℕ × ℕ)
-placed_functions n [] = []
-placed_functions n (x ∷ xs) = cons_option (placed_function n x) (placed_functions (suc n) xs)
+abbrev pub positioned_functions : ℕ → List (List ℕ × ImportView) → List (List ℕ × ℕ)
+positioned_functions n [] = []
+positioned_functions n (x ∷ xs) = cons_option (positioned_function n x) (positioned_functions (suc n) xs)
 
 -- the function that is imported at a position
 abbrev pub function_at : List (List ℕ × ImportView) → ℕ → Option (List ℕ × FuncTypeValue)
@@ -32,7 +32,7 @@ function_at names n = option_and_then function_of (slice_get names n)
 -- of what is recorded of a module, the position of the first import of each function of an adapter, in their order
 abbrev pub first_functions : InstanceRecord → List (List ℕ × ℕ)
 first_functions (all_of which) = []
-first_functions (names_of names) = first_of_names (placed_functions 0 names)
+first_functions (names_of names) = first_of_names (positioned_functions 0 names)
 
 abbrev pub first_functions_of : ImportInstance → List (List ℕ × ℕ)
 first_functions_of instance = first_functions (instance_view instance)

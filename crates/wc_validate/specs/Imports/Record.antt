@@ -8,7 +8,7 @@ use Rattle.wc_read.specs.declared.types.ImportType.{ImportType}
 use Rattle.wc_read.specs.declared.types.ImportType.TheVariants as imported
 use Rattle.wc_read.specs.Imports.{ImportValue}
 use Rattle.wc_read.specs.Types.{FuncTypeValue}
-use Rattle.wc_dedupe.specs.Renaming.{RenameValue, original_in}
+use Rattle.wc_dedupe.specs.Renaming.{RenameView, original_in}
 use Rattle.wc_adapters.specs.Adapters.{WhichView, InstanceView, module_instance, item_instance, LibraryView, LibraryItemView}
 use Rattle.wc_names.specs.First.{FirstOf}
 use Rattle.wc_names.specs.Imports.{NameScope, ExternType, func_type, table_type, memory_type, global_type, CoreImport, Classified}
@@ -17,7 +17,7 @@ use Rattle.wc_names.specs.Views.{ImportView, adapter_export, main_module_memory,
 use Rattle.wc_validate.specs.declared.fault.ValidateFault.{ValidateFault}
 use Rattle.wc_validate.specs.declared.fault.ValidateFault.TheVariants.{WholeDiffers, Mixed, SeveralMemoryImports, DuplicateImport, AdapterTypesDiffer}
 use Rattle.wc_validate.specs.Imports.Entries.{Entry, single, whole, all_of, names_of, by_modules, Records, IsAllRecorded, IsNameRecorded, memory_of, adapter_type_of, first_by}
-use Rattle.wc_validate.specs.Faults.{import_fault_kind}
+use Rattle.wc_validate.specs.Fault.{import_fault_kind}
 use Rattle.wc_validate.specs.Imports.Classify.{HasSignature, IsNameFault}
 
 -- what imports are recorded by: what names are looked up in; the library that the module is, if it is one; the original
@@ -25,7 +25,7 @@ use Rattle.wc_validate.specs.Imports.Classify.{HasSignature, IsNameFault}
 pub record ImportScope : Type 0 where
   pub name_scope : NameScope
   pub library : Option LibraryView
-  pub renames : Option (List RenameValue)
+  pub renames : Option (List RenameView)
   pub types : List FuncTypeValue
 
 -- the type of an import; that of a function by its index
@@ -36,7 +36,7 @@ extern_type types (imported.Memory ty) = Some (memory_type ty)
 extern_type types (imported.Global ty) = Some (global_type ty)
 
 -- the name that an import had before it was renamed
-abbrev pub original_name : Option (List RenameValue) → List ℕ → List ℕ → List ℕ
+abbrev pub original_name : Option (List RenameView) → List ℕ → List ℕ → List ℕ
 original_name None m name = name
 original_name (Some renames) m name = unwrap_or (original_in renames m name) name
 

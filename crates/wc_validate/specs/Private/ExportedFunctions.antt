@@ -16,7 +16,7 @@ use Rattle.wc_validate.specs.Exports.Map.{ExportRecord}
 use Rattle.wc_validate.specs.Requirements.{function_names, typed_name, functions_of}
 use Rattle.wc_names.specs.declared.exports.Export.{Export}
 use Rattle.wc_resolve.specs.Views.{FunctionView}
-use Rattle.wc_resolve.specs.World.{ResolveView}
+use Rattle.wc_resolve.specs.Kinds.{ResolveView}
 use Rattle.wc_names.specs.ExportViews.{export_view}
 
 -- an interface or none, and a function's name
@@ -57,7 +57,7 @@ abbrev pub IsNameAdded : {T F : Type 0} → List (Option InterfaceId × String G
 IsNameAdded old new export result =
     (passed : ExportRecord) (name : List ℕ) → AreNamesOf old passed → OnOk result (AreNamesOf new (passed ++ (name, export_view export) ∷ []))
 
--- a test tells whether something holds of what is recorded, whose functions are those of names
+-- a test says whether something holds of what is recorded, whose functions are those of names
 abbrev pub TellsByNames : {F : Type 0} → List (Option InterfaceId × String Global) → (ExportRecord → Type 0) → Result Bool F → Type 0
 TellsByNames functions Holds result = (recorded : ExportRecord) → AreNamesOf functions recorded → IfOk result (λ b. IsTrue b ↔ Holds recorded)
 

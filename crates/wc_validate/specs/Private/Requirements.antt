@@ -8,7 +8,7 @@ use Rattle.wc_read.specs.declared.types.FuncType.{FuncType}
 use Rattle.wc_read.specs.Types.{func_type_value}
 use Rattle.wc_resolve.specs.declared.worlds.WorldItem.{WorldItem}
 use Rattle.wc_resolve.specs.declared.worlds.WorldKey.{WorldKey}
-use Rattle.wc_resolve.specs.Queries.{key_text}
+use Rattle.wc_resolve.specs.Resolve.{key_text}
 use Rattle.wc_resolve.specs.Ranges.{IsItemIn, IsKeyIn}
 use Rattle.wc_resolve.specs.Views.{ItemView, KeyView, key_view, world_entry}
 use Rattle.wc_names.specs.declared.exports.Export.{Export}
@@ -25,7 +25,7 @@ use Rattle.std.specs.Borrow.{Bor}
 use Rattle.wc_names.specs.Exports.{CoreExport}
 use Rattle.wc_names.specs.ExportViews.{ExportView}
 use Rattle.wc_resolve.specs.declared.ids.InterfaceId.{InterfaceId}
-use Rattle.wc_resolve.specs.World.{ResolveView}
+use Rattle.wc_resolve.specs.Kinds.{ResolveView}
 use Rattle.wc_read.specs.declared.exports.Export.{Export as ModuleExport}
 
 -- what a key of an export set requires, if it requires anything, and what all its keys do

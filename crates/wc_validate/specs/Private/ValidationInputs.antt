@@ -2,7 +2,7 @@
 use Rattle.std.specs.Prelude.{List, None, Option, String, map, option_copied, IfErr, IfOk, Result}
 use Rattle.std.specs.declared.alloc.Global.{Global}
 use Rattle.wc_read.specs.declared.types.FuncType.{FuncType}
-use Rattle.wc_dedupe.specs.Renaming.{RenameValue}
+use Rattle.wc_dedupe.specs.Renaming.{RenameView}
 use Rattle.wc_read.specs.Modules.{ModuleValue}
 use Rattle.wc_resolve.specs.Views.{key_view}
 use Rattle.wc_encoder.specs.EncoderParts.{EncoderView}
@@ -11,15 +11,15 @@ use Rattle.wc_validate.specs.declared.requirements.RequiredExports.{RequiredExpo
 use Rattle.wc_validate.specs.declared.validate.ValidationInput.{ValidationInput as CodeInput}
 use Rattle.wc_validate.specs.Exports.Map.{ExportRecord}
 use Rattle.wc_validate.specs.Imports.Map.{required_entry}
-use Rattle.wc_validate.specs.Validated.{IsExportsCause, IsExportsRecord, ValidationInput, validation_input_by, library_of, IsNameScopeOf}
+use Rattle.wc_validate.specs.Validate.{IsExportsCause, IsExportsRecord, ValidationInput, validation_input_by, library_of, IsNameScopeOf}
 use Rattle.wc_validate.specs.declared.exports.classify.ExportContext.{ExportContext}
-use Rattle.wc_validate.specs.NameScopes.{name_scope_of}
+use Rattle.wc_validate.specs.NameScope.{name_scope_of}
 
 abbrev pub validation_input_of : CodeInput → ValidationInput
 validation_input_of j = validation_input_by j.encoder.now (library_of j.library) (option_copied j.renames) (map key_view j.required.keys.now.keys) (map required_entry j.required.functions.now.entries)
 
 -- the validation input of a main module that has to export these functions
-abbrev pub main_input_requiring : EncoderView → Option (List RenameValue) → List (String Global × FuncType) → ValidationInput
+abbrev pub main_input_requiring : EncoderView → Option (List RenameView) → List (String Global × FuncType) → ValidationInput
 main_input_requiring e renames functions = validation_input_by e None renames e.main_module_exports (map required_entry functions)
 
 -- the exports of a module, recorded, with all that is required among them; and the cause of their fault

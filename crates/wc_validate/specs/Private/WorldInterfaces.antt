@@ -4,8 +4,8 @@ use Rattle.std.specs.Borrow.{Bor}
 use Rattle.std.specs.Option.{IfSome}
 use Rattle.wc_encoder.specs.EncoderParts.{EncoderView}
 use Rattle.wc_names.specs.Imports.{NameScope}
-use Rattle.wc_validate.specs.NameScopes.{AreInterfacesOf}
-use Rattle.wc_validate.specs.Validated.{IsNameScopeOf}
+use Rattle.wc_validate.specs.NameScope.{AreInterfacesOf}
+use Rattle.wc_validate.specs.Validate.{IsNameScopeOf}
 use Rattle.wc_validate.specs.declared.name_scope.Interfaces.{Interfaces}
 
 -- the interfaces of the world that an encoder has, by the texts of both schemes

@@ -4,7 +4,7 @@ ghost use Rattle.std.specs.Prelude.{◌≡◌, ◌↔◌, ◌<◌, IfSome, IsTru
 ghost use Rattle.wc_read.specs.Modules.{HaveTypes, module_value};
 ghost use Rattle.wc_validate.specs.Exports.Contexts.{IsExportContext};
 ghost use Rattle.wc_validate.specs.Exports.Record.{AreExportsIn};
-ghost use Rattle.wc_validate.specs.Private.Explained.{IsExportStopIn, IsMismatchExplained};
+ghost use Rattle.wc_validate.specs.Private.Explain.{IsExportStopIn, IsMismatchExplained};
 
 use crate::ValidateFault;
 use crate::explain::refused::RefusedExport;

@@ -1,7 +1,7 @@
 //! Functions that other modules import, and that are not exported as they are required.
 
 ghost use Rattle.std.specs.Prelude.{◌≡◌, ◌≢◌, ◌↔◌, IfErr, IfOk, IsTrue, false};
-ghost use Rattle.wc_validate.specs.Private.Explained.{AreMetByIndex, IsFunctionExplained, IsFunctionLackIn, IsNotExported, IsSaidApart, IsSaidAs, IsUnexported};
+ghost use Rattle.wc_validate.specs.Private.Explain.{AreMetByIndex, IsFunctionExplained, IsFunctionLackIn, IsNotExported, IsSaidApart, IsSaidAs, IsUnexported};
 
 use crate::ValidateFault;
 use crate::explain::is_memory;

@@ -4,9 +4,9 @@ ghost use Rattle.std.specs.Prelude.{◌≡◌, ◌≢◌, ◌↔◌, ◌<◌, Al
 ghost use Rattle.wc_read.specs.Types.{func_type_value};
 ghost use Rattle.wc_names.specs.declared.imports.Import.{Import as named_import};
 ghost use Rattle.wc_names.specs.Views.{adapter_export, import_view};
-ghost use Rattle.wc_validate.specs.NameScopes.{AreInterfacesOf, HasItsWorld, name_scope_of};
-ghost use Rattle.wc_validate.specs.Places.{IsOfImport, an_import, subject_view};
-ghost use Rattle.wc_validate.specs.Private.Explained.{AreDifferingAfter, AreDifferingTypes, AreMismatchedTypes, AreTypesIn, IsAdapterFunction, IsImportExplained, IsStopIn, function_view};
+ghost use Rattle.wc_validate.specs.NameScope.{AreInterfacesOf, HasItsWorld, name_scope_of};
+ghost use Rattle.wc_validate.specs.Explain.{IsOfImport, an_import, subject_view};
+ghost use Rattle.wc_validate.specs.Private.Explain.{AreDifferingAfter, AreDifferingTypes, AreMismatchedTypes, AreTypesIn, IsAdapterFunction, IsImportExplained, IsStopIn, function_view};
 ghost use Rattle.wc_validate.specs.Private.Imports.Contexts.{AreAllRecorded, IsTypeIn};
 
 use crate::ValidateFault;

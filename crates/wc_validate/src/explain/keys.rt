@@ -3,8 +3,8 @@
 ghost use Rattle.std.specs.Prelude.{◌≡◌, ◌≢◌, ◌<◌, All, IfErr, IfOk, IsTrue, MatchOption, false, length, map};
 ghost use Rattle.wc_resolve.specs.Ranges.{IsItemIn};
 ghost use Rattle.wc_resolve.specs.Views.{key_view, world_entry};
-ghost use Rattle.wc_validate.specs.NameScopes.{name_scope_of};
-ghost use Rattle.wc_validate.specs.Private.Explained.{AreAllNamed, IsKeyExplained, IsLackIn, IsLackNamed, IsLackOf, IsLackingFunction, IsOfKey};
+ghost use Rattle.wc_validate.specs.NameScope.{name_scope_of};
+ghost use Rattle.wc_validate.specs.Private.Explain.{AreAllNamed, IsKeyExplained, IsLackIn, IsLackNamed, IsLackOf, IsLackingFunction, IsOfKey};
 ghost use Rattle.wc_validate.specs.Private.Requirements.{AreKeysNamed, HasItemsInRange, HasKeysNamed, IsKeyNamed, MeetsByNames, requirements_of_keys};
 ghost use Rattle.wc_validate.specs.Requirements.{interface_functions};
 

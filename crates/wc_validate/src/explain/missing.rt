@@ -2,11 +2,11 @@
 
 ghost use Rattle.std.specs.Prelude.{◌≡◌, ◌↔◌, ◌≤◌, IfOk, IsTrue, MatchOption, map};
 ghost use Rattle.wc_read.specs.Modules.{HaveTypes, module_value};
-ghost use Rattle.wc_resolve.specs.World.{ResolveView};
+ghost use Rattle.wc_resolve.specs.Kinds.{ResolveView};
 ghost use Rattle.wc_validate.specs.Exports.Map.{export_entry};
 ghost use Rattle.wc_validate.specs.Exports.Record.{AreExportsIn};
-ghost use Rattle.wc_validate.specs.NameScopes.{name_scope_of};
-ghost use Rattle.wc_validate.specs.Private.Explained.{AreAlone, IsCallbackExplained, IsMemoryExplained, IsMissingOf, IsSecondNamed, IsUncalled, IsUnexportedExplained};
+ghost use Rattle.wc_validate.specs.NameScope.{name_scope_of};
+ghost use Rattle.wc_validate.specs.Private.Explain.{AreAlone, IsCallbackExplained, IsMemoryExplained, IsMissingOf, IsSecondNamed, IsUncalled, IsUnexportedExplained};
 ghost use Rattle.wc_validate.specs.Private.Requirements.{AreCalledBack, HasItemsInRange, HasKeysNamed};
 ghost use Rattle.wc_validate.specs.Requirements.{memory_count};
 

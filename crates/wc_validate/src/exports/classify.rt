@@ -6,7 +6,7 @@ ghost use Rattle.wc_names.specs.ExportViews.{export_target, export_view};
 ghost use Rattle.wc_validate.specs.Private.Externs.{extern_view};
 ghost use Rattle.wc_validate.specs.Exports.Contexts.{HasNamesBy, IsExportContext, MeansExportBy, IsExportBy, IsFunctionBy, IsFunctionOfKind};
 ghost use Rattle.wc_validate.specs.Private.Exports.Classify.{IsTypedExport, fixed_kinds, named_kinds, IsAnyTypeExport, IsFixedExport, IsMemoryExport, IsNamedExport, IsTableExport};
-ghost use Rattle.wc_validate.specs.NameScopes.{HasItsWorld, name_scope_of};
+ghost use Rattle.wc_validate.specs.NameScope.{HasItsWorld, name_scope_of};
 
 use crate::externs::Extern;
 use crate::name_fault::NameFault;

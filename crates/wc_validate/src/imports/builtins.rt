@@ -2,7 +2,7 @@
 
 ghost use Rattle.wc_names.specs.Builtins.{IsThreadBuiltin};
 ghost use Rattle.wc_validate.specs.Private.Imports.Builtins.{IsAnyBuiltin, IsLaterBuiltin, MeansBuiltin};
-ghost use Rattle.wc_validate.specs.Faults.{IsClassifiedBy};
+ghost use Rattle.wc_validate.specs.Fault.{IsClassifiedBy};
 
 use crate::name_fault::NameFault;
 use crate::signatures::{checked, checked_thread};

@@ -7,7 +7,7 @@ ghost use Rattle.wc_names.specs.Views.{import_view, main_module_export};
 ghost use Rattle.wc_validate.specs.Private.Externs.{item_view};
 ghost use Rattle.wc_validate.specs.Private.Imports.Functions.{function_item_view};
 ghost use Rattle.wc_validate.specs.Imports.Classify.{IsAdapterMeaning, IsClassified, IsSomeFunctionClassification, core_import, IsOtherItem};
-ghost use Rattle.wc_validate.specs.NameScopes.{AreInterfacesOf, HasItsWorld, name_scope_of};
+ghost use Rattle.wc_validate.specs.NameScope.{AreInterfacesOf, HasItsWorld, name_scope_of};
 
 use crate::externs::Extern;
 use crate::imports::environment::ENVIRONMENT;

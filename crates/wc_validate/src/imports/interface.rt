@@ -7,7 +7,7 @@ ghost use Rattle.wc_names.specs.Interfaces.{found_interface, interface_texts};
 ghost use Rattle.wc_validate.specs.Private.Imports.Functions.{IsDecidedAmong, IsDecidedInExport, IsDecidedInImport};
 ghost use Rattle.wc_validate.specs.Private.Imports.Interface.{IsIndexed, found_view, interface_entries, IsDecidedAsExport, IsDecidedAsImport, IsFoundBy};
 ghost use Rattle.wc_validate.specs.Private.Imports.Kinds.{other_kinds};
-ghost use Rattle.wc_validate.specs.NameScopes.{HasInterfaces, HasItsWorld, lookup_name_scope, name_scope_of};
+ghost use Rattle.wc_validate.specs.NameScope.{HasInterfaces, HasItsWorld, lookup_name_scope, name_scope_of};
 
 use crate::imports::intrinsics::{exported_intrinsic, imported_intrinsic, lowered_function};
 use crate::imports::items::ImportedFunction;

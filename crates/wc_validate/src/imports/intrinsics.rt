@@ -1,10 +1,10 @@
 //! Imports of functions, resources, futures and streams of a world or of one of its interfaces.
 
 ghost use Rattle.std.specs.Prelude.{◌≡◌, IfOk, false, true};
-ghost use Rattle.wc_names.specs.Schemes.{resource_drop, resource_new, resource_rep};
+ghost use Rattle.wc_names.specs.Mangling.{resource_drop, resource_new, resource_rep};
 ghost use Rattle.wc_names.specs.Views.{import_view};
 ghost use Rattle.wc_names.specs.WitIntrinsics.{of_async_value, of_resource, task_cancel, wit_intrinsics};
-ghost use Rattle.wc_validate.specs.Faults.{IsClassifiedBy};
+ghost use Rattle.wc_validate.specs.Fault.{IsClassifiedBy};
 ghost use Rattle.wc_validate.specs.Private.Imports.Kinds.{IsContextFormed, IsIntrinsic, MeansFunction, task_intrinsics, task_returns};
 ghost use Rattle.wc_validate.specs.Private.Imports.Lookups.{LookupScope, lookup_scope};
 ghost use Rattle.wc_validate.specs.Private.Imports.Intrinsics.{has_result, operation_of, IsIntrinsicAmong, IsIntrinsicOf, IsOnResource, import_of_function, import_on_resource};

@@ -6,7 +6,7 @@ ghost use Rattle.wc_adapters.specs.Adapters.{LibraryView};
 ghost use Rattle.wc_validate.specs.Private.Imports.Contexts.{IsClassifiedIn, IsTypeIn, AreAllRecorded, AreAllRefused, IsOneRecorded, IsOneRefused};
 ghost use Rattle.wc_validate.specs.Private.Externs.{extern_view};
 ghost use Rattle.wc_validate.specs.Imports.Record.{extern_type, original_name};
-ghost use Rattle.wc_validate.specs.NameScopes.{AreInterfacesOf, HasItsWorld, name_scope_of};
+ghost use Rattle.wc_validate.specs.NameScope.{AreInterfacesOf, HasItsWorld, name_scope_of};
 
 use crate::ValidateFault;
 use crate::externs::Extern;

@@ -4,7 +4,7 @@ ghost use Rattle.std.specs.Prelude.{IfOk};
 ghost use Rattle.wc_names.specs.Imports.{root_function};
 ghost use Rattle.wc_validate.specs.Private.Imports.Functions.{IsDecidedInRoot, IsOfRootKind, IsRootRefusal};
 ghost use Rattle.wc_validate.specs.Private.Imports.Kinds.{other_root_kinds, root_kinds};
-ghost use Rattle.wc_validate.specs.NameScopes.{HasItsWorld, name_scope_of};
+ghost use Rattle.wc_validate.specs.NameScope.{HasItsWorld, name_scope_of};
 
 use crate::imports::builtins::root_builtin;
 use crate::imports::intrinsics::{imported_intrinsic, lowered_function};

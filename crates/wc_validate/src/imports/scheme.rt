@@ -4,7 +4,7 @@ ghost use Rattle.wc_names.specs.Imports.{kinds};
 ghost use Rattle.wc_names.specs.Interfaces.{interface_texts};
 ghost use Rattle.wc_validate.specs.Private.Imports.Functions.{IsAmong, IsDecidedAmong, IsDecidedByScheme};
 ghost use Rattle.wc_validate.specs.Private.Imports.Kinds.{export_root_kinds};
-ghost use Rattle.wc_validate.specs.NameScopes.{AreInterfacesOf, HasInterfaces, HasItsWorld, lookup_name_scope, name_scope_of};
+ghost use Rattle.wc_validate.specs.NameScope.{AreInterfacesOf, HasInterfaces, HasItsWorld, lookup_name_scope, name_scope_of};
 
 use crate::imports::environment::environment;
 use crate::imports::interface::interface_import;

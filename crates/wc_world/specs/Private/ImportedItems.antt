@@ -13,7 +13,7 @@ use Rattle.wc_resolve.specs.Dependencies.{id_of_interface}
 use Rattle.wc_resolve.specs.Roots.{indices}
 use Rattle.wc_resolve.specs.Views.{KeyView}
 use Rattle.wc_names.specs.Views.{FunctionImportView, ImportView, imported_resource_drop}
-use Rattle.wc_world.specs.Lowered.{is_drop_of, is_import_of}
+use Rattle.wc_world.specs.Lowering.{is_drop_of, is_import_of}
 use Rattle.wc_world.specs.declared.imported_items.ImportedItems.{ImportedItems}
 
 -- the index of an interface, if there is one

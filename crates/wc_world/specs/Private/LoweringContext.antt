@@ -7,7 +7,7 @@ use Rattle.wc_resolve.specs.declared.functions.AbiVariant.{AbiVariant}
 use Rattle.wc_resolve.specs.declared.ids.InterfaceId.{InterfaceId}
 use Rattle.wc_resolve.specs.Views.{FunctionView, ItemView, KeyView}
 use Rattle.wc_names.specs.Views.{ImportView}
-use Rattle.wc_world.specs.Lowered.{KeyedLowering, Lowerer, interface_entry, lowered_function, lowerer_of, lowerings_of_interface, AreEntriesDistinct, ImportEntry}
+use Rattle.wc_world.specs.Lowering.{KeyedLowering, Lowerer, interface_entry, lowered_function, lowerer_of, lowerings_of_interface, AreEntriesDistinct, ImportEntry}
 use Rattle.wc_world.specs.Options.{OptionsOf}
 use Rattle.wc_world.specs.Private.ImportedItems.{ForImported}
 use Rattle.wc_world.specs.Used.{same_interface}

@@ -6,9 +6,9 @@ use Rattle.std.specs.declared.alloc.Global.{Global}
 use Rattle.json.specs.Json.{Json, document}
 use Rattle.wc_encoder.specs.EncoderParts.{EncoderView}
 use Rattle.wc_json.specs.Document.{DocumentView}
-use Rattle.wc_resolve.specs.Faults.{IsResolveCause}
+use Rattle.wc_resolve.specs.Fault.{IsResolveCause}
 use Rattle.wc_resolve.specs.WellFormed.{IsWellFormed as IsResolve}
-use Rattle.wc_resolve.specs.World.{ResolveView}
+use Rattle.wc_resolve.specs.Kinds.{ResolveView}
 use Rattle.wc_resolve.specs.declared.explain.Part.{Part}
 use Rattle.wc_resolve.specs.declared.explain.Refusal.{Refusal}
 use Rattle.wc_resolve.specs.declared.fault.ResolveFault.{ResolveFault}
@@ -19,21 +19,21 @@ use Rattle.wc_program.specs.Program.{Prints, failure}
 use Rattle.wc_world.specs.Options.{plain_options}
 use Rattle.wc_world.specs.Views.{ComponentWorldView}
 use Rattle.wc_world.specs.World.{IsWorldOf}
-use Rattle.wcplan_command.specs.Arguments.{CommandValue, help, version, wrong, wrong_value}
+use Rattle.wcplan_command.specs.Arguments.{CommandView, help, version, wrong, wrong_view}
 use Rattle.wcplan_command.specs.Details.{IsExplanation, fault_lines, unplaced_line}
 use Rattle.wcplan_command.specs.Program.{EndsWithoutMemory, IsDocumentOf, IsEncoderOf, IsTextCause, IsUnwrittenFile, StopEnds, WritesAll, file_view}
-use Rattle.wcplan_command.specs.Parts.{IsPartExplanation, part_name}
+use Rattle.wcplan_command.specs.ExplainedPart.{IsPartExplanation, part_name}
 use Rattle.wc_selection.specs.declared.fault.RequestFault.{RequestFault}
 use Rattle.wc_selection.specs.declared.fault.RequestFault.TheVariants.{UnknownWorld}
-use Rattle.wcplan_command.specs.Faults.{of_request, of_selection}
+use Rattle.wcplan_command.specs.Fault.{of_request, of_selection}
 use Rattle.wcplan_command.specs.Listing.{world_listing}
 use Rattle.wcplan_command.specs.ModuleKeys.{IsMeant, IsNotMeant, IsSelectionCause}
 use Rattle.wc_program.specs.Screen.{Printing, nothing, failed}
 use Rattle.wcplan_command.specs.declared.explained_part.ExplainedPart.{ExplainedPart}
 use Rattle.wcplan_command.specs.declared.arguments.NoCommand.{NoCommand}
 use Rattle.wcplan_command.specs.declared.arguments.NoCommand.TheVariants.{Memory, Help, Version, Wrong}
-use Rattle.wcplan_command.specs.declared.faults.ProgramFault.{ProgramFault}
-use Rattle.wcplan_command.specs.declared.faults.ProgramFault.TheVariants.{CannotMake, CannotWrite, NoWorld, Output, Resolve, Selection, Ways, World, Memory as no_memory}
+use Rattle.wcplan_command.specs.declared.fault.ProgramFault.{ProgramFault}
+use Rattle.wcplan_command.specs.declared.fault.ProgramFault.TheVariants.{CannotMake, CannotWrite, NoWorld, Output, Resolve, Selection, Ways, World, Memory as no_memory}
 use Rattle.wcplan_command.specs.Usage.{fault_line}
 use Rattle.wc_gc.specs.declared.fault.GcFault.TheVariants.{Memory as gc_memory}
 use Rattle.wc_ways.specs.WaysFaults.{IsWaysFault}
@@ -41,7 +41,7 @@ use Rattle.wc_world.specs.declared.fault.WorldFault.{WorldFault}
 use Rattle.wc_world.specs.declared.fault.WorldFault.TheVariants.{Memory as world_memory}
 
 -- the component's world of a command, with plain options
-pub record IsMadeFor (c : CommandValue) (before : Option Held) (w : ComponentWorldView) : Type 0 where
+pub record IsMadeFor (c : CommandView) (before : Option Held) (w : ComponentWorldView) : Type 0 where
   pub encoder : EncoderView
   pub encodes : IsEncoderOf c before encoder
   pub world : IsWorldOf plain_options encoder w
@@ -73,7 +73,7 @@ abbrev pub AnswersStop : NoCommand → (Printing → Type 0) → (Printing → T
 AnswersStop Memory out err status = EndsWithoutMemory out err status
 AnswersStop Help out err status = StopEnds help out err status
 AnswersStop Version out err status = StopEnds version out err status
-AnswersStop (Wrong w) out err status = StopEnds (wrong (wrong_value w)) out err status ⊎ EndsWithoutMemory out err status
+AnswersStop (Wrong w) out err status = StopEnds (wrong (wrong_view w)) out err status ⊎ EndsWithoutMemory out err status
 
 -- the fault of the program for one of the component's world
 abbrev pub IsOfWorld : EncoderView → WorldFault → ProgramFault → Type 0
@@ -101,7 +101,7 @@ abbrev pub IsOfRefused : ResolveView → Refusal → ProgramFault → Type 0
 IsOfRefused r refusal g = IsOfFault r refusal.fault refusal.place g
 
 -- the worlds in a text, which are well-formed, and the one that a command means
-abbrev pub AreWorldsOf : CommandValue → Option Json → ResolveView → ℕ → Type 0
+abbrev pub AreWorldsOf : CommandView → Option Json → ResolveView → ℕ → Type 0
 AreWorldsOf c read r world = (d : DocumentView) × IsDocumentOf read d × IsMeant d c.world world × IsResolve d.parts × (r ≡ d.parts)
 
 -- why a document has no world that a command means
@@ -123,7 +123,7 @@ IsUnselected d name (UnknownWorld n) g = IsUnknownWorld d (Some name) g
 IsUnselected d name f g = g ≡ of_selection (of_request f)
 
 -- why a command has no worlds in a text
-abbrev pub IsWorldsCause : CommandValue → List ℕ → ProgramFault → Type 0
+abbrev pub IsWorldsCause : CommandView → List ℕ → ProgramFault → Type 0
 IsWorldsCause c text no_memory = Unit {0}
 IsWorldsCause c text (Selection f) = (d : DocumentView) × IsDocumentOf (document text) d × IsSelectionCause d c.world f
 IsWorldsCause c text (NoWorld name listing) = (d : DocumentView) × IsDocumentOf (document text) d × IsNotMeant d c.world name listing

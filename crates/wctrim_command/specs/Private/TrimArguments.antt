@@ -2,7 +2,7 @@
 use Rattle.std.specs.Prelude.{◌≡◌, ℕ, Bool, false, not, ◌||◌, cond, List, [], ◌∷◌, codes, Option, Some, None}
 use Rattle.std.specs.Option.{option_map}
 use Rattle.std.specs.Str.{bytes_eq}
-use Rattle.wctrim_command.specs.Command.{CommandValue, trim}
+use Rattle.wctrim_command.specs.Command.{CommandView, trim}
 
 -- the name after `--realloc`, and the arguments that are left
 abbrev pub realloc_parts : List (List ℕ) → Option (List ℕ) × List (List ℕ)
@@ -47,5 +47,5 @@ abbrev pub trim_parts : List (List ℕ) → Option TrimParts
 trim_parts arguments = parts_after (realloc_parts arguments).0 (page_parts (realloc_parts arguments).1)
 
 -- the command is a trim between these files with these parts
-abbrev pub IsTrimOf : List ℕ → List ℕ → Option TrimParts → CommandValue → Type 0
+abbrev pub IsTrimOf : List ℕ → List ℕ → Option TrimParts → CommandView → Type 0
 IsTrimOf source target parts c = (realloc : Option (List ℕ)) × (page_size_log2 : ℕ) × (exports : List (List ℕ)) × (parts ≡ Some (realloc, page_size_log2, exports)) × (c ≡ trim source target realloc page_size_log2 exports)

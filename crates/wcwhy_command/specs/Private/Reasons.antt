@@ -4,10 +4,10 @@ use Rattle.std.specs.Io.KnownBytes.{Appends}
 use Rattle.wc_maps.specs.Names.{first_occurrences}
 use Rattle.wc_read.specs.Modules.{ModuleValue, module_value}
 use Rattle.wc_read.specs.Names.{GlobalNameValue, name_entries}
-use Rattle.wc_gc.specs.Liveness.{names_of, trim_input}
+use Rattle.wc_gc.specs.LiveItems.{names_of, trim_input}
 use Rattle.wc_gc.specs.LiveChains.{AreImportChains, AreWhyImports}
-use Rattle.wcwhy_command.specs.Arguments.{CommandValue, PatternValue}
-use Rattle.wcwhy_command.specs.Graph.{IsGraph, IsImportNode, IsPlaceIn}
+use Rattle.wcwhy_command.specs.Arguments.{CommandView, PatternView}
+use Rattle.wcwhy_command.specs.Graph.{IsGraph, IsImportNode, IsNodeIn}
 use Rattle.wcwhy_command.specs.Joined.{AreJoined}
 use Rattle.wcwhy_command.specs.Lines.{AreLines, IsLineText}
 use Rattle.wcwhy_command.specs.Program.{HasNoCause, IsReasonsText}
@@ -28,35 +28,35 @@ abbrev pub AreReasons : Reasons → Type 0
 AreReasons r = AreImportChains (required_in r) (adapter_in r) r.chains.now
 
 -- the exports that a command requires were searched from in the adapter with these bytes
-pub record IsSearched (c : CommandValue) (bytes : List ℕ) (f : Found) : Type 0 where
+pub record IsSearched (c : CommandView) (bytes : List ℕ) (f : Found) : Type 0 where
   pub required : names_of f.required.now.keys ≡ first_occurrences c.exports
   pub chains : AreWhyImports (trim_input bytes f.required.now.keys) f.chains.now
   pub no_cause : HasNoCause c bytes
 
 -- what is printed of the adapter, and parts of it
 
-abbrev pub AreLinesOf : Reasons → List PatternValue → List ℕ → Type 0
+abbrev pub AreLinesOf : Reasons → List PatternView → List ℕ → Type 0
 AreLinesOf r patterns text = AreLines (required_in r) (adapter_in r) (names_in r) patterns text
 
-abbrev pub IsLineOf : Reasons → List PatternValue → ℕ → List ℕ → Type 0
+abbrev pub IsLineOf : Reasons → List PatternView → ℕ → List ℕ → Type 0
 IsLineOf r patterns position text = IsLineText (required_in r) (adapter_in r) (names_in r) patterns position text
 
-abbrev pub IsGraphOf : Reasons → List PatternValue → List ℕ → Type 0
+abbrev pub IsGraphOf : Reasons → List PatternView → List ℕ → Type 0
 IsGraphOf r patterns text = IsGraph (required_in r) (adapter_in r) (names_in r) patterns text
 
 abbrev pub IsItemOf : Reasons → List Bool → ℕ → List ℕ → Type 0
-IsItemOf r marks place text = IsPlaceIn r.chains.now (names_in r) marks place text
+IsItemOf r marks index text = IsNodeIn r.chains.now (names_in r) marks index text
 
 abbrev pub AreItemsOf : Reasons → List Bool → List ℕ → Type 0
 AreItemsOf r marks text = AreJoined (length r.chains.now.order.items) (IsItemOf r marks) text
 
-abbrev pub IsNodeOf : Reasons → List PatternValue → ℕ → List ℕ → Type 0
+abbrev pub IsNodeOf : Reasons → List PatternView → ℕ → List ℕ → Type 0
 IsNodeOf r patterns position text = IsImportNode r.chains.now (adapter_in r).imports patterns position text
 
-abbrev pub AreNodesOf : Reasons → List PatternValue → List ℕ → Type 0
+abbrev pub AreNodesOf : Reasons → List PatternView → List ℕ → Type 0
 AreNodesOf r patterns text = AreJoined (length (adapter_in r).imports) (IsNodeOf r patterns) text
 
-abbrev pub IsTextOfReasons : Reasons → Bool → List PatternValue → List ℕ → Type 0
+abbrev pub IsTextOfReasons : Reasons → Bool → List PatternView → List ℕ → Type 0
 IsTextOfReasons r dot patterns text = IsReasonsText dot (required_in r) (adapter_in r) (names_in r) patterns text
 
 -- a text that is as `Is` says was put

@@ -1,4 +1,4 @@
-use Rattle.wc_gc.specs.Liveness.{IsFault, names_of, trim_input_for_names}
+use Rattle.wc_gc.specs.LiveItems.{IsFault, names_of, trim_input_for_names}
 use Rattle.wc_calls.specs.ExportNames.{texts}
 use Rattle.wc_calls.specs.ImportChains.{IsWhyText}
 use Rattle.wc_calls.proofs.MissingLemmas.{live_position}

@@ -1,4 +1,3 @@
-use Rattle.std.specs.Prelude.{◌++◌, IfOk}
 use Rattle.wc_uses.specs.PlanViews.{plan_view}
 use Rattle.wc_world.specs.WorldViews.{world_view}
 use Rattle.wc_calls.proofs.PlannedWorldLemmas.{memory_of, plan_fault_of, planned_text}

@@ -1,5 +1,5 @@
 use Rattle.std.proofs.Common.{sym, subst}
-use Rattle.wc_gc.specs.Liveness.{trim_input}
+use Rattle.wc_gc.specs.LiveItems.{trim_input}
 use Rattle.wc_calls.specs.Places.{IsTrimPlaceText}
 use Rattle.wc_calls.proofs.trimming.answer_trim_fault.Goals as goal
 

@@ -1,6 +1,6 @@
 use Rattle.std.proofs.Common.{None}
-use Rattle.wc_gc.specs.Liveness.{trim_input}
-use Rattle.wc_gc.specs.TrimPlaces.{IsExplained}
+use Rattle.wc_gc.specs.LiveItems.{trim_input}
+use Rattle.wc_gc.specs.TrimPlace.{IsExplained}
 use Rattle.wc_record.specs.Places.{trim_place_json}
 use Rattle.wc_calls.specs.Places.{place_text}
 use Rattle.wc_calls.proofs.PlaceLemmas.{placed}

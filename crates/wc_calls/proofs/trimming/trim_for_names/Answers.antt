@@ -1,6 +1,6 @@
-use Rattle.wc_gc.specs.Liveness.{names_of, trim_input_for_names}
+use Rattle.wc_gc.specs.LiveItems.{names_of, trim_input_for_names}
 use Rattle.wc_gc.specs.Parts.{settings}
-use Rattle.wc_gc.specs.Trimming.{IsTrimFault}
+use Rattle.wc_gc.specs.Trim.{IsTrimFault}
 use Rattle.wc_gc.specs.TrimmedText.{IsTrimmed}
 use Rattle.wc_calls.specs.ExportNames.{texts}
 use Rattle.wc_calls.proofs.ExportNameLemmas.{some_texts}

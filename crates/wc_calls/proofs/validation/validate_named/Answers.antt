@@ -1,5 +1,5 @@
 use Rattle.std.proofs.Common.{Some, inl, subst, ◌≡◌}
-use Rattle.wc_validate.specs.Validated.{module_record}
+use Rattle.wc_validate.specs.Validate.{module_record}
 use Rattle.wc_calls.specs.Answers.{bad_argument, done, failed}
 use Rattle.wc_calls.specs.FaultAnswers.{IsFaultAnswered}
 use Rattle.wc_calls.specs.Private.ModuleAnswers.{IsModuleFault, IsModulePlaceFor}

@@ -1,6 +1,6 @@
 use Rattle.std.proofs.Common.{None, Some, ap, inr, sym, ◌∙◌}
 use Rattle.std.specs.Option.{option_copied}
-use Rattle.wc_validate.specs.Validated.{module_record}
+use Rattle.wc_validate.specs.Validate.{module_record}
 use Rattle.wc_world.proofs.PlaceLemmas.{adapter_found}
 use Rattle.wc_calls.proofs.validation.validate_under.Goals as goal
 

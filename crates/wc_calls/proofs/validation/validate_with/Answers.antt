@@ -1,4 +1,4 @@
-use Rattle.wc_validate.specs.Validated.{module_record}
+use Rattle.wc_validate.specs.Validate.{module_record}
 use Rattle.wc_calls.proofs.ModuleLemmas.{module_refused, module_valid}
 use Rattle.wc_calls.proofs.validation.validate_with.Goals as goal
 

@@ -1,7 +1,7 @@
 use Rattle.std.proofs.Common.{ℕ, List, ◌++◌, ◌∙◌, ap}
-use Rattle.wc_write.specs.BodyText.{body_text}
+use Rattle.wc_write.specs.Bodies.{body_text}
 use Rattle.wc_gc.specs.AddedCode.{stack_body}
-use Rattle.wc_gc.specs.AddedCodeRuns.{IsStackCode}
+use Rattle.wc_gc.specs.MachineLaws.{IsStackCode}
 use Rattle.wc_gc.proofs.AddedCodeLemmas.{spells_only}
 use Rattle.wc_gc.proofs.added_code.allocate_stack_via_realloc.Goals as goal
 

@@ -1,7 +1,7 @@
 use Rattle.std.proofs.Common.{ℕ, List, ◌++◌, ◌∙◌, ap}
-use Rattle.wc_write.specs.BodyText.{body_text}
+use Rattle.wc_write.specs.Bodies.{body_text}
 use Rattle.wc_gc.specs.AddedCode.{growing_body}
-use Rattle.wc_gc.specs.AddedCodeRuns.{IsGrowingRealloc}
+use Rattle.wc_gc.specs.MachineLaws.{IsGrowingRealloc}
 use Rattle.wc_gc.proofs.AddedCodeLemmas.{spells_only}
 use Rattle.wc_gc.proofs.added_code.realloc_via_memory_grow.Goals as goal
 

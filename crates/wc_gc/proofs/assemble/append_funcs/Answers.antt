@@ -1,5 +1,5 @@
 use Rattle.std.proofs.Common.{length}
-use Rattle.wc_gc.specs.Private.Edits.{IsCodedAt}
+use Rattle.wc_gc.specs.Private.Edit.{IsCodedAt}
 use Rattle.wc_gc.proofs.NumbersBelowLemmas.{all_below}
 use Rattle.wc_gc.proofs.assemble.append_funcs.Goals as goal
 

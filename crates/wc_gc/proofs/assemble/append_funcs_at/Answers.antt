@@ -1,7 +1,7 @@
 use Rattle.std.proofs.Common.{◌∙◌, ap, sym, ◌++◌, ◌∷◌, [], map, take, get_or, append_assoc}
 use Rattle.std.specs.List.{enumerate_from, filter_map, slice_get}
 use Rattle.wc_gc.specs.Bits.{bit_of}
-use Rattle.wc_gc.specs.Private.Edits.{edited_at, written_funcs}
+use Rattle.wc_gc.specs.Private.Edit.{edited_at, written_funcs}
 use Rattle.wc_gc.proofs.ImageLemmas.{picked_more}
 use Rattle.wc_gc.proofs.assemble.append_funcs_at.Goals as goal
 

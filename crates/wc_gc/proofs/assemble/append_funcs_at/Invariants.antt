@@ -1,6 +1,6 @@
 use Rattle.std.proofs.Common.{◌≡◌, ◌++◌, take}
 use Rattle.wc_gc.specs.Bits.{bit_of}
-use Rattle.wc_gc.specs.Private.Edits.{funcs_at, written_funcs}
+use Rattle.wc_gc.specs.Private.Edit.{funcs_at, written_funcs}
 use Rattle.wc_gc.proofs.assemble.append_funcs_at.Given as goal
 
 abbrev pub invariant-loop-index : goal.invariant-loop-index

@@ -4,8 +4,8 @@ use Rattle.std.proofs.lemmas.List.{with_items_is}
 use Rattle.wc_read.specs.Items.{table_value}
 use Rattle.wc_read.specs.Exports.{export_value}
 use Rattle.wc_gc.specs.Private.FuncGroups.{is_in_group}
-use Rattle.wc_gc.specs.LiveSets.{has_item}
-use Rattle.wc_gc.specs.Private.Edits.{settings_of}
+use Rattle.wc_gc.specs.Live.{has_item}
+use Rattle.wc_gc.specs.Private.Edit.{settings_of}
 use Rattle.wc_gc.proofs.EditedImageLemmas.{edited_image_is, group_coded}
 use Rattle.wc_gc.proofs.assemble.image.Goals as goal
 

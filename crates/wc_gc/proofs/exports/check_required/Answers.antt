@@ -2,7 +2,7 @@ use Rattle.std.proofs.Common.{◌≡◌, List, length, map, sym, ◌∙◌, ap, 
 use Rattle.std.specs.Prelude.{IfErr, string_bytes}
 use Rattle.std.proofs.lemmas.List.{length-map}
 use Rattle.wc_read.specs.Exports.{ExportValue, export_value}
-use Rattle.wc_gc.specs.KeptExports.{AreNamed, IsMissingFault, export_entries, missing_name}
+use Rattle.wc_gc.specs.Exports.{AreNamed, IsMissingFault, export_entries, missing_name}
 use Rattle.wc_gc.proofs.AllMetLemmas.{none_missing}
 use Rattle.wc_gc.proofs.ExportLemmas.{named_by_name, entries_by_name}
 use Rattle.wc_gc.proofs.exports.check_required.Goals as goal

@@ -1,5 +1,5 @@
 use Rattle.std.proofs.Common.{◌≡◌, map, take}
-use Rattle.wc_gc.specs.KeptExports.{by_name}
+use Rattle.wc_gc.specs.Exports.{by_name}
 use Rattle.wc_gc.proofs.exports.exports_by_name.Given as goal
 
 abbrev pub invariant-loop-export : goal.invariant-loop-export

@@ -1,6 +1,6 @@
 use Rattle.std.proofs.Common.{◌≡◌, List, ℕ, subst, sym, ◌∙◌, refl, false, true}
 use Rattle.std.specs.Prelude.{string_bytes}
-use Rattle.wc_gc.specs.KeptExports.{export_entries, is_exported}
+use Rattle.wc_gc.specs.Exports.{export_entries, is_exported}
 use Rattle.wc_gc.proofs.ExportLemmas.{found_is, next_missing, next_present}
 use Rattle.wc_gc.proofs.exports.missing_name.Goals as goal
 

@@ -3,7 +3,7 @@ use Rattle.std.proofs.lemmas.List.{get_or_default}
 use Rattle.wc_gc.specs.Bits.{bit_of}
 use Rattle.wc_gc.specs.Decoded.{ItemIndex, decoded_module}
 use Rattle.wc_gc.specs.Entries.{refs_in}
-use Rattle.wc_gc.specs.Private.Searches.{finds}
+use Rattle.wc_gc.specs.Private.Search.{finds}
 use Rattle.wc_gc.proofs.ReachLemmas.{all_there, bad_at, falls_by, reached_in_range, step_at}
 use Rattle.wc_gc.proofs.ItemCountLemmas.{bounded_found, total}
 use Rattle.wc_gc.proofs.FilledLemmas.{resized}

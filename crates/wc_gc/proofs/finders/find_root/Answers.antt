@@ -1,8 +1,8 @@
 use Rattle.std.proofs.Common.{◌≡◌, sym, ◌∙◌, subst, refl, [], ◌∷◌, true, false, inl, inr}
 use Rattle.std.proofs.lemmas.Bool.{not-true, not-false}
 use Rattle.wc_gc.specs.Bits.{bit_of}
-use Rattle.wc_gc.specs.LiveSets.{has_item}
-use Rattle.wc_gc.specs.Private.Searches.{HasGrown}
+use Rattle.wc_gc.specs.Live.{has_item}
+use Rattle.wc_gc.specs.Private.Search.{HasGrown}
 use Rattle.wc_gc.proofs.SearchLemmas.{grown_old, grown_push, items_decided}
 use Rattle.wc_gc.proofs.finders.find_root.Goals as goal
 

@@ -1,12 +1,12 @@
 use Rattle.std.proofs.Common.{◌≡◌, ◌∷◌, ◌++◌, [], map, sym, ◌∙◌, ap, subst, rules, append_assoc, append-nil}
 use Rattle.std.specs.Prelude.{string_bytes}
 use Rattle.wc_gc.specs.Bits.{bit_of}
-use Rattle.wc_gc.specs.KeptExports.{export_entries}
+use Rattle.wc_gc.specs.Exports.{export_entries}
 use Rattle.wc_gc.specs.LiveChains.{items_named}
-use Rattle.wc_gc.specs.Private.Explained.{HasFound}
+use Rattle.wc_gc.specs.Private.TrimPlace.{HasFound}
 use Rattle.wc_gc.specs.Private.Roots.{AreNamedRoots}
-use Rattle.wc_gc.specs.Private.Searches.{finds}
-use Rattle.wc_gc.proofs.ExplainLemmas.{no_roots}
+use Rattle.wc_gc.specs.Private.Search.{finds}
+use Rattle.wc_gc.proofs.TrimPlaceLemmas.{no_roots}
 use Rattle.wc_gc.proofs.RootLemmas.{AreBegun, begun, name_done}
 use Rattle.wc_gc.proofs.finders.find_roots.Goals as goal
 

@@ -1,6 +1,6 @@
 use Rattle.std.proofs.Common.{◌≡◌, ◌++◌, ℕ, List, map}
 use Rattle.std.specs.Prelude.{string_bytes}
-use Rattle.wc_gc.specs.KeptExports.{export_entries}
+use Rattle.wc_gc.specs.Exports.{export_entries}
 use Rattle.wc_gc.proofs.RootLemmas.{AreBegun}
 use Rattle.wc_gc.proofs.finders.find_roots.Given as goal
 

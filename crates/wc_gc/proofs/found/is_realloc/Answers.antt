@@ -1,7 +1,7 @@
 use Rattle.std.proofs.Common.{sym, ◌∙◌, refl}
 use Rattle.std.proofs.lemmas.Option.{slice_get_read}
 use Rattle.wc_read.specs.Items.{def_value}
-use Rattle.wc_read.specs.Decoding.{body_in}
+use Rattle.wc_read.specs.BodyOperators.{body_in}
 use Rattle.wc_gc.proofs.FoundLemmas.{test_func, realloc_seen}
 use Rattle.wc_gc.proofs.ReachLemmas.{no_item}
 use Rattle.wc_gc.proofs.found.is_realloc.Goals as goal

@@ -5,13 +5,13 @@ use Rattle.std.proofs.Math.Bool.{or-false}
 use Rattle.std.proofs.lemmas.List.{take_more}
 use Rattle.std.proofs.lemmas.List.Folds.{list_any-append}
 use Rattle.wc_gc.specs.Private.FuncGroups.{has_func, is_in_group}
-use Rattle.wc_gc.specs.Parts.{settings_value}
+use Rattle.wc_gc.specs.Parts.{settings_view}
 use Rattle.wc_gc.proofs.NumbersBelowLemmas.{group_more}
 use Rattle.wc_gc.proofs.func_groups.group.Goals as goal
 
 pub loop-index-preserved : goal.loop-index-preserved
 loop-index-preserved g c =
-    let test = has_func (is_in_group (settings_value c.args.settings) c.args.imported) c.args.funcs.now in
+    let test = has_func (is_in_group (settings_view c.args.settings) c.args.imported) c.args.funcs.now in
     let i = c.loop-index.index-index in
     let x = get_or c.args.indices.now c.loop-index.index-index 0 in
     λ n.

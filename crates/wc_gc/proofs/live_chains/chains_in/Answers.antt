@@ -4,8 +4,8 @@ use Rattle.wc_read.specs.declared.operators.Space.TheVariants.{Types}
 use Rattle.wc_gc.specs.Bits.{bit_of}
 use Rattle.wc_gc.specs.Decoded.{decoded_module}
 use Rattle.wc_gc.specs.Entries.{refs_in}
-use Rattle.wc_gc.specs.Liveness.{names_of}
-use Rattle.wc_gc.specs.Private.Searches.{finds}
+use Rattle.wc_gc.specs.LiveItems.{names_of}
+use Rattle.wc_gc.specs.Private.Search.{finds}
 use Rattle.wc_gc.proofs.LiveChainLemmas.{chains_are, live_in_range, names_bounded, reach_fault, roots_in, same_positions}
 use Rattle.wc_gc.proofs.ShortestLemmas.{finders}
 use Rattle.wc_gc.proofs.live_chains.chains_in.Goals as goal

@@ -1,4 +1,4 @@
-use Rattle.wc_gc.specs.Edited.{edit}
+use Rattle.wc_gc.specs.Edit.{edit}
 use Rattle.wc_gc.proofs.live_chains.kept_is_live.Goals as goal
 
 pub returns : goal.returns

@@ -3,10 +3,10 @@ use Rattle.std.proofs.lemmas.Bool.{false≢true}
 use Rattle.std.proofs.lemmas.Result.{err_from_is_err_and}
 use Rattle.wc_read.specs.Exports.{ExportValue, export_value}
 use Rattle.wc_read.specs.Modules.{module_value}
-use Rattle.wc_gc.specs.KeptExports.{AreNamed, export_entries, missing_name}
+use Rattle.wc_gc.specs.Exports.{AreNamed, export_entries, missing_name}
 use Rattle.wc_gc.specs.LiveChains.{items_named}
-use Rattle.wc_gc.specs.Liveness.{names_of}
-use Rattle.wc_gc.specs.Private.Explained.{HasFound}
+use Rattle.wc_gc.specs.LiveItems.{names_of}
+use Rattle.wc_gc.specs.Private.TrimPlace.{HasFound}
 use Rattle.wc_gc.specs.Private.Roots.{AreNamedRoots}
 use Rattle.wc_gc.proofs.ExportLemmas.{named_by_name, entries_by_name}
 use Rattle.wc_gc.proofs.LivenessLemmas.{missing_fault}

@@ -4,8 +4,8 @@ use Rattle.wc_read.specs.Exports.{export_value}
 use Rattle.wc_read.specs.Modules.{module_value}
 use Rattle.wc_gc.specs.Decoded.{exported_item}
 use Rattle.wc_gc.specs.Bits.{bit_of}
-use Rattle.wc_gc.specs.LiveSets.{has_item}
-use Rattle.wc_gc.specs.Liveness.{names_of}
+use Rattle.wc_gc.specs.Live.{has_item}
+use Rattle.wc_gc.specs.LiveItems.{names_of}
 use Rattle.wc_gc.proofs.LivenessLemmas.{roots_there, roots_seen, liveness_is, live_fault, same_live}
 use Rattle.wc_gc.proofs.live_items.find_live_in.Goals as goal
 

@@ -1,6 +1,6 @@
 use Rattle.std.proofs.lemmas.Result.{err_from_is_err_and}
 use Rattle.wc_read.specs.Modules.{module_value}
-use Rattle.wc_gc.specs.Liveness.{trim_input}
+use Rattle.wc_gc.specs.LiveItems.{trim_input}
 use Rattle.wc_gc.proofs.LivenessLemmas.{read_fault, fault_of, no_cause_of}
 use Rattle.wc_gc.proofs.live_items.liveness_counted.Goals as goal
 

@@ -3,8 +3,8 @@ use Rattle.std.proofs.lemmas.Bool.{false≢true}
 use Rattle.std.proofs.lemmas.Result.{err_from_is_err_and}
 use Rattle.wc_read.specs.Exports.{ExportValue, export_value}
 use Rattle.wc_read.specs.Modules.{module_value}
-use Rattle.wc_gc.specs.KeptExports.{missing_name}
-use Rattle.wc_gc.specs.Liveness.{names_of}
+use Rattle.wc_gc.specs.Exports.{missing_name}
+use Rattle.wc_gc.specs.LiveItems.{names_of}
 use Rattle.wc_gc.proofs.LivenessLemmas.{missing_fault}
 use Rattle.wc_gc.proofs.live_items.supported_exports.Goals as goal
 

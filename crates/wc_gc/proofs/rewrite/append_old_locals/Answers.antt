@@ -1,6 +1,6 @@
 use Rattle.std.proofs.Common.{sym, ◌∙◌, ap, ◌++◌}
-use Rattle.wc_read.specs.Decoding.{locals_read}
-use Rattle.wc_write.specs.BodyText.{locals_text}
+use Rattle.wc_read.specs.BodyOperators.{locals_read}
+use Rattle.wc_write.specs.Bodies.{locals_text}
 use Rattle.wc_write.specs.Text.{vector_text}
 use Rattle.wc_gc.specs.NewIndices.{new_of}
 use Rattle.wc_gc.proofs.RewriteLemmas.{same_locals}

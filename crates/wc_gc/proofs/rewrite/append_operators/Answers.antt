@@ -1,7 +1,7 @@
 use Rattle.std.proofs.Common.{[], ◌∷◌, Some, refl}
 use Rattle.std.specs.Option.{option_map}
 use Rattle.wc_read.specs.Operators.{instr_value}
-use Rattle.wc_read.specs.Decoding.{operators_left}
+use Rattle.wc_read.specs.BodyOperators.{operators_left}
 use Rattle.wc_gc.specs.NewIndices.{new_of}
 use Rattle.wc_gc.proofs.RewriteLemmas.{first_memory, write_passed, write_more, write_end}
 use Rattle.wc_gc.proofs.rewrite.append_operators.Goals as goal

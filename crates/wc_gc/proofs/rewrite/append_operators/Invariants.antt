@@ -1,4 +1,4 @@
-use Rattle.wc_read.specs.Decoding.{bytes_left, operators_left}
+use Rattle.wc_read.specs.BodyOperators.{bytes_left, operators_left}
 use Rattle.wc_gc.specs.NewIndices.{new_of}
 use Rattle.wc_gc.proofs.RewriteLemmas.{IsWritten}
 use Rattle.wc_gc.proofs.rewrite.append_operators.Given as goal

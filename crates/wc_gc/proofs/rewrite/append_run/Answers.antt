@@ -1,5 +1,5 @@
 use Rattle.std.proofs.Common.{true}
-use Rattle.wc_read.specs.Decoding.{operators_left}
+use Rattle.wc_read.specs.BodyOperators.{operators_left}
 use Rattle.wc_gc.proofs.RewriteLemmas.{next_is_written}
 use Rattle.wc_gc.proofs.rewrite.append_run.Goals as goal
 

@@ -1,6 +1,6 @@
 use Rattle.std.specs.Option.{option_map}
 use Rattle.wc_read.specs.Operators.{instr_value}
-use Rattle.wc_read.specs.Decoding.{next_and_left, operators_left}
+use Rattle.wc_read.specs.BodyOperators.{next_and_left, operators_left}
 use Rattle.wc_gc.proofs.RewriteLemmas.{next_found}
 use Rattle.wc_gc.proofs.rewrite.next_after_run.Goals as goal
 

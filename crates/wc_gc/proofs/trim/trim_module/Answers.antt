@@ -2,9 +2,9 @@ use Rattle.std.proofs.Common.{map, ap, ◌∙◌}
 use Rattle.std.proofs.lemmas.Result.{err_from_is_err_and}
 use Rattle.wc_read.specs.Exports.{export_value}
 use Rattle.wc_read.specs.Modules.{module_value}
-use Rattle.wc_gc.specs.LiveSets.{has_item}
-use Rattle.wc_gc.specs.Parts.{settings_value}
-use Rattle.wc_gc.specs.Liveness.{names_of, trim_input}
+use Rattle.wc_gc.specs.Live.{has_item}
+use Rattle.wc_gc.specs.Parts.{settings_view}
+use Rattle.wc_gc.specs.LiveItems.{names_of, trim_input}
 use Rattle.wc_gc.proofs.LivenessLemmas.{fault_of}
 use Rattle.wc_gc.proofs.TrimLemmas.{fault_trims, live_in_range}
 use Rattle.wc_gc.proofs.TrimmedLemmas.{trimmed_of, later_of}
@@ -15,7 +15,7 @@ returns-in_err-exports-clause-fault g c =
     let p = err_from_is_err_and c.from_residual.result c.from_residual.ensures.1 in
     rw (p.1, p.2) (λ bytes spelled.
     let w = trim_input bytes c.args.required.now.keys in
-    fault_trims (settings_value c.args.settings) w _ (fault_of w (module_value c.args.adapter.now) spelled _ c.in_err-exports.ensures.fault))
+    fault_trims (settings_view c.args.settings) w _ (fault_of w (module_value c.args.adapter.now) spelled _ c.in_err-exports.ensures.fault))
 
 pub image_text-requires-clause-in_range : goal.image_text-requires-clause-in_range
 image_text-requires-clause-in_range g c =
@@ -24,11 +24,11 @@ image_text-requires-clause-in_range g c =
 pub returns-clause-trimmed : goal.returns-clause-trimmed
 returns-clause-trimmed g c =
     let same = ap (map export_value) c.deref.ensures.value ∙ c.in_ok-exports.ensures.kept in
-    trimmed_of (settings_value c.args.settings) c.args.adapter.now (names_of c.args.required.now.keys) (has_item g.L.LiveSet.has c.in_ok-exports.found.live) c.in_ok-exports.found.turns c.in_ok-exports.ensures.live (λ v. v.items) c.image_text.result
+    trimmed_of (settings_view c.args.settings) c.args.adapter.now (names_of c.args.required.now.keys) (has_item g.L.LiveSet.has c.in_ok-exports.found.live) c.in_ok-exports.found.turns c.in_ok-exports.ensures.live (λ v. v.items) c.image_text.result
     c.settings_are_valid.ensures (rw same at c.image_text.ensures.written) (rw same at c.image_text.ensures.none)
 
 pub returns-clause-fault : goal.returns-clause-fault
 returns-clause-fault g c =
     let same = ap (map export_value) c.deref.ensures.value ∙ c.in_ok-exports.ensures.kept in
-    later_of (settings_value c.args.settings) c.args.adapter.now (names_of c.args.required.now.keys) (has_item g.L.LiveSet.has c.in_ok-exports.found.live) c.in_ok-exports.found.turns c.in_ok-exports.ensures.live c.image_text.result
+    later_of (settings_view c.args.settings) c.args.adapter.now (names_of c.args.required.now.keys) (has_item g.L.LiveSet.has c.in_ok-exports.found.live) c.in_ok-exports.found.turns c.in_ok-exports.ensures.live c.image_text.result
     (rw same at c.image_text.ensures.fault)

@@ -2,9 +2,9 @@ use Rattle.std.proofs.Common.{map, ap, ◌∙◌, refl, sym}
 use Rattle.wc_read.specs.Exports.{export_value}
 use Rattle.wc_read.specs.Modules.{module_value}
 use Rattle.wc_gc.specs.Decoded.{exported_item}
-use Rattle.wc_gc.specs.Liveness.{names_of}
+use Rattle.wc_gc.specs.LiveItems.{names_of}
 use Rattle.wc_gc.proofs.LivenessLemmas.{roots_there, roots_seen}
-use Rattle.wc_gc.proofs.ExplainLemmas.{live_body_place, no_first, no_live_body, none_unsupported}
+use Rattle.wc_gc.proofs.TrimPlaceLemmas.{live_body_place, no_first, no_live_body, none_unsupported}
 use Rattle.wc_gc.proofs.trim_place.body_place.Goals as goal
 
 pub refused_function-requires : goal.refused_function-requires

@@ -1,7 +1,7 @@
 use Rattle.std.proofs.lemmas.Result.{IfOk-weaker}
 use Rattle.wc_read.specs.Modules.{module_value}
-use Rattle.wc_gc.specs.Liveness.{trim_input}
-use Rattle.wc_gc.proofs.ExplainLemmas.{explained, not_explained}
+use Rattle.wc_gc.specs.LiveItems.{trim_input}
+use Rattle.wc_gc.proofs.TrimPlaceLemmas.{explained, not_explained}
 use Rattle.wc_gc.proofs.trim_place.explain.Goals as goal
 
 pub returns-in-Ok : goal.returns-in-Ok

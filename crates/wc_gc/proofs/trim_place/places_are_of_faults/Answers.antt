@@ -1,4 +1,4 @@
-use Rattle.wc_gc.proofs.ExplainLemmas.{place_of_fault}
+use Rattle.wc_gc.proofs.TrimPlaceLemmas.{place_of_fault}
 use Rattle.wc_gc.proofs.TrimLemmas.{fault_trims}
 use Rattle.wc_gc.proofs.trim_place.places_are_of_faults.Goals as goal
 

@@ -4,7 +4,7 @@ use Rattle.semver.specs.Identifiers.{parts_of}
 use Rattle.semver.specs.Parse.{version_parts, memory_error}
 use Rattle.semver.proofs.Grammar.{version_parts-sound, version_parts-complete}
 use Rattle.semver.specs.contracts.error.ErrorPartialEq.TheImpl.{eq-value}
-use Rattle.wc_resolve.specs.Queries.{VersionView}
+use Rattle.wc_resolve.specs.Resolve.{VersionView}
 use Rattle.wc_names.specs.Interfaces.{IsVersionText}
 use Rattle.wc_names.proofs.interfaces.version_of.Goals as goal
 

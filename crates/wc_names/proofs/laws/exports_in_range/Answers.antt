@@ -1,7 +1,7 @@
 use Rattle.std.proofs.Common.{◌≡◌, Some, sym, subst}
 use Rattle.std.specs.Prelude.{slice_get}
 use Rattle.wc_resolve.specs.WellFormed.{IsWellFormed}
-use Rattle.wc_resolve.specs.World.{ResolveView}
+use Rattle.wc_resolve.specs.Kinds.{ResolveView}
 use Rattle.wc_names.specs.Laws.{IsExportIn}
 use Rattle.wc_names.proofs.ExportRangeLemmas.{classified_export_in}
 use Rattle.wc_names.proofs.laws.exports_in_range.Goals as goal

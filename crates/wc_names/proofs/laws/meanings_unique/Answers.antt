@@ -1,6 +1,6 @@
 use Rattle.std.proofs.Common.{sym, subst}
 use Rattle.wc_resolve.specs.WellFormed.{HaveDistinctNames}
-use Rattle.wc_resolve.specs.World.{ResolveView}
+use Rattle.wc_resolve.specs.Kinds.{ResolveView}
 use Rattle.wc_names.proofs.KindLemmas.{classified_unique}
 use Rattle.wc_names.proofs.laws.meanings_unique.Goals as goal
 

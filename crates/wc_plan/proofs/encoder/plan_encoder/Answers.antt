@@ -1,6 +1,6 @@
 use Rattle.wc_world.specs.WorldViews.{world_view}
-use Rattle.wc_plan.specs.EncoderFaults.{ForWorlds, IsEncoderFault, IsFaultWith, IsLowered}
-use Rattle.wc_plan.specs.Progress.{IsPlanFault}
+use Rattle.wc_plan.specs.Encoder.{ForWorlds, IsEncoderFault, IsFaultWith, IsLowered}
+use Rattle.wc_plan.specs.Planner.{IsPlanFault}
 use Rattle.wc_plan.proofs.EncoderLemmas.{each_fault, plan_fault, plan_fault_with, planned, planned_each, world_fault, world_fault_with}
 use Rattle.wc_plan.proofs.LoweredLemmas.{fault_is_lowered}
 use Rattle.wc_world.proofs.FaultLemmas.{passed_on}

@@ -4,7 +4,7 @@ use Rattle.std.proofs.lemmas.List.Elements.{All-head, All-rest}
 use Rattle.wc_world.specs.Views.{NamedWorldAdapter}
 use Rattle.wc_world.specs.WorldViews.{adapter_entry}
 use Rattle.wc_plan.specs.Calls.{Wanted, wanted_by}
-use Rattle.wc_plan.specs.Progress.{AreModuleNameable, IsPlanFault, IsPlanned, world_in}
+use Rattle.wc_plan.specs.Planner.{AreModuleNameable, IsPlanFault, IsPlanned, world_in}
 use Rattle.wc_uses.specs.Views.{adapter_owner}
 use Rattle.wc_plan.proofs.ProgressLemmas.{flat_here}
 use Rattle.wc_world.proofs.FaultLemmas.{passed_on}

@@ -1,5 +1,5 @@
 use Rattle.std.proofs.Common.{◌∙◌}
-use Rattle.wc_plan.specs.Progress.{IsPlanFault, owner_in, wanted_call, world_in}
+use Rattle.wc_plan.specs.Planner.{IsPlanFault, owner_in, wanted_call, world_in}
 use Rattle.wc_plan.proofs.ProgressLemmas.{planned_fault, planned_new, planned_seen}
 use Rattle.wc_world.proofs.FaultLemmas.{passed_on}
 use Rattle.wc_plan.proofs.planner.add_call.Goals as goal

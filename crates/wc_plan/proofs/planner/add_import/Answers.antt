@@ -1,9 +1,9 @@
 use Rattle.std.proofs.Common.{subst}
 use Rattle.std.specs.List.{cons_option}
 use Rattle.wc_names.specs.Views.{import_view}
-use Rattle.wc_plan.specs.Progress.{IsPlanned, world_in}
+use Rattle.wc_plan.specs.Planner.{IsPlanned, world_in}
 use Rattle.wc_plan.proofs.ProgressLemmas.{import_wanted}
-use Rattle.wc_plan.specs.Progress.{owner_in}
+use Rattle.wc_plan.specs.Planner.{owner_in}
 use Rattle.wc_plan.proofs.planner.add_import.Goals as goal
 
 pub returns-in-Some-clause-fault : goal.returns-in-Some-clause-fault

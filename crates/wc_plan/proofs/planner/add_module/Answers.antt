@@ -6,7 +6,7 @@ use Rattle.wc_validate.specs.Imports.Map.{imports_in}
 use Rattle.wc_validate.specs.Imports.Iter.{imports_left}
 use Rattle.wc_world.specs.Slots.{imports_of}
 use Rattle.wc_plan.specs.Calls.{IsNameable, Wanted}
-use Rattle.wc_plan.specs.Progress.{IsPlanFault, IsPlanned, world_in}
+use Rattle.wc_plan.specs.Planner.{IsPlanFault, IsPlanned, world_in}
 use Rattle.wc_plan.proofs.ProgressLemmas.{walk_here, wanted_of}
 use Rattle.wc_world.proofs.FaultLemmas.{passed_on}
 use Rattle.wc_plan.proofs.planner.add_module.Goals as goal

@@ -1,5 +1,5 @@
 use Rattle.std.proofs.Common.{◌∙◌, sym}
-use Rattle.wc_validate.specs.Validated.{module_record}
+use Rattle.wc_validate.specs.Validate.{module_record}
 use Rattle.wc_plan.proofs.MemoryLemmas.{memory_else}
 use Rattle.wc_plan.proofs.planner.has_memory.Goals as goal
 

@@ -1,7 +1,7 @@
 use Rattle.std.proofs.Common.{map}
 use Rattle.wc_world.specs.WorldViews.{world_view}
 use Rattle.wc_uses.specs.PlanViews.{use_view}
-use Rattle.wc_plan.specs.Progress.{IsPlanFault, seen_view}
+use Rattle.wc_plan.specs.Planner.{IsPlanFault, seen_view}
 use Rattle.wc_plan.proofs.ProgressLemmas.{planned_start, progress_end}
 use Rattle.wc_world.proofs.FaultLemmas.{passed_on}
 use Rattle.wc_plan.proofs.planner.plan.Goals as goal

@@ -1,5 +1,5 @@
 use Rattle.std.proofs.lemmas.Result.{err_from_is_err_and}
-use Rattle.wc_read.specs.Reading.Operators.{instr_at}
+use Rattle.wc_read.specs.Reading.Instructions.{instr_at}
 use Rattle.wc_read.specs.Operators.{SpellsInstr}
 use Rattle.wc_read.proofs.OperatorsLemmas.{instr_meets, instr_some}
 use Rattle.wc_read.proofs.ToEndLemmas.{to_end, after_more, after_fails, after_shorter}

@@ -1,6 +1,6 @@
 use Rattle.std.proofs.lemmas.List.{map-append}
 use Rattle.std.proofs.lemmas.Result.{err_from_is_err_and}
-use Rattle.wc_read.specs.Reading.Sections.{section_at}
+use Rattle.wc_read.specs.Reading.Framing.{section_at}
 use Rattle.wc_read.specs.Sections.{SpellsSection}
 use Rattle.wc_read.proofs.SectionsLemmas.{section_meets, section_some}
 use Rattle.wc_read.proofs.ToEndLemmas.{to_end, to_more, to_fails, to_shorter}

@@ -1,5 +1,5 @@
 use Rattle.wc_read.specs.Operators.{SpellsImmediates}
-use Rattle.wc_read.specs.Reading.Operators.{immediates_at}
+use Rattle.wc_read.specs.Reading.Instructions.{immediates_at}
 use Rattle.wc_read.proofs.FormatLemmas.{prefix_free}
 use Rattle.wc_read.proofs.OperatorsLemmas.{immediates_meet}
 use Rattle.wc_read.proofs.laws.immediates_prefix_free.Goals as goal

@@ -1,5 +1,5 @@
 use Rattle.wc_read.specs.Imports.{SpellsImports}
-use Rattle.wc_read.specs.Reading.Bytes.{vector_at}
+use Rattle.wc_read.specs.Reading.Reader.{vector_at}
 use Rattle.wc_read.specs.Reading.Imports.{import_at}
 use Rattle.wc_read.proofs.MeetsLemmas.{one_value}
 use Rattle.wc_read.proofs.ImportsLemmas.{imports_meet}

@@ -1,5 +1,5 @@
 use Rattle.wc_read.specs.Operators.{SpellsMemArg}
-use Rattle.wc_read.specs.Reading.Operators.{mem_arg_at}
+use Rattle.wc_read.specs.Reading.Instructions.{mem_arg_at}
 use Rattle.wc_read.proofs.FormatLemmas.{prefix_free}
 use Rattle.wc_read.proofs.OperatorsLemmas.{mem_arg_meets}
 use Rattle.wc_read.proofs.laws.memory_argument_prefix_free.Goals as goal

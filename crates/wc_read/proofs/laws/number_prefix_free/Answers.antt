@@ -1,5 +1,5 @@
 use Rattle.wc_read.specs.Formats.{SpellsNumber}
-use Rattle.wc_read.specs.Reading.Bytes.{number_at}
+use Rattle.wc_read.specs.Reading.Reader.{number_at}
 use Rattle.wc_read.proofs.MeetsLemmas.{one_spelling, number_meets}
 use Rattle.wc_read.proofs.laws.number_prefix_free.Goals as goal
 

@@ -1,5 +1,5 @@
 use Rattle.wc_read.specs.Formats.{SpellsNumber}
-use Rattle.wc_read.specs.Reading.Bytes.{number_at}
+use Rattle.wc_read.specs.Reading.Reader.{number_at}
 use Rattle.wc_read.proofs.MeetsLemmas.{one_value, number_meets}
 use Rattle.wc_read.proofs.laws.numbers_unique.Goals as goal
 

@@ -1,5 +1,5 @@
 use Rattle.wc_read.specs.Operators.{SpellsInstr}
-use Rattle.wc_read.specs.Reading.Operators.{instr_at}
+use Rattle.wc_read.specs.Reading.Instructions.{instr_at}
 use Rattle.wc_read.proofs.MeetsLemmas.{one_spelling}
 use Rattle.wc_read.proofs.OperatorsLemmas.{instr_meets}
 use Rattle.wc_read.proofs.laws.operator_prefix_free.Goals as goal

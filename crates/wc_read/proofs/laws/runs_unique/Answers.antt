@@ -1,7 +1,7 @@
 use Rattle.wc_read.specs.Operators.{SpellsInstr}
-use Rattle.wc_read.specs.Reading.Operators.{instr_at}
+use Rattle.wc_read.specs.Reading.Instructions.{instr_at}
 use Rattle.wc_read.specs.Sections.{SpellsSection}
-use Rattle.wc_read.specs.Reading.Sections.{section_at}
+use Rattle.wc_read.specs.Reading.Framing.{section_at}
 use Rattle.wc_read.proofs.OperatorsLemmas.{instr_meets, instr_some}
 use Rattle.wc_read.proofs.SectionsLemmas.{section_meets, section_some}
 use Rattle.wc_read.proofs.ToEndLemmas.{items_unique}

@@ -1,5 +1,5 @@
 use Rattle.wc_read.specs.Sections.{SpellsSection}
-use Rattle.wc_read.specs.Reading.Sections.{section_at}
+use Rattle.wc_read.specs.Reading.Framing.{section_at}
 use Rattle.wc_read.proofs.MeetsLemmas.{one_spelling}
 use Rattle.wc_read.proofs.SectionsLemmas.{section_meets}
 use Rattle.wc_read.proofs.laws.section_prefix_free.Goals as goal

@@ -1,6 +1,6 @@
 use Rattle.wc_read.specs.Types.{SpellsValType}
 use Rattle.wc_read.specs.Reading.Types.{val_type_at}
-use Rattle.wc_read.specs.Reading.Bytes.{number_at}
+use Rattle.wc_read.specs.Reading.Reader.{number_at}
 use Rattle.wc_read.specs.Reading.Imports.{import_at}
 use Rattle.wc_read.specs.Reading.Limits.{table_at, memory_at}
 use Rattle.wc_read.proofs.TypesLemmas.{val_type_meets}

@@ -4,7 +4,7 @@ use Rattle.std.proofs.lemmas.List.{drop_all, drop_more}
 use Rattle.wc_resolve.specs.Dependencies.{interface_ids}
 use Rattle.wc_resolve.specs.declared.ids.InterfaceId.{InterfaceId}
 use Rattle.wc_world.specs.Used.{used_view}
-use Rattle.wc_record.specs.Private.UsedInterfaces.{used_interface_view}
+use Rattle.wc_record.specs.Private.Used.{used_interface_view}
 use Rattle.wc_record.specs.Worlds.{UsedInterface, used_interface}
 use Rattle.wc_record.proofs.UsedLemmas.{gathered_end, gathered_next, given_one}
 use Rattle.wc_record.proofs.used.used_among.Goals as goal

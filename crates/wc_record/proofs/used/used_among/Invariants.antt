@@ -2,7 +2,7 @@ use Rattle.std.proofs.Common.{drop, map}
 use Rattle.std.specs.List.{filter_map}
 use Rattle.wc_resolve.specs.Dependencies.{interface_ids}
 use Rattle.wc_world.specs.Used.{used_view}
-use Rattle.wc_record.specs.Private.UsedInterfaces.{used_interface_view}
+use Rattle.wc_record.specs.Private.Used.{used_interface_view}
 use Rattle.wc_record.specs.Worlds.{used_interface}
 use Rattle.wc_record.proofs.UsedLemmas.{IsGathered}
 use Rattle.wc_record.proofs.used.used_among.Given as goal

@@ -2,7 +2,7 @@ use Rattle.std.proofs.Common.{◌≡◌, ◌↔◌, ◌∙◌, ◌∷◌, ◌++�
 use Rattle.semver.specs.Identifiers.{parts_of}
 use Rattle.wc_resolve.specs.Characters.{at_sign, colon, slash}
 use Rattle.wc_resolve.specs.Names.{track}
-use Rattle.wc_resolve.specs.Queries.{joined_id, member_text}
+use Rattle.wc_resolve.specs.Resolve.{joined_id, member_text}
 use Rattle.wc_resolve.specs.Views.{package_name_view}
 use Rattle.wc_resolve.proofs.CanonicalIdLemmas.{is_after_front, member_begins, refused, text_front, two_separators_front, version_front, versioned_member}
 use Rattle.wc_resolve.proofs.canonical_ids.is_canonical_member_id.Goals as goal

@@ -2,7 +2,7 @@ use Rattle.std.proofs.Common.{◌≡◌, ◌<◌, length, map, get_or, refl, sym
 use Rattle.std.proofs.lemmas.List.{length-map}
 use Rattle.std.proofs.lemmas.List.Elements.{Contains-get_or}
 use Rattle.wc_resolve.specs.Views.{type_view}
-use Rattle.wc_resolve.specs.World.{kind_at}
+use Rattle.wc_resolve.specs.Kinds.{kind_at}
 use Rattle.wc_resolve.specs.Contents.{text_flag, text_rule}
 use Rattle.wc_resolve.proofs.ContentLemmas.{texts_start, texts_step, texts_end}
 use Rattle.wc_resolve.proofs.contents.find_texts.Goals as goal

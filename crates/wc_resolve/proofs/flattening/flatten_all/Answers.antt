@@ -5,7 +5,7 @@ use Rattle.std.proofs.lemmas.List.Elements.{Contains-get_or}
 use Rattle.wc_resolve.specs.declared.flat.WasmType.{WasmType}
 use Rattle.wc_resolve.specs.Flat.{flat_entry, flat_rule, flat_types_kept, lists}
 use Rattle.wc_resolve.specs.Views.{type_view}
-use Rattle.wc_resolve.specs.World.{kind_at}
+use Rattle.wc_resolve.specs.Kinds.{kind_at}
 use Rattle.wc_resolve.proofs.FlatTableLemmas.{FlatsOf, flats_start, flats_step, flats_end, lists-set}
 use Rattle.wc_resolve.proofs.flattening.flatten_all.Goals as goal
 

@@ -1,7 +1,7 @@
 use Rattle.std.proofs.Common.{◌≡◌, subst}
 use Rattle.std.specs.Prelude.{IfOk}
 use Rattle.wc_resolve.specs.Flat.{flat_entry, lists}
-use Rattle.wc_resolve.specs.Signatures.{SignatureView, signature_view}
+use Rattle.wc_resolve.specs.Signature.{SignatureView, signature_view}
 use Rattle.wc_resolve.proofs.CoreSignatureLemmas.{core_made}
 use Rattle.wc_resolve.proofs.signature.signature_of.Goals as goal
 

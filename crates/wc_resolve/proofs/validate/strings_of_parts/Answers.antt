@@ -2,7 +2,7 @@ use Rattle.std.proofs.Common.{List, false, map, sym, subst}
 use Rattle.std.specs.Prelude.{IfOk}
 use Rattle.wc_resolve.specs.declared.types.TypeDef.{TypeDef}
 use Rattle.wc_resolve.specs.Contents.{AreTextFlags}
-use Rattle.wc_resolve.specs.Tables.{IsOrder}
+use Rattle.wc_resolve.specs.Validate.{IsOrder}
 use Rattle.wc_resolve.specs.Views.{type_view}
 use Rattle.wc_resolve.proofs.validate.strings_of_parts.Goals as goal
 

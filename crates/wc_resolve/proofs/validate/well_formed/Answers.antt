@@ -1,6 +1,6 @@
 use Rattle.std.proofs.lemmas.Result.{err_from_is_err_and}
 use Rattle.wc_resolve.specs.ResolveParts.{parts_view}
-use Rattle.wc_resolve.proofs.PlaceLemmas.{filled_iff, free_iff, in_range_iff, match_iff, named_iff, spelled_iff}
+use Rattle.wc_resolve.proofs.ExplainLemmas.{filled_iff, free_iff, in_range_iff, match_iff, named_iff, spelled_iff}
 use Rattle.wc_resolve.proofs.RefusalLemmas.{by_value_refused, empty_refused, keys_refused, order_refused, range_refused, repeat_refused, spelling_refused, unnamed_refused}
 use Rattle.wc_resolve.proofs.ResolveLemmas.{no_cycle}
 use Rattle.wc_resolve.proofs.validate.well_formed.Goals as goal

@@ -1,6 +1,6 @@
 use Rattle.std.proofs.Common.{ap, ◌∙◌, map}
 use Rattle.std.specs.List.{filter_map}
-use Rattle.wc_resolve.specs.World.{type_index}
+use Rattle.wc_resolve.specs.Kinds.{type_index}
 use Rattle.wc_resolve.specs.Roots.{id_index}
 use Rattle.wc_resolve.proofs.ListingLemmas.{ids_indices}
 use Rattle.wc_resolve.proofs.walk.referenced_ids.Goals as goal

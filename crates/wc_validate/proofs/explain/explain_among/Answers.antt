@@ -1,8 +1,8 @@
 use Rattle.std.proofs.Common.{◌∙◌, subst, sym}
-use Rattle.wc_validate.specs.Private.Explained.{IsStopIn}
+use Rattle.wc_validate.specs.Private.Explain.{IsStopIn}
 use Rattle.wc_validate.specs.Private.ValidationInputs.{validation_input_of}
-use Rattle.wc_validate.specs.Validated.{library_of}
-use Rattle.wc_validate.proofs.PlaceLemmas.{import_explained, imports_recorded}
+use Rattle.wc_validate.specs.Validate.{library_of}
+use Rattle.wc_validate.proofs.ExplainLemmas.{import_explained, imports_recorded}
 use Rattle.wc_validate.proofs.explain.explain_among.Goals as goal
 
 pub import_place-requires-clause-refused : goal.import_place-requires-clause-refused

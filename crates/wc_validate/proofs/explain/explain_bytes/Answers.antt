@@ -1,7 +1,7 @@
 use Rattle.std.proofs.Common.{inl}
 use Rattle.wc_read.specs.Modules.{module_value}
 use Rattle.wc_validate.specs.Private.ValidationInputs.{validation_input_of}
-use Rattle.wc_validate.proofs.PlaceLemmas.{explained}
+use Rattle.wc_validate.proofs.ExplainLemmas.{explained}
 use Rattle.wc_validate.proofs.ValidateLemmas.{typed_imports}
 use Rattle.wc_validate.proofs.explain.explain_bytes.Goals as goal
 

@@ -1,8 +1,8 @@
 use Rattle.std.proofs.Common.{◌∙◌, subst, sym}
-use Rattle.wc_validate.specs.Private.Explained.{IsExportStopIn}
+use Rattle.wc_validate.specs.Private.Explain.{IsExportStopIn}
 use Rattle.wc_validate.specs.Private.ValidationInputs.{validation_input_of}
 use Rattle.wc_validate.proofs.MissingLemmas.{missing_explained}
-use Rattle.wc_validate.proofs.PlaceLemmas.{export_explained}
+use Rattle.wc_validate.proofs.ExplainLemmas.{export_explained}
 use Rattle.wc_validate.proofs.explain.explain_exports.Goals as goal
 
 pub returns-in-Some : goal.returns-in-Some

@@ -1,4 +1,4 @@
-use Rattle.wc_validate.specs.NameScopes.{name_scope_of}
+use Rattle.wc_validate.specs.NameScope.{name_scope_of}
 use Rattle.wc_validate.proofs.MissingLemmas.{missing_from, world_keys}
 use Rattle.wc_validate.proofs.ValidateLemmas.{world_items}
 use Rattle.wc_validate.proofs.explain.explain_missing.Goals as goal

@@ -1,7 +1,7 @@
 use Rattle.std.proofs.Common.{◌∙◌, ap, sym}
 use Rattle.wc_names.specs.ExportIndex.{ExportNamesView}
-use Rattle.wc_names.specs.Schemes.{legacy, standard}
-use Rattle.wc_validate.specs.NameScopes.{name_scope_of}
+use Rattle.wc_names.specs.Mangling.{legacy, standard}
+use Rattle.wc_validate.specs.NameScope.{name_scope_of}
 use Rattle.wc_validate.proofs.ValidateLemmas.{names_by, world_of_name_scope}
 use Rattle.wc_validate.proofs.validate.export_context.Goals as goal
 

@@ -1,6 +1,6 @@
 use Rattle.wc_read.specs.Modules.{module_value}
 use Rattle.wc_validate.specs.Private.ValidationInputs.{HasRefusedExports}
-use Rattle.wc_validate.specs.NameScopes.{name_scope_of}
+use Rattle.wc_validate.specs.NameScope.{name_scope_of}
 use Rattle.wc_validate.proofs.RecorderLemmas.{passed}
 use Rattle.wc_validate.proofs.ValidateLemmas.{exports_cause, exports_record, missing_cause, world_items}
 use Rattle.wc_validate.proofs.validate.exports_by.Goals as goal

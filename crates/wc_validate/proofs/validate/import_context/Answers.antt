@@ -1,4 +1,4 @@
-use Rattle.wc_validate.specs.NameScopes.{name_scope_of}
+use Rattle.wc_validate.specs.NameScope.{name_scope_of}
 use Rattle.wc_validate.proofs.validate.import_context.Goals as goal
 
 pub returns-clause-interfaces : goal.returns-clause-interfaces

@@ -2,7 +2,7 @@ use Rattle.wc_read.specs.Imports.{import_values}
 use Rattle.wc_validate.specs.Private.Imports.Contexts.{import_scope}
 use Rattle.wc_validate.proofs.RecorderLemmas.{passed}
 use Rattle.wc_validate.proofs.ValidateLemmas.{cause_is, record_is, recorded_memory}
-use Rattle.wc_validate.specs.Validated.{IsCauseOfImports, library_of}
+use Rattle.wc_validate.specs.Validate.{IsCauseOfImports, library_of}
 use Rattle.wc_validate.specs.Private.ValidationInputs.{validation_input_of}
 use Rattle.wc_read.specs.Modules.{module_value}
 use Rattle.wc_validate.proofs.validate.imports_among.Goals as goal

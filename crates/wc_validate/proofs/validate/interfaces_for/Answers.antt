@@ -1,4 +1,4 @@
-use Rattle.wc_validate.specs.NameScopes.{name_scope_of}
+use Rattle.wc_validate.specs.NameScope.{name_scope_of}
 use Rattle.wc_validate.proofs.WorldInterfaceLemmas.{interfaces_are}
 use Rattle.wc_validate.proofs.validate.interfaces_for.Goals as goal
 

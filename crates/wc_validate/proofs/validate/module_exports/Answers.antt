@@ -1,6 +1,6 @@
 use Rattle.wc_read.specs.Modules.{module_value}
 use Rattle.wc_validate.proofs.RecorderLemmas.{passed}
-use Rattle.wc_validate.specs.Validated.{IsCauseOfExports}
+use Rattle.wc_validate.specs.Validate.{IsCauseOfExports}
 use Rattle.wc_validate.specs.Private.ValidationInputs.{validation_input_of}
 use Rattle.wc_validate.proofs.validate.module_exports.Goals as goal
 

@@ -2,7 +2,7 @@ use Rattle.std.proofs.Common.{subst}
 use Rattle.wc_read.specs.Modules.{module_value}
 use Rattle.wc_validate.specs.Private.ValidationInputs.{validation_input_of}
 use Rattle.wc_validate.specs.Private.WorldInterfaces.{AreInterfacesThere}
-use Rattle.wc_validate.specs.Validated.{IsCauseOfImports}
+use Rattle.wc_validate.specs.Validate.{IsCauseOfImports}
 use Rattle.wc_validate.proofs.RecorderLemmas.{passed}
 use Rattle.wc_validate.proofs.validate.module_imports.Goals as goal
 

@@ -1,6 +1,6 @@
 use Rattle.std.proofs.Common.{refl}
 use Rattle.wc_read.specs.Modules.{module_value}
-use Rattle.wc_validate.specs.Validated.{IsValidateCause}
+use Rattle.wc_validate.specs.Validate.{IsValidateCause}
 use Rattle.wc_validate.proofs.ExclusionLemmas.{answered}
 use Rattle.wc_validate.proofs.RecorderLemmas.{passed}
 use Rattle.wc_validate.proofs.ValidateLemmas.{cause_of, read_cause, record_of, typed_imports}

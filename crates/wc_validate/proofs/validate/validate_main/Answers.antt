@@ -1,6 +1,6 @@
 use Rattle.std.proofs.Common.{OnOk, subst}
 use Rattle.wc_validate.proofs.WorldInterfaceLemmas.{none_there}
-use Rattle.wc_validate.specs.Validated.{HasNoCause}
+use Rattle.wc_validate.specs.Validate.{HasNoCause}
 use Rattle.wc_validate.proofs.validate.validate_main.Goals as goal
 
 pub returns-clause-no_cause : goal.returns-clause-no_cause

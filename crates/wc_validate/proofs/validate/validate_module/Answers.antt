@@ -1,6 +1,6 @@
 use Rattle.std.proofs.Common.{OnOk, option_copied, subst}
 use Rattle.wc_validate.specs.Private.ValidationInputs.{main_input_requiring}
-use Rattle.wc_validate.specs.Validated.{HasNoCause}
+use Rattle.wc_validate.specs.Validate.{HasNoCause}
 use Rattle.wc_validate.proofs.validate.validate_module.Goals as goal
 
 pub returns-clause-no_cause : goal.returns-clause-no_cause

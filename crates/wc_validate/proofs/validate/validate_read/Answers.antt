@@ -1,6 +1,6 @@
 use Rattle.std.proofs.Common.{inl, inr}
 use Rattle.wc_read.specs.Modules.{module_value}
-use Rattle.wc_validate.specs.Validated.{IsModuleCause}
+use Rattle.wc_validate.specs.Validate.{IsModuleCause}
 use Rattle.wc_validate.proofs.RecorderLemmas.{passed}
 use Rattle.wc_validate.specs.Private.ValidationInputs.{validation_input_of}
 use Rattle.wc_validate.proofs.validate.validate_read.Goals as goal

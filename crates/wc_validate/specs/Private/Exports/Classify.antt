@@ -10,12 +10,12 @@ use Rattle.wc_names.specs.Exports.{ExportKind, ExportMeaning, IsExportKind, call
 use Rattle.wc_names.specs.ExportViews.{export_view}
 use Rattle.wc_names.specs.First.{FirstOf}
 use Rattle.wc_names.specs.Imports.{ExternType, NameScope, func_type, memory_type, table_type}
-use Rattle.wc_names.specs.Schemes.{Scheme}
+use Rattle.wc_names.specs.Mangling.{Scheme}
 use Rattle.wc_validate.specs.declared.name_fault.NameFault.{NameFault}
 use Rattle.wc_read.specs.declared.types.MemoryType.{MemoryType}
 use Rattle.wc_read.specs.declared.types.TableType.{TableType}
 use Rattle.wc_validate.specs.Classifications.{IsExportClassification}
-use Rattle.wc_validate.specs.Faults.{fault_kind}
+use Rattle.wc_validate.specs.Fault.{fault_kind}
 
 -- what is answered of the name of an export of a type, by what the name means
 abbrev pub IsExportClassified : (ExportMeaning → Type 0) → ExternType → Result (Option Export) NameFault → Type 0

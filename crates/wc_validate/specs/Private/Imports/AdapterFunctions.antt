@@ -7,7 +7,7 @@ use Rattle.wc_read.specs.Types.{FuncTypeValue, func_type_value}
 use Rattle.wc_names.specs.declared.imports.Import.{Import}
 use Rattle.wc_names.specs.Views.{ImportView, import_view}
 use Rattle.wc_validate.specs.Private.Imports.Arguments.{IsIndexOf}
-use Rattle.wc_validate.specs.Imports.FirstFunctions.{placed_function, function_at, placed_functions}
+use Rattle.wc_validate.specs.Imports.FirstFunctions.{positioned_function, function_at, positioned_functions}
 use Rattle.wc_resolve.specs.Views.{named_view}
 use Rattle.wc_validate.specs.Imports.Map.{first_of_names, function_of, required_entry}
 use Rattle.wc_validate.specs.Imports.Instances.{import_entry}
@@ -33,7 +33,7 @@ AreFirstPositions positions passed = HasFirsts (map named_view positions) passed
 
 -- the function of an adapter that an import at a position is, if it is one
 abbrev pub position_of : ℕ → Import → List (List ℕ × ℕ)
-position_of n i = cons_option (placed_function n ([], import_view i)) []
+position_of n i = cons_option (positioned_function n ([], import_view i)) []
 
 -- a function was added with its type, or the one that an import is, or positions, after others
 abbrev pub IsFunctionAdded : {T F : Type 0} → List (String Global × FuncType) → List (String Global × FuncType) → List ℕ → FuncType → Result T F → Type 0
@@ -53,4 +53,4 @@ abbrev pub required_at : List (String Global × Import) → List (String Global 
 required_at names positions = first_of_names (filter_map (λ (e : String Global × ℕ). function_at (map import_entry names) e.1) positions)
 
 abbrev pub first_positions : List (String Global × Import) → List (List ℕ × ℕ)
-first_positions names = first_of_names (placed_functions 0 (map import_entry names))
+first_positions names = first_of_names (positioned_functions 0 (map import_entry names))

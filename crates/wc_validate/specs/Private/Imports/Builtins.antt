@@ -5,13 +5,13 @@ use Rattle.wc_read.specs.Types.{FuncTypeValue, func_type_value}
 use Rattle.wc_names.specs.AsyncValues.{operation_row}
 use Rattle.wc_names.specs.Builtins.{NamesBuiltin, IsThreadBuiltin, builtin_import, builtin_type}
 use Rattle.wc_names.specs.Meanings.{Meaning, means}
-use Rattle.wc_names.specs.Schemes.{Scheme}
+use Rattle.wc_names.specs.Mangling.{Scheme}
 use Rattle.wc_names.specs.Views.{Builtin, error_context_new, error_context_debug_message, context_get, context_set, thread_index, thread_new_indirect, thread_resume_later, thread_suspend, thread_yield, thread_suspend_then_resume, thread_yield_then_resume, thread_suspend_then_promote, thread_yield_then_promote, ImportView, builtin, async_value, import_view}
 use Rattle.wc_read.specs.declared.types.FuncType.{FuncType}
 use Rattle.wc_names.specs.declared.imports.Import.{Import}
 use Rattle.wc_validate.specs.Classifications.{IsTypeChecked, wrong_signature}
 use Rattle.wc_validate.specs.declared.name_fault.NameFault.{NameFault}
-use Rattle.wc_validate.specs.Faults.{fault_kind}
+use Rattle.wc_validate.specs.Fault.{fault_kind}
 
 -- the name is one of some built-ins
 abbrev pub MeansBuiltin : (Builtin → Type 0) → Scheme → List ℕ → Meaning → Type 0

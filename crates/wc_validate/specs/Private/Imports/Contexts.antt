@@ -20,7 +20,7 @@ use Rattle.wc_validate.specs.Imports.Entries.{Entry}
 use Rattle.wc_validate.specs.Imports.Record.{ImportScope, IsCoreImport, IsEntry, AreEntries, IsFaultOfImport, IsImportFault}
 use Rattle.wc_validate.specs.Private.Imports.Recorder.{IsRecordedAfter, IsRecorderOf}
 use Rattle.wc_validate.specs.Imports.Classify.{IsClassified}
-use Rattle.wc_validate.specs.NameScopes.{name_scope_of}
+use Rattle.wc_validate.specs.NameScope.{name_scope_of}
 
 -- what imports are recorded by in a context, for a module that is this library
 abbrev pub import_scope : ImportContext → Option LibraryView → ImportScope

@@ -3,10 +3,10 @@ use Rattle.std.specs.Prelude.{ℕ, List, Option, Result, ◌∷◌, [], Err}
 use Rattle.wc_read.specs.declared.types.FuncType.{FuncType}
 use Rattle.wc_names.specs.declared.imports.Import.{Import}
 use Rattle.wc_names.specs.Imports.{CoreImport, Kind, NameScope, root_other_item, root_unknown}
-use Rattle.wc_names.specs.Schemes.{Scheme}
+use Rattle.wc_names.specs.Mangling.{Scheme}
 use Rattle.wc_validate.specs.declared.name_fault.NameFault.{NameFault}
 use Rattle.wc_validate.specs.declared.imports.items.ImportedFunction.{ImportedFunction}
-use Rattle.wc_validate.specs.Faults.{IsFunctionClassified}
+use Rattle.wc_validate.specs.Fault.{IsFunctionClassified}
 use Rattle.wc_validate.specs.Private.Imports.Kinds.{MeansAmong, MeansByScheme, MeansInExport, MeansInImport, MeansInRoot, IsRootKind, MeansEnvironment}
 use Rattle.wc_validate.specs.Imports.Classify.{IsSomeFunctionClassification, core_function}
 

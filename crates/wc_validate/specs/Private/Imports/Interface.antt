@@ -3,10 +3,10 @@ use Rattle.std.specs.Prelude.{ℕ, List, map, Option, Result}
 use Rattle.wc_resolve.specs.Views.{key_view, world_entry}
 use Rattle.wc_adapters.specs.Entries.{Entries}
 use Rattle.wc_names.specs.Interfaces.{FoundInterface, InterfaceTexts, NamesInterface}
-use Rattle.wc_names.specs.Schemes.{Scheme}
+use Rattle.wc_names.specs.Mangling.{Scheme}
 use Rattle.wc_validate.specs.declared.imports.interface.FoundInterface.{FoundInterface as CodeInterface}
 use Rattle.wc_validate.specs.declared.imports.interface.InterfaceLookup.{InterfaceLookup}
-use Rattle.wc_validate.specs.NameScopes.{IsIndexFor, name_scope_of}
+use Rattle.wc_validate.specs.NameScope.{IsIndexFor, name_scope_of}
 use Rattle.wc_names.specs.Finds.{Finds}
 use Rattle.wc_names.specs.declared.imports.Import.{Import}
 use Rattle.wc_validate.specs.declared.imports.items.ImportedFunction.{ImportedFunction}

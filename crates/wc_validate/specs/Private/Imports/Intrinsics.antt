@@ -1,6 +1,6 @@
 -- What is done with a resource, and what built-ins of interfaces are, as the code has them.
 use Rattle.std.specs.Prelude.{ℕ, Bool, true, false, List, Option, Result}
-use Rattle.wc_names.specs.Schemes.{ResourceOperation, resource_drop, resource_new, resource_rep, Scheme}
+use Rattle.wc_names.specs.Mangling.{ResourceOperation, resource_drop, resource_new, resource_rep, Scheme}
 use Rattle.wc_validate.specs.declared.imports.intrinsics.ResourceOperation.{ResourceOperation as CodeOperation}
 use Rattle.wc_validate.specs.declared.imports.intrinsics.ResourceOperation.TheVariants.{Drop, New, Rep}
 use Rattle.wc_resolve.specs.declared.functions.AbiVariant.{AbiVariant}
@@ -8,7 +8,7 @@ use Rattle.wc_read.specs.declared.types.FuncType.{FuncType}
 use Rattle.wc_resolve.specs.declared.functions.Function.{Function}
 use Rattle.wc_names.specs.declared.imports.Import.{Import}
 use Rattle.wc_names.specs.Views.{ImportView}
-use Rattle.wc_validate.specs.Faults.{IsClassifiedBy}
+use Rattle.wc_validate.specs.Fault.{IsClassifiedBy}
 use Rattle.wc_validate.specs.Private.Imports.Kinds.{IsIntrinsic, MeansIntrinsic, MeansOnResource, function_import, resource_import}
 use Rattle.wc_names.specs.declared.payloads.PayloadLookupContext.{PayloadLookupContext}
 use Rattle.wc_validate.specs.declared.name_fault.NameFault.{NameFault}

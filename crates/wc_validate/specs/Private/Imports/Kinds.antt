@@ -10,12 +10,12 @@ use Rattle.wc_names.specs.Imports.{NameScope, Kind, root_builtin, root_function,
 use Rattle.wc_names.specs.Interfaces.{FoundInterface, NamesInterface}
 use Rattle.wc_names.specs.Keys.{Scope, scope_key}
 use Rattle.wc_names.specs.Meanings.{Meaning, means}
-use Rattle.wc_names.specs.Schemes.{Scheme, ResourceOperation, export_prefix, interface_prefix, root_module}
+use Rattle.wc_names.specs.Mangling.{Scheme, ResourceOperation, export_prefix, interface_prefix, root_module}
 use Rattle.wc_names.specs.declared.payloads.PayloadLookupContext.{PayloadLookupContext}
 use Rattle.wc_names.specs.Views.{ImportView, world_func, interface_func}
 use Rattle.wc_names.specs.WitIntrinsics.{WitIntrinsic, wit_intrinsics, IsWitIntrinsic, resource_row, no_task_return, of_async_value, task_cancel, task_return}
 use Rattle.wc_validate.specs.Private.Imports.Lookups.{LookupScope, function_in, resource_in}
-use Rattle.wc_validate.specs.NameScopes.{imported_function}
+use Rattle.wc_validate.specs.NameScope.{imported_function}
 
 -- the kinds of the root, and those of them that are tried last
 abbrev pub other_root_kinds : List Kind

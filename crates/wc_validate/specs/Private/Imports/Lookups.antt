@@ -1,7 +1,7 @@
 -- What the names of functions, resources and their built-ins are looked up in.
 use Rattle.std.specs.Prelude.{ℕ, List, Bool, Option}
 use Rattle.wc_resolve.specs.Views.{FunctionView, WorldView, world_view, function_view}
-use Rattle.wc_resolve.specs.World.{ResolveView}
+use Rattle.wc_resolve.specs.Kinds.{ResolveView}
 use Rattle.wc_names.specs.Contexts.{context_scope}
 use Rattle.wc_names.specs.Imports.{NameScope}
 use Rattle.wc_names.specs.Keys.{Scope, function_named, resource_named, type_named}

@@ -1,14 +1,14 @@
 use Rattle.std.proofs.Common.{◌∙◌, All, ap, arith, map, rules, string_bytes, subst, sym}
 use Rattle.std.proofs.lemmas.List.{length-map}
 use Rattle.std.proofs.lemmas.List.Elements.{All-head, All-rest}
-use Rattle.wc_validate.proofs.FirstPositionLemmas.{placed_fits, placed_next, placed_start}
+use Rattle.wc_validate.proofs.FirstPositionLemmas.{position_fits, position_next, position_start}
 use Rattle.wc_world.specs.Views.{ComponentWorldView, NamedWorldAdapter}
 use Rattle.wc_world.specs.WorldViews.{adapter_entry, world_view}
 use Rattle.wc_world.proofs.FaultLemmas.{passed_on}
-use Rattle.wc_plan.specs.Progress.{AreModuleNameable}
+use Rattle.wc_plan.specs.Planner.{AreModuleNameable}
 use Rattle.wc_plan.proofs.ModuleLemmas.{of_adapters}
 use Rattle.wc_plan.specs.Calls.{IsNameable}
-use Rattle.wc_ways.specs.Private.Walks.{IsFormAt, library_text, saying}
+use Rattle.wc_ways.specs.Private.Adapters.{IsFormAt, library_text, saying}
 use Rattle.wc_ways.specs.Said.{IsSaidOf}
 use Rattle.wc_ways.specs.WaysFaults.{IsWaysFault}
 use Rattle.wc_ways.proofs.OriginalLemmas.{fault_of}
@@ -24,7 +24,7 @@ loop-name-init c =
     let is = ap (map adapter_entry) c.into_iter-name-iterator.ensures.into_iter_gives in
     let all = ap (map adapter_entry) c.iter-name-items.ensures.rest in
     record {
-      said = placed_start (HasSaid {X = NamedWorldAdapter} (IsFormAt c.args.form w c.args.key.now)) w.adapters (map adapter_entry c.iter-name-items.result) (map adapter_entry c.into_iter-name-iterator.result) _ _
+      said = position_start (HasSaid {X = NamedWorldAdapter} (IsFormAt c.args.form w c.args.key.now)) w.adapters (map adapter_entry c.iter-name-items.result) (map adapter_entry c.into_iter-name-iterator.result) _ _
           is all (length-map c.iter-name-items.result adapter_entry ∙ c.iter-name-items.ensures.len) c.iter-name-items.ensures.fits
           (none_said NamedWorldAdapter (IsFormAt c.args.form w c.args.key.now) _ (search rules));
       nameable = subst (All (IsNamed w)) (sym (is ∙ all)) (of_adapters (IsNameable w.encoder.resolve) w c.requires);
@@ -33,7 +33,7 @@ loop-name-init c =
 pub overflow_add-index : goal.overflow_add-index
 overflow_add-index c =
     let w = world_view c.args.world.now in
-    let bound = placed_fits (HasSaid {X = NamedWorldAdapter} (IsFormAt c.args.form w c.args.key.now)) w.adapters (map adapter_entry c.loop-name.name-iterator) (string_bytes c.loop-name.text) c.loop-name.index c.loop-name.invariant.said in
+    let bound = position_fits (HasSaid {X = NamedWorldAdapter} (IsFormAt c.args.form w c.args.key.now)) w.adapters (map adapter_entry c.loop-name.name-iterator) (string_bytes c.loop-name.text) c.loop-name.index c.loop-name.invariant.said in
     omega (arith, bound)
 
 pub adapter_said-requires-clause-nameable : goal.adapter_said-requires-clause-nameable
@@ -61,7 +61,7 @@ loop-name-preserved c =
     (λ (y : NamedWorldAdapter). IsSaidOf (saying c.args.form c.args.key.now c.loop-name.index) (library_text c.args.form w c.args.key.now c.loop-name.index) w y (string_bytes c.in_ok-said.said))
     c.in_ok-said.ensures.said in
     record {
-      said = placed_next (HasSaid {X = NamedWorldAdapter} (IsFormAt c.args.form w c.args.key.now)) w.adapters (map adapter_entry c.loop-name.name-iterator) (map adapter_entry c.next.new.self)
+      said = position_next (HasSaid {X = NamedWorldAdapter} (IsFormAt c.args.form w c.args.key.now)) w.adapters (map adapter_entry c.loop-name.name-iterator) (map adapter_entry c.next.new.self)
           x (string_bytes c.loop-name.text) _ c.loop-name.index c.loop-name.invariant.said is
           (λ h at. said_more (IsFormAt c.args.form w c.args.key.now) c.loop-name.invariant.said.passed x c.loop-name.index (string_bytes c.loop-name.text)
           (string_bytes c.in_ok-said.said) _ (search rules) here h at);

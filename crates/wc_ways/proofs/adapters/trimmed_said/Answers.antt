@@ -1,8 +1,8 @@
 use Rattle.std.proofs.Common.{◌∙◌, ap, inr, option_map, rules, string_bytes, subst}
 use Rattle.wc_adapters.specs.Adapters.{adapter_view}
-use Rattle.wc_gc.specs.Liveness.{IsFault}
-use Rattle.wc_validate.specs.Validated.{module_record}
-use Rattle.wc_ways.specs.Private.Walks.{IsSaidFor, saying, world_in}
+use Rattle.wc_gc.specs.LiveItems.{IsFault}
+use Rattle.wc_validate.specs.Validate.{module_record}
+use Rattle.wc_ways.specs.Private.Adapters.{IsSaidFor, saying, world_in}
 use Rattle.wc_ways.specs.WaysFaults.{search_input}
 use Rattle.wc_ways.proofs.OriginalLemmas.{said_missing, said_trimmed}
 use Rattle.wc_ways.proofs.RecordLemmas.{viewed_found}

@@ -1,5 +1,5 @@
 use Rattle.std.proofs.Common.{rules, string_bytes}
-use Rattle.wc_ways.specs.Private.Graphs.{IsImportArrowOf}
+use Rattle.wc_ways.specs.Private.Graph.{IsImportArrowOf}
 use Rattle.wc_ways.proofs.WalkLemmas.{joined_more, joined_none}
 use Rattle.wc_ways.proofs.graph.import_arrows.Goals as goal
 

@@ -1,6 +1,6 @@
 use Rattle.std.proofs.Common.{string_bytes}
 use Rattle.wcwhy_command.specs.Joined.{AreJoined}
-use Rattle.wc_ways.specs.Private.Graphs.{IsImportArrowOf}
+use Rattle.wc_ways.specs.Private.Graph.{IsImportArrowOf}
 use Rattle.wc_ways.proofs.graph.import_arrows.Given as goal
 
 abbrev pub invariant-loop-position : goal.invariant-loop-position

@@ -1,6 +1,6 @@
 use Rattle.std.proofs.Common.{◌≡◌, ◌∙◌, Some, ap, arith, length, rules}
 use Rattle.wc_read.specs.Imports.{import_value}
-use Rattle.wc_ways.specs.Private.Walks.{function_value, original_in, words_of}
+use Rattle.wc_ways.specs.Private.Adapters.{function_value, original_in, words_of}
 use Rattle.wc_ways.proofs.ImportLemmas.{dead_item, in_order, in_positions, position_read, reached_item}
 use Rattle.wc_ways.proofs.lines.item_way.Goals as goal
 
@@ -14,23 +14,23 @@ index-requires c =
 pub reached_way-requires-clause-there : goal.reached_way-requires-clause-there
 reached_way-requires-clause-there c =
     let a = original_in c.args.walk.now in
-    let place = position_read a c.args.position (import_value c.args.import.now) c.requires.there
+    let item_index = position_read a c.args.position (import_value c.args.import.now) c.requires.there
     c.args.walk.now.chains.now c.requires.walk.chains c.index.result.now c.index.ensures in
     in_order a c.args.position (import_value c.args.import.now) c.requires.there
-    c.args.walk.now.chains.now c.requires.walk.chains c.in-Some.place (place ∙ ap Some c.in-Some.is)
+    c.args.walk.now.chains.now c.requires.walk.chains c.in-Some.item_index (item_index ∙ ap Some c.in-Some.is)
 
 pub returns-in-Some : goal.returns-in-Some
 returns-in-Some c =
     let a = original_in c.args.walk.now in
-    let place = position_read a c.args.position (import_value c.args.import.now) c.requires.there
+    let item_index = position_read a c.args.position (import_value c.args.import.now) c.requires.there
     c.args.walk.now.chains.now c.requires.walk.chains c.index.result.now c.index.ensures in
     reached_item a c.args.position (import_value c.args.import.now) c.requires.there
-    c.args.walk.now.chains.now c.requires.walk.chains (words_of c.args.walk.now.form) (function_value c.args.function.now) c.reached_way.result c.in-Some.place (place ∙ ap Some c.in-Some.is) c.reached_way.ensures
+    c.args.walk.now.chains.now c.requires.walk.chains (words_of c.args.walk.now.form) (function_value c.args.function.now) c.reached_way.result c.in-Some.item_index (item_index ∙ ap Some c.in-Some.is) c.reached_way.ensures
 
 pub returns-in-None : goal.returns-in-None
 returns-in-None c =
     let a = original_in c.args.walk.now in
-    let place = position_read a c.args.position (import_value c.args.import.now) c.requires.there
+    let item_index = position_read a c.args.position (import_value c.args.import.now) c.requires.there
     c.args.walk.now.chains.now c.requires.walk.chains c.index.result.now c.index.ensures in
     dead_item a c.args.position (import_value c.args.import.now) c.requires.there
-    c.args.walk.now.chains.now c.requires.walk.chains (words_of c.args.walk.now.form) (function_value c.args.function.now) _ (place ∙ ap Some c.in-None.is) (search rules)
+    c.args.walk.now.chains.now c.requires.walk.chains (words_of c.args.walk.now.form) (function_value c.args.function.now) _ (item_index ∙ ap Some c.in-None.is) (search rules)

@@ -1,5 +1,5 @@
 use Rattle.std.proofs.Common.{rules, string_bytes}
-use Rattle.wc_ways.specs.Private.Walks.{key_in, original_in, words_of}
+use Rattle.wc_ways.specs.Private.Adapters.{key_in, original_in, words_of}
 use Rattle.wc_ways.specs.Ways.{IsWayAt}
 use Rattle.wc_ways.proofs.WalkLemmas.{joined_more, joined_none}
 use Rattle.wc_ways.proofs.lines.original_ways.Goals as goal

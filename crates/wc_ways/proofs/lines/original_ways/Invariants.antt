@@ -1,6 +1,6 @@
 use Rattle.std.proofs.Common.{string_bytes}
 use Rattle.wcwhy_command.specs.Joined.{AreJoined}
-use Rattle.wc_ways.specs.Private.Walks.{key_in, original_in, words_of}
+use Rattle.wc_ways.specs.Private.Adapters.{key_in, original_in, words_of}
 use Rattle.wc_ways.specs.Ways.{IsWayAt}
 use Rattle.wc_ways.proofs.lines.original_ways.Given as goal
 

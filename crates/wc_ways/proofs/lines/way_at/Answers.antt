@@ -1,6 +1,6 @@
 use Rattle.std.proofs.Common.{◌∙◌, ap, option_map, rules, sym}
 use Rattle.wc_read.specs.Imports.{import_value}
-use Rattle.wc_ways.specs.Private.Walks.{function_value, key_in, original_in, words_of}
+use Rattle.wc_ways.specs.Private.Adapters.{function_value, key_in, original_in, words_of}
 use Rattle.wc_ways.proofs.ImportLemmas.{asked_way, import_read, unasked_way}
 use Rattle.wc_ways.proofs.lines.way_at.Goals as goal
 

@@ -4,7 +4,7 @@ use Rattle.wc_names.specs.Views.{import_view}
 use Rattle.wc_plan.specs.Calls.{IsNameable}
 use Rattle.wc_validate.specs.Imports.Iter.{imports_left}
 use Rattle.wc_world.specs.Slots.{imports_of}
-use Rattle.wc_ways.specs.WaysGraph.{recorded_arrow, recorded_arrows}
+use Rattle.wc_ways.specs.Nodes.{recorded_arrow, recorded_arrows}
 use Rattle.wc_ways.proofs.ListLemmas.{made_all, made_more}
 use Rattle.wc_ways.proofs.nodes.recorded_arrows.Goals as goal
 

@@ -3,7 +3,7 @@ use Rattle.std.specs.List.{flat_map}
 use Rattle.wc_validate.specs.Imports.Iter.{imports_left}
 use Rattle.wc_world.specs.Slots.{imports_of}
 use Rattle.wc_plan.specs.Calls.{IsNameable}
-use Rattle.wc_ways.specs.WaysGraph.{recorded_arrow, recorded_arrows}
+use Rattle.wc_ways.specs.Nodes.{recorded_arrow, recorded_arrows}
 use Rattle.wc_ways.proofs.nodes.recorded_arrows.Given as goal
 
 abbrev pub invariant-loop-from : goal.invariant-loop-from

@@ -1,8 +1,8 @@
 use Rattle.std.proofs.Common.{◌∙◌, ap, option_map, subst, sym}
 use Rattle.wc_names.specs.Views.{import_view}
 use Rattle.wc_plan.specs.Calls.{IsNameable}
-use Rattle.wc_resolve.specs.World.{ResolveView}
-use Rattle.wc_ways.specs.Private.Walks.{world_in}
+use Rattle.wc_resolve.specs.Kinds.{ResolveView}
+use Rattle.wc_ways.specs.Private.Adapters.{world_in}
 use Rattle.wc_ways.proofs.RecordLemmas.{recorded_has}
 use Rattle.wc_ways.proofs.originals.asked_import.Goals as goal
 

@@ -1,5 +1,5 @@
-use Rattle.wc_gc.specs.Liveness.{names_of}
-use Rattle.wc_ways.specs.Private.Walks.{required_in}
+use Rattle.wc_gc.specs.LiveItems.{names_of}
+use Rattle.wc_ways.specs.Private.Adapters.{required_in}
 use Rattle.wc_ways.proofs.OriginalLemmas.{chains_for, fault_for}
 use Rattle.wc_ways.proofs.originals.said_for.Goals as goal
 

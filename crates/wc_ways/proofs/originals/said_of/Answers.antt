@@ -1,5 +1,5 @@
 use Rattle.std.proofs.Common.{IfOk, string_bytes, subst, sym}
-use Rattle.wc_ways.specs.Private.Walks.{key_in, original_in, saying, words_of}
+use Rattle.wc_ways.specs.Private.Adapters.{key_in, original_in, saying, words_of}
 use Rattle.wc_ways.specs.Ways.{AreOriginalWays}
 use Rattle.wc_ways.specs.declared.originals.Form.{Form}
 use Rattle.wc_ways.proofs.originals.said_of.Goals as goal

@@ -1,8 +1,8 @@
 use Rattle.wc_read.specs.Modules.{module_value}
 use Rattle.wc_read.specs.Names.{name_entries}
-use Rattle.wc_validate.specs.Validated.{module_record}
+use Rattle.wc_validate.specs.Validate.{module_record}
 use Rattle.wcwhy_command.proofs.ExecutionLemmas.{chains_of_read}
-use Rattle.wc_ways.specs.Private.Walks.{required_in, saying, world_in}
+use Rattle.wc_ways.specs.Private.Adapters.{required_in, saying, world_in}
 use Rattle.wc_ways.proofs.OriginalLemmas.{input_of, said_read}
 use Rattle.wc_ways.proofs.originals.said_with.Goals as goal
 

@@ -1,7 +1,7 @@
 use Rattle.std.proofs.Common.{◌≡◌, ◌++◌, ◌∷◌, ◌⊎◌, [], All, map, subst, sym}
 use Rattle.wc_adapters.specs.Adapters.{adapter_view as input_view}
-use Rattle.wc_validate.specs.Validated.{module_record}
-use Rattle.wc_world.specs.Adapters.{HasOtherName}
+use Rattle.wc_validate.specs.Validate.{module_record}
+use Rattle.wc_world.specs.Trimming.{HasOtherName}
 use Rattle.wc_world.specs.Causes.{IsFirstStop}
 use Rattle.wc_world.specs.World.{AreAdaptersAmong}
 use Rattle.wc_world.specs.WorldViews.{adapter_entry}

@@ -1,6 +1,6 @@
 use Rattle.std.proofs.Common.{◌∙◌, refl, sym}
 use Rattle.wc_adapters.specs.Adapters.{adapter_view as input_view}
-use Rattle.wc_validate.specs.Validated.{module_record}
+use Rattle.wc_validate.specs.Validate.{module_record}
 use Rattle.wc_world.proofs.AdapterLemmas.{adapter_last}
 use Rattle.wc_world.proofs.adapters.add_input.Goals as goal
 

@@ -1,5 +1,5 @@
 use Rattle.std.proofs.Common.{sym, ◌∙◌}
-use Rattle.wc_validate.specs.Validated.{module_record}
+use Rattle.wc_validate.specs.Validate.{module_record}
 use Rattle.wc_world.proofs.FaultLemmas.{page_fault}
 use Rattle.wc_world.proofs.adapters.check_pages.Goals as goal
 

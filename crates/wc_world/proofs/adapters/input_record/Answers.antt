@@ -2,7 +2,7 @@ use Rattle.std.specs.Borrow.{Bor}
 use Rattle.std.specs.Option.{option_map}
 use Rattle.wc_adapters.specs.declared.adapters.LibraryInfo.{LibraryInfo}
 use Rattle.wc_adapters.specs.Adapters.{library_view}
-use Rattle.wc_validate.specs.Validated.{module_record}
+use Rattle.wc_validate.specs.Validate.{module_record}
 use Rattle.wc_world.proofs.FaultLemmas.{adapter_refused, recorded_input, seen_library}
 use Rattle.wc_world.proofs.adapters.input_record.Goals as goal
 

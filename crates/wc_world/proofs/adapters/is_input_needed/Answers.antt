@@ -3,7 +3,7 @@ use Rattle.wc_resolve.specs.Views.{world_view}
 use Rattle.wc_adapters.specs.Adapters.{adapter_view as input_view}
 use Rattle.wc_adapters.specs.Entries.{entries_of}
 use Rattle.wc_validate.specs.Imports.Map.{required_entry}
-use Rattle.wc_validate.specs.Validated.{module_record}
+use Rattle.wc_validate.specs.Validate.{module_record}
 use Rattle.wc_world.proofs.AdapterLemmas.{needed_by}
 use Rattle.wc_world.proofs.UsedWalkLemmas.{exports_are, exports_there}
 use Rattle.wc_world.proofs.adapters.is_input_needed.Goals as goal

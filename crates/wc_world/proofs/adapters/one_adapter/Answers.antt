@@ -1,5 +1,5 @@
 use Rattle.std.proofs.Common.{refl}
-use Rattle.wc_world.specs.Private.AdapterInput.{IsInputFault}
+use Rattle.wc_world.specs.Private.Adapters.{IsInputFault}
 use Rattle.wc_world.specs.WorldViews.{adapter_view}
 use Rattle.wc_world.proofs.FaultLemmas.{passed_on}
 use Rattle.wc_world.proofs.adapters.one_adapter.Goals as goal

@@ -1,7 +1,7 @@
 use Rattle.std.proofs.Common.{subst, sym}
-use Rattle.wc_validate.specs.Validated.{module_record}
-use Rattle.wc_world.specs.Adapters.{validation_input_of}
-use Rattle.wc_world.specs.Private.AdapterInput.{IsInputFault, IsInputRecord, IsInputTrimmedText, main_of, named_adapter}
+use Rattle.wc_validate.specs.Validate.{module_record}
+use Rattle.wc_world.specs.Trimming.{validation_input_of}
+use Rattle.wc_world.specs.Private.Adapters.{IsInputFault, IsInputRecord, IsInputTrimmedText, main_of, named_adapter}
 use Rattle.wc_world.specs.World.{settings_of, adapter_trim_input}
 use Rattle.wc_world.proofs.FaultLemmas.{passed_on}
 use Rattle.wc_world.proofs.adapters.trim_adapter.Goals as goal

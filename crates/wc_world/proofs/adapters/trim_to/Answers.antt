@@ -1,8 +1,8 @@
 use Rattle.std.proofs.Common.{ap, ◌∙◌}
 use Rattle.std.specs.Option.{option_map}
 use Rattle.wc_adapters.specs.Adapters.{library_view}
-use Rattle.wc_validate.specs.Validated.{module_record}
-use Rattle.wc_world.specs.Adapters.{trim_page_size_log2}
+use Rattle.wc_validate.specs.Validate.{module_record}
+use Rattle.wc_world.specs.Trimming.{trim_page_size_log2}
 use Rattle.wc_world.proofs.FaultLemmas.{page_size_log2_small, some_names, input_trimmed_text, trim_refused}
 use Rattle.wc_world.proofs.adapters.trim_to.Goals as goal
 

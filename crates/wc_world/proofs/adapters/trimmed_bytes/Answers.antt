@@ -1,5 +1,5 @@
 use Rattle.std.proofs.Common.{inl, refl}
-use Rattle.wc_world.specs.Private.AdapterInput.{IsInputFault}
+use Rattle.wc_world.specs.Private.Adapters.{IsInputFault}
 use Rattle.wc_world.specs.declared.fault.WorldFault.TheVariants.{Memory}
 use Rattle.wc_world.proofs.FaultLemmas.{passed_on}
 use Rattle.wc_world.proofs.adapters.trimmed_bytes.Goals as goal

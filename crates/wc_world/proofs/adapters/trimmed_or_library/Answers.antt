@@ -3,8 +3,8 @@ use Rattle.std.specs.Borrow.{Bor}
 use Rattle.std.specs.Option.{option_map}
 use Rattle.wc_adapters.specs.declared.adapters.LibraryInfo.{LibraryInfo}
 use Rattle.wc_adapters.specs.Adapters.{library_view}
-use Rattle.wc_validate.specs.Validated.{module_record}
-use Rattle.wc_world.specs.Private.AdapterInput.{IsInputFault, main_of, named_adapter}
+use Rattle.wc_validate.specs.Validate.{module_record}
+use Rattle.wc_world.specs.Private.Adapters.{IsInputFault, main_of, named_adapter}
 use Rattle.wc_world.specs.Views.{WorldAdapterView}
 use Rattle.wc_world.specs.World.{IsTrimmedOrLibrary}
 use Rattle.wc_world.specs.WorldViews.{adapter_view}

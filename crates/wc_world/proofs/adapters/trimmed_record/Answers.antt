@@ -1,7 +1,7 @@
 use Rattle.std.proofs.Common.{None, ap, refl, sym}
 use Rattle.std.specs.Option.{option_map}
 use Rattle.wc_adapters.specs.Adapters.{library_view}
-use Rattle.wc_validate.specs.Validated.{module_record}
+use Rattle.wc_validate.specs.Validate.{module_record}
 use Rattle.wc_world.proofs.FaultLemmas.{minimized_refused, recorded_input}
 use Rattle.wc_world.proofs.adapters.trimmed_record.Goals as goal
 

@@ -1,6 +1,6 @@
 use Rattle.std.proofs.Common.{IfErr, IfOk, subst}
 use Rattle.wc_encoder.specs.EncoderParts.{EncoderView}
-use Rattle.wc_validate.specs.Validated.{IsRecordOf, IsValidateCause, adapter_input_of, module_record}
+use Rattle.wc_validate.specs.Validate.{IsRecordOf, IsValidateCause, adapter_input_of, module_record}
 use Rattle.wc_world.proofs.adapters.validated.Goals as goal
 
 pub returns-clause-recorded : goal.returns-clause-recorded

@@ -2,7 +2,7 @@ use Rattle.std.proofs.Common.{◌≡◌, ◌++◌, ◌∙◌, ◌∷◌, [], Som
 use Rattle.std.proofs.lemmas.Option.{same_Some}
 use Rattle.std.specs.Result.{OnOk}
 use Rattle.wc_resolve.specs.Views.{item_view, key_view}
-use Rattle.wc_world.specs.Lowered.{AreEntriesDistinct, ImportEntry, Lowerer}
+use Rattle.wc_world.specs.Lowering.{AreEntriesDistinct, ImportEntry, Lowerer}
 use Rattle.wc_world.specs.WorldViews.{imported_entry}
 use Rattle.wc_world.specs.Private.LoweringContext.{lowerer_in}
 use Rattle.wc_world.proofs.ImportEntryLemmas.{interface_is, interface_there}

@@ -1,7 +1,7 @@
 use Rattle.std.proofs.Common.{◌≡◌, ◌++◌, ◌∷◌, [], None, map, subst, sym}
 use Rattle.std.specs.Result.{OnOk}
 use Rattle.wc_resolve.specs.Views.{world_entry}
-use Rattle.wc_world.specs.Lowered.{AreEntriesDistinct, ImportEntry, Lowerer, own_entry}
+use Rattle.wc_world.specs.Lowering.{AreEntriesDistinct, ImportEntry, Lowerer, own_entry}
 use Rattle.wc_world.specs.WorldViews.{imported_entry, imported_view}
 use Rattle.wc_world.specs.Private.LoweringContext.{lowerer_in}
 use Rattle.wc_world.proofs.ImportEntryLemmas.{own_is}

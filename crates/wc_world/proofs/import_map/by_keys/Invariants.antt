@@ -1,6 +1,6 @@
 use Rattle.std.proofs.Common.{◌≡◌, ◌++◌, map}
 use Rattle.std.specs.Vec.Iter.{into_iter_items}
-use Rattle.wc_world.specs.Lowered.{AreKeysDistinct}
+use Rattle.wc_world.specs.Lowering.{AreKeysDistinct}
 use Rattle.wc_world.specs.WorldViews.{lowering_entry}
 use Rattle.wc_world.proofs.import_map.by_keys.Given as goal
 

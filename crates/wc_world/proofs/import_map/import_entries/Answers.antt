@@ -1,7 +1,7 @@
 use Rattle.std.proofs.Common.{ap, map, subst, sym}
 use Rattle.wc_resolve.specs.Views.{item_view, key_view, world_entry}
 use Rattle.wc_adapters.specs.Entries.{Entries}
-use Rattle.wc_world.specs.Lowered.{IsImportable, Lowerer}
+use Rattle.wc_world.specs.Lowering.{IsImportable, Lowerer}
 use Rattle.wc_world.specs.Views.{ImportMapView}
 use Rattle.wc_world.specs.WorldViews.{imported_entry}
 use Rattle.wc_world.specs.Private.LoweringContext.{lowerer_in}

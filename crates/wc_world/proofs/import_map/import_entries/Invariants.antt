@@ -1,7 +1,7 @@
 use Rattle.std.proofs.Common.{All, List, map}
 use Rattle.wc_resolve.specs.Views.{world_entry}
 use Rattle.wc_names.specs.Views.{ImportView}
-use Rattle.wc_world.specs.Lowered.{AreEntriesDistinct, AreKeysDistinct, IsImportable, all_entries, own_lowerings}
+use Rattle.wc_world.specs.Lowering.{AreEntriesDistinct, AreKeysDistinct, IsImportable, all_entries, own_lowerings}
 use Rattle.wc_world.specs.Private.ImportedItems.{AreImported}
 use Rattle.wc_world.specs.WorldViews.{imported_entry}
 use Rattle.wc_world.specs.Private.LoweringContext.{AreKept, lowerer_in}

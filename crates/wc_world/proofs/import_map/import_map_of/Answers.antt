@@ -2,12 +2,12 @@ use Rattle.std.proofs.Common.{◌≡◌, ◌∙◌, List, ap, is_some, map}
 use Rattle.std.proofs.lemmas.Result.{IfOk-weaker}
 use Rattle.semver.specs.Identifiers.{parts_text}
 use Rattle.wc_resolve.specs.Views.{WorldView, world_entry, world_view}
-use Rattle.wc_resolve.specs.World.{ResolveView}
+use Rattle.wc_resolve.specs.Kinds.{ResolveView}
 use Rattle.wc_resolve.proofs.ViewedLemmas.{all_unviewed}
 use Rattle.wc_resolve.proofs.WellFormedLemmas.{import_keys_have_texts}
 use Rattle.wc_names.specs.Views.{ImportView}
-use Rattle.wc_validate.specs.Validated.{module_record}
-use Rattle.wc_world.specs.Lowered.{IsImportable, Lowerer, all_entries, lowered, lowerer_of}
+use Rattle.wc_validate.specs.Validate.{module_record}
+use Rattle.wc_world.specs.Lowering.{IsImportable, Lowerer, all_entries, lowered, lowerer_of}
 use Rattle.wc_world.specs.Slots.{all_imports, imports_of}
 use Rattle.wc_world.specs.WorldViews.{adapter_entry, import_map_view}
 use Rattle.wc_world.proofs.ImportEntryLemmas.{all_importable, entries_distinct, lowered_is, names_distinct, world_there}

@@ -1,5 +1,5 @@
 use Rattle.std.proofs.Common.{◌≡◌, ◌∙◌, map, refl, subst, sym}
-use Rattle.wc_world.specs.Lowered.{AreKeysDistinct, Lowerer, lowerings_of_interface}
+use Rattle.wc_world.specs.Lowering.{AreKeysDistinct, Lowerer, lowerings_of_interface}
 use Rattle.wc_world.specs.WorldViews.{lowering_entry}
 use Rattle.wc_world.specs.Private.LoweringContext.{lowerer_in}
 use Rattle.wc_world.proofs.import_map.imported_interface.Goals as goal

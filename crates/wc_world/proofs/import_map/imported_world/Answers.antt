@@ -1,5 +1,5 @@
 use Rattle.std.proofs.Common.{◌∙◌, subst, sym}
-use Rattle.wc_world.specs.Lowered.{AreKeysDistinct}
+use Rattle.wc_world.specs.Lowering.{AreKeysDistinct}
 use Rattle.wc_world.proofs.import_map.imported_world.Goals as goal
 
 pub returns-clause-lowerings : goal.returns-clause-lowerings

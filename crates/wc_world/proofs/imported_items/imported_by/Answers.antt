@@ -1,5 +1,5 @@
 use Rattle.std.proofs.Common.{◌∙◌, [], ap, map}
-use Rattle.wc_validate.specs.Validated.{module_record}
+use Rattle.wc_validate.specs.Validate.{module_record}
 use Rattle.wc_world.specs.WorldViews.{adapter_entry}
 use Rattle.wc_world.proofs.ImportedItemLemmas.{adapters_next, adapters_start}
 use Rattle.wc_world.proofs.imported_items.imported_by.Goals as goal

@@ -1,5 +1,5 @@
 use Rattle.std.proofs.Common.{map}
-use Rattle.wc_validate.specs.Validated.{module_record}
+use Rattle.wc_validate.specs.Validate.{module_record}
 use Rattle.wc_world.specs.WorldViews.{adapter_entry}
 use Rattle.wc_world.proofs.ImportedItemLemmas.{AdapterWalk}
 use Rattle.wc_world.proofs.imported_items.imported_by.Given as goal

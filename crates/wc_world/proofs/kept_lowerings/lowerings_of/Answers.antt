@@ -1,5 +1,5 @@
 use Rattle.std.proofs.Common.{◌++◌, ◌∙◌, ap, map}
-use Rattle.wc_world.specs.Lowered.{Lowerer, lowerings_of_interface}
+use Rattle.wc_world.specs.Lowering.{Lowerer, lowerings_of_interface}
 use Rattle.wc_world.specs.WorldViews.{lowering_entry}
 use Rattle.wc_world.specs.Private.LoweringContext.{lowerer_in}
 use Rattle.wc_world.proofs.kept_lowerings.lowerings_of.Goals as goal

@@ -1,6 +1,6 @@
 use Rattle.std.proofs.Common.{◌≡◌, ◌∙◌, ap, map, sym}
 use Rattle.std.proofs.lemmas.Result.{IfOk-weaker}
-use Rattle.wc_world.specs.Lowered.{Lowerer, lowerings_of_interface}
+use Rattle.wc_world.specs.Lowering.{Lowerer, lowerings_of_interface}
 use Rattle.wc_world.specs.WorldViews.{lowering_entry}
 use Rattle.wc_world.specs.Private.LoweringContext.{lowerer_in}
 use Rattle.wc_world.proofs.KeptLoweringLemmas.{OwnLowerings, kept_more, on_ok_holds}

@@ -1,6 +1,6 @@
 use Rattle.std.proofs.Common.{◌≡◌, IfOk, map, subst}
 use Rattle.wc_resolve.specs.Views.{world_view}
-use Rattle.wc_validate.specs.Validated.{module_record}
+use Rattle.wc_validate.specs.Validate.{module_record}
 use Rattle.wc_world.specs.Used.{used_view}
 use Rattle.wc_world.specs.WorldViews.{adapter_entry, live_view}
 use Rattle.wc_world.proofs.LiveLemmas.{live_are, world_in}

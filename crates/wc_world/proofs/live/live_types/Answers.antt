@@ -3,7 +3,7 @@ use Rattle.std.proofs.lemmas.List.Elements.{Contains-append_left}
 use Rattle.wc_resolve.specs.Live.{IsComplete}
 use Rattle.wc_resolve.specs.Views.{world_view}
 use Rattle.wc_resolve.proofs.ListingLemmas.{complete_none}
-use Rattle.wc_validate.specs.Validated.{module_record}
+use Rattle.wc_validate.specs.Validate.{module_record}
 use Rattle.wc_world.specs.Live.{adapter_roots, exports_roots, imported_types, module_roots, world_roots}
 use Rattle.wc_world.specs.Private.LiveAdditions.{imports_roots}
 use Rattle.wc_world.specs.Used.{used_view}

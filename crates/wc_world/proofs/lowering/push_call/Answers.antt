@@ -1,6 +1,6 @@
 use Rattle.std.proofs.Common.{◌∙◌, ap, map}
 use Rattle.wc_resolve.specs.Views.{function_view}
-use Rattle.wc_world.specs.Lowered.{Lowerer, lowered_function, is_imported}
+use Rattle.wc_world.specs.Lowering.{Lowerer, lowered_function, is_imported}
 use Rattle.wc_names.specs.Imports.{import_abi}
 use Rattle.wc_world.specs.Private.ImportedItems.{interface_index}
 use Rattle.wc_world.specs.WorldViews.{lowering_entry, lowering_view}

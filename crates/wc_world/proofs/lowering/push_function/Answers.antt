@@ -1,7 +1,7 @@
 use Rattle.std.proofs.Common.{◌++◌, ◌∙◌, ap, append_assoc, map}
 use Rattle.wc_resolve.specs.declared.functions.AbiVariant.TheVariants.{GuestImport, GuestImportAsync}
 use Rattle.wc_resolve.specs.Views.{function_view}
-use Rattle.wc_world.specs.Lowered.{Lowerer, called_lowering}
+use Rattle.wc_world.specs.Lowering.{Lowerer, called_lowering}
 use Rattle.wc_world.specs.WorldViews.{lowering_entry}
 use Rattle.wc_world.specs.Private.LoweringContext.{lowerer_in}
 use Rattle.wc_world.specs.Private.ImportedItems.{interface_index}

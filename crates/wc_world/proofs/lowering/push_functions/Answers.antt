@@ -1,7 +1,7 @@
 use Rattle.std.proofs.Common.{◌++◌, ◌∙◌, Some, ap, append-nil, map, sym}
 use Rattle.wc_resolve.specs.Views.{function_entry, function_view}
 use Rattle.wc_resolve.specs.WellFormed.{IsUsable}
-use Rattle.wc_world.specs.Lowered.{Lowerer, function_lowerings}
+use Rattle.wc_world.specs.Lowering.{Lowerer, function_lowerings}
 use Rattle.wc_world.specs.WorldViews.{lowering_entry}
 use Rattle.wc_world.specs.Private.LoweringContext.{lowerer_in}
 use Rattle.wc_world.proofs.KeptLoweringLemmas.{none_lowered}

@@ -3,7 +3,7 @@ use Rattle.std.specs.List.{flat_map}
 use Rattle.wc_resolve.specs.Views.{function_entry, function_view}
 use Rattle.wc_resolve.specs.WellFormed.{IsUsable}
 use Rattle.wc_names.specs.Views.{ImportView}
-use Rattle.wc_world.specs.Lowered.{function_lowerings}
+use Rattle.wc_world.specs.Lowering.{function_lowerings}
 use Rattle.wc_world.specs.Private.ImportedItems.{AreImported}
 use Rattle.wc_world.specs.WorldViews.{lowering_entry}
 use Rattle.wc_world.specs.Private.LoweringContext.{lowerer_in}

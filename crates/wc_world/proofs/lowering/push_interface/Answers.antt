@@ -5,7 +5,7 @@ use Rattle.wc_resolve.specs.Views.{FunctionView, function_entry, interface_view,
 use Rattle.wc_resolve.specs.WellFormed.{IsUsable}
 use Rattle.wc_resolve.proofs.ViewedLemmas.{all_unviewed}
 use Rattle.wc_resolve.proofs.WellFormedLemmas.{interface_functions_usable, interface_types_in}
-use Rattle.wc_world.specs.Lowered.{Lowerer, function_lowerings, interface_lowerings, type_lowerings}
+use Rattle.wc_world.specs.Lowering.{Lowerer, function_lowerings, interface_lowerings, type_lowerings}
 use Rattle.wc_world.specs.WorldViews.{lowering_entry}
 use Rattle.wc_world.specs.Private.LoweringContext.{lowerer_in}
 use Rattle.wc_world.proofs.UsedLemmas.{on_ok}

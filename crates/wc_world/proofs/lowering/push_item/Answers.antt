@@ -1,7 +1,7 @@
 use Rattle.std.proofs.Common.{◌≡◌, ◌++◌, map, subst, sym}
 use Rattle.std.specs.Result.{OnOk}
 use Rattle.wc_resolve.specs.Views.{item_view}
-use Rattle.wc_world.specs.Lowered.{Lowerer, item_lowerings}
+use Rattle.wc_world.specs.Lowering.{Lowerer, item_lowerings}
 use Rattle.wc_world.specs.WorldViews.{lowering_entry}
 use Rattle.wc_world.specs.Private.LoweringContext.{lowerer_in}
 use Rattle.wc_world.proofs.lowering.push_item.Goals as goal

@@ -1,6 +1,6 @@
 use Rattle.std.proofs.Common.{◌<◌, ap, length, map}
 use Rattle.wc_resolve.specs.Views.{type_entry}
-use Rattle.wc_world.specs.Lowered.{type_lowerings}
+use Rattle.wc_world.specs.Lowering.{type_lowerings}
 use Rattle.wc_world.specs.WorldViews.{lowering_entry}
 use Rattle.wc_world.specs.Private.LoweringContext.{lowerer_in}
 use Rattle.wc_world.proofs.LoweringLemmas.{all_rest, joined_end, joined_next}

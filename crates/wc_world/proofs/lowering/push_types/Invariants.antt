@@ -2,7 +2,7 @@ use Rattle.std.proofs.Common.{◌≡◌, ◌<◌, ◌++◌, All, List, length, m
 use Rattle.std.specs.List.{flat_map}
 use Rattle.wc_resolve.specs.Views.{type_entry}
 use Rattle.wc_names.specs.Views.{ImportView}
-use Rattle.wc_world.specs.Lowered.{type_lowerings}
+use Rattle.wc_world.specs.Lowering.{type_lowerings}
 use Rattle.wc_world.specs.Private.ImportedItems.{AreImported}
 use Rattle.wc_world.specs.WorldViews.{lowering_entry}
 use Rattle.wc_world.specs.Private.LoweringContext.{lowerer_in}

@@ -1,6 +1,6 @@
 use Rattle.std.proofs.Common.{[], ap, map}
 use Rattle.wc_resolve.specs.Views.{item_view, world_entry}
-use Rattle.wc_world.specs.Lowered.{IsLowerable, item_lowerings}
+use Rattle.wc_world.specs.Lowering.{IsLowerable, item_lowerings}
 use Rattle.wc_world.specs.WorldViews.{lowering_entry}
 use Rattle.wc_world.specs.Private.LoweringContext.{lowerer_in}
 use Rattle.wc_world.proofs.LoweringLemmas.{all_rest, joined_end, joined_next}

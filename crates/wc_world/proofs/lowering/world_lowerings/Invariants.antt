@@ -2,7 +2,7 @@ use Rattle.std.proofs.Common.{◌≡◌, ◌++◌, All, List, [], map}
 use Rattle.std.specs.List.{flat_map}
 use Rattle.wc_resolve.specs.Views.{item_view, world_entry}
 use Rattle.wc_names.specs.Views.{ImportView}
-use Rattle.wc_world.specs.Lowered.{IsLowerable, item_lowerings}
+use Rattle.wc_world.specs.Lowering.{IsLowerable, item_lowerings}
 use Rattle.wc_world.specs.Private.ImportedItems.{AreImported}
 use Rattle.wc_world.specs.WorldViews.{lowering_entry}
 use Rattle.wc_world.specs.Private.LoweringContext.{lowerer_in}

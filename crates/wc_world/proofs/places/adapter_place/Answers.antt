@@ -1,5 +1,5 @@
 use Rattle.std.proofs.Common.{subst}
-use Rattle.wc_world.specs.Private.Explained.{IsMainFound}
+use Rattle.wc_world.specs.Private.Places.{IsMainFound}
 use Rattle.wc_world.proofs.places.adapter_place.Goals as goal
 
 pub place_beside-requires : goal.place_beside-requires

@@ -1,7 +1,7 @@
 use Rattle.std.proofs.Common.{None, Some, refl, subst}
 use Rattle.std.specs.Option.{option_copied}
-use Rattle.wc_validate.specs.Places.{IsExplained}
-use Rattle.wc_validate.specs.Validated.{main_input}
+use Rattle.wc_validate.specs.Explain.{IsExplained}
+use Rattle.wc_validate.specs.Validate.{main_input}
 use Rattle.wc_world.proofs.PlaceLemmas.{main_answer}
 use Rattle.wc_world.proofs.places.explain_main.Goals as goal
 

@@ -1,5 +1,5 @@
 use Rattle.std.proofs.Common.{IfOk, subst}
-use Rattle.wc_world.specs.Private.Explained.{IsTrimmedFound, IsValidationAnswer, input_of}
+use Rattle.wc_world.specs.Private.Places.{IsTrimmedFound, IsValidationAnswer, input_of}
 use Rattle.wc_world.proofs.PlaceLemmas.{minimized_answer}
 use Rattle.wc_world.proofs.places.minimized_place.Goals as goal
 

@@ -1,6 +1,6 @@
 use Rattle.std.proofs.Common.{None, Some, ap, inl, inr, sym, ◌∙◌}
 use Rattle.std.specs.Option.{option_copied}
-use Rattle.wc_validate.specs.Validated.{module_record}
+use Rattle.wc_validate.specs.Validate.{module_record}
 use Rattle.wc_world.proofs.PlaceLemmas.{adapter_found, none_needed}
 use Rattle.wc_world.proofs.places.named_place.Goals as goal
 

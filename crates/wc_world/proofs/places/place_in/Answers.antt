@@ -1,5 +1,5 @@
-use Rattle.wc_validate.specs.Validated.{library_of}
-use Rattle.wc_world.specs.Private.Explained.{input_of}
+use Rattle.wc_validate.specs.Validate.{library_of}
+use Rattle.wc_world.specs.Private.Places.{input_of}
 use Rattle.wc_world.proofs.FaultLemmas.{explained_input}
 use Rattle.wc_world.proofs.PlaceLemmas.{validation_answer}
 use Rattle.wc_world.proofs.places.place_in.Goals as goal

@@ -1,8 +1,8 @@
 use Rattle.std.proofs.Common.{ap, subst}
 use Rattle.std.specs.Option.{option_map}
 use Rattle.wc_adapters.specs.Adapters.{library_view}
-use Rattle.wc_validate.specs.Validated.{module_record}
-use Rattle.wc_world.specs.Private.Explained.{IsTrimAnswer}
+use Rattle.wc_validate.specs.Validate.{module_record}
+use Rattle.wc_world.specs.Private.Places.{IsTrimAnswer}
 use Rattle.wc_world.specs.declared.places.ModulePlace.TheVariants as place
 use Rattle.wc_world.proofs.PlaceLemmas.{trim_answer}
 use Rattle.wc_world.proofs.places.trim_place_by.Goals as goal

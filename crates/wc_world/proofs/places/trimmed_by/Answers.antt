@@ -1,4 +1,4 @@
-use Rattle.wc_validate.specs.Validated.{module_record}
+use Rattle.wc_validate.specs.Validate.{module_record}
 use Rattle.wc_world.proofs.PlaceLemmas.{minimized_input, not_trimmed}
 use Rattle.wc_world.proofs.places.trimmed_by.Goals as goal
 

@@ -1,7 +1,7 @@
 use Rattle.std.proofs.Common.{◌≡◌, IfOk, subst}
-use Rattle.wc_gc.specs.Liveness.{names_of}
-use Rattle.wc_validate.specs.Validated.{module_record}
-use Rattle.wc_world.specs.Adapters.{required_names}
+use Rattle.wc_gc.specs.LiveItems.{names_of}
+use Rattle.wc_validate.specs.Validate.{module_record}
+use Rattle.wc_world.specs.Trimming.{required_names}
 use Rattle.wc_world.proofs.RequiredLemmas.{trimmed_for_names}
 use Rattle.wc_world.proofs.required.required_exports.Goals as goal
 

@@ -4,7 +4,7 @@ use Rattle.wc_resolve.specs.Ranges.{IsItemIn}
 use Rattle.wc_resolve.specs.Views.{ItemView, KeyView, item_view, world_entry}
 use Rattle.wc_resolve.proofs.ViewedLemmas.{all_unviewed}
 use Rattle.wc_names.proofs.KeyLemmas.{item_viewed}
-use Rattle.wc_world.specs.Adapters.{has_function}
+use Rattle.wc_world.specs.Trimming.{has_function}
 use Rattle.wc_world.proofs.FoundLemmas.{found_has}
 use Rattle.wc_world.proofs.trimming.exports_function.Goals as goal
 

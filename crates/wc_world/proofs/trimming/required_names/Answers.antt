@@ -3,7 +3,7 @@ use Rattle.wc_read.specs.Types.{FuncTypeValue}
 use Rattle.wc_names.specs.ExportViews.{ExportView, export_view}
 use Rattle.wc_validate.specs.Imports.Map.{required_entry}
 use Rattle.wc_validate.specs.Exports.Iter.{exports_left}
-use Rattle.wc_world.specs.Adapters.{HasNames}
+use Rattle.wc_world.specs.Trimming.{HasNames}
 use Rattle.wc_world.proofs.NameLemmas.{names_next}
 use Rattle.wc_world.proofs.trimming.required_names.Goals as goal
 

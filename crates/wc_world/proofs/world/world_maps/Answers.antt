@@ -1,5 +1,5 @@
 use Rattle.std.proofs.Common.{map, refl}
-use Rattle.wc_validate.specs.Validated.{main_input, module_record}
+use Rattle.wc_validate.specs.Validate.{main_input, module_record}
 use Rattle.wc_world.specs.WorldViews.{adapter_entry}
 use Rattle.wc_world.proofs.WorldLemmas.{adapters_in}
 use Rattle.wc_world.proofs.world.world_maps.Goals as goal

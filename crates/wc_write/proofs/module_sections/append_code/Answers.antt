@@ -1,5 +1,5 @@
 use Rattle.std.proofs.Common.{ℕ, List, Option, subst}
-use Rattle.wc_write.specs.ModuleText.{code_text, AppendsContent}
+use Rattle.wc_write.specs.Modules.{code_text, AppendsContent}
 use Rattle.wc_write.proofs.DefinedItemLemmas.{content_contents}
 use Rattle.wc_write.proofs.module_sections.append_code.Goals as goal
 

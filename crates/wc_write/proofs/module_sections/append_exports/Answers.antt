@@ -1,5 +1,5 @@
 use Rattle.std.proofs.Common.{ℕ, List, Option, subst}
-use Rattle.wc_write.specs.ModuleText.{export_text, AppendsContent}
+use Rattle.wc_write.specs.Modules.{export_text, AppendsContent}
 use Rattle.wc_read.specs.Exports.{export_value}
 use Rattle.wc_write.proofs.DefinedItemLemmas.{content_seen}
 use Rattle.wc_write.proofs.module_sections.append_exports.Goals as goal

@@ -1,6 +1,6 @@
 use Rattle.std.proofs.Common.{ℕ, List, Option, subst, sym, ◌∙◌}
 use Rattle.wc_write.specs.Text.{number_text}
-use Rattle.wc_write.specs.ModuleText.{AppendsContent}
+use Rattle.wc_write.specs.Modules.{AppendsContent}
 use Rattle.wc_write.proofs.DefinedItemLemmas.{content_seen, content_types}
 use Rattle.wc_write.proofs.module_sections.append_func_types.Goals as goal
 

@@ -1,5 +1,5 @@
 use Rattle.std.proofs.Common.{ℕ, List, Option, subst}
-use Rattle.wc_write.specs.ModuleText.{defined_global_text, AppendsContent}
+use Rattle.wc_write.specs.Modules.{defined_global_text, AppendsContent}
 use Rattle.wc_read.specs.Inits.{init_value}
 use Rattle.wc_write.proofs.DefinedItemLemmas.{content_defined}
 use Rattle.wc_write.proofs.module_sections.append_globals.Goals as goal

@@ -1,5 +1,5 @@
 use Rattle.std.proofs.Common.{ℕ, List, Option, subst}
-use Rattle.wc_write.specs.ModuleText.{items_content, AppendsContent}
+use Rattle.wc_write.specs.Modules.{items_content, AppendsContent}
 use Rattle.std.proofs.Common.{ap, ◌∙◌}
 use Rattle.wc_read.specs.Imports.{import_value}
 use Rattle.wc_write.specs.Text.{import_text}

@@ -1,5 +1,5 @@
 use Rattle.std.proofs.Common.{ℕ, List, Option, subst}
-use Rattle.wc_write.specs.ModuleText.{AppendsContent}
+use Rattle.wc_write.specs.Modules.{AppendsContent}
 use Rattle.wc_write.specs.Text.{table_text}
 use Rattle.wc_write.proofs.DefinedItemLemmas.{content_types}
 use Rattle.wc_write.proofs.module_sections.append_tables.Goals as goal

@@ -1,5 +1,5 @@
 use Rattle.std.proofs.Common.{ℕ, List, Option, subst}
-use Rattle.wc_write.specs.ModuleText.{func_type_text, AppendsContent}
+use Rattle.wc_write.specs.Modules.{func_type_text, AppendsContent}
 use Rattle.wc_read.specs.Types.{func_type_value}
 use Rattle.wc_write.proofs.DefinedItemLemmas.{content_seen}
 use Rattle.wc_write.proofs.module_sections.append_types.Goals as goal

@@ -1,5 +1,5 @@
 use Rattle.std.proofs.Common.{arith}
-use Rattle.wc_write.specs.ModuleText.{code_text_of}
+use Rattle.wc_write.specs.Modules.{code_text_of}
 use Rattle.wc_write.proofs.VectorLemmas.{items_end}
 use Rattle.wc_write.proofs.module_sections.put_code.Goals as goal
 

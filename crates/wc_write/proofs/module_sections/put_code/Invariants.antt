@@ -1,6 +1,6 @@
 use Rattle.std.proofs.Common.{◌≡◌, ◌++◌, take}
 use Rattle.std.specs.List.{flat_map}
-use Rattle.wc_write.specs.ModuleText.{code_text_of}
+use Rattle.wc_write.specs.Modules.{code_text_of}
 use Rattle.wc_write.proofs.module_sections.put_code.Given as goal
 
 abbrev pub invariant-loop-func : goal.invariant-loop-func

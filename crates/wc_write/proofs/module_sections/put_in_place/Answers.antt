@@ -1,5 +1,5 @@
 use Rattle.std.proofs.Common.{◌++◌, ◌-◌, ◌∙◌, ap, arith}
-use Rattle.wc_write.specs.BodyText.{body_text}
+use Rattle.wc_write.specs.Bodies.{body_text}
 use Rattle.wc_write.proofs.CodeTextLemmas.{short_code}
 use Rattle.wc_write.proofs.module_sections.put_in_place.Goals as goal
 

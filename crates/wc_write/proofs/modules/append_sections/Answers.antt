@@ -1,5 +1,5 @@
 use Rattle.std.proofs.Common.{rules}
-use Rattle.wc_write.specs.ModuleText.{built_value_by}
+use Rattle.wc_write.specs.Modules.{built_value_by}
 use Rattle.wc_write.proofs.ModuleSectionLemmas.{each_size_fits, all_sizes_fit, sections_written}
 use Rattle.wc_write.proofs.modules.append_sections.Goals as goal
 

@@ -2,7 +2,7 @@ use Rattle.std.proofs.Common.{◌∙◌, ◌<◌, length, map, ap, sym, subst}
 use Rattle.std.proofs.lemmas.Result.{err_from_is_err_and}
 use Rattle.wc_selection.specs.Keys.{named_key}
 use Rattle.wc_program.specs.Files.{FailsToRead}
-use Rattle.wcplan_command.specs.Arguments.{command_value}
+use Rattle.wcplan_command.specs.Arguments.{command_view}
 use Rattle.wcplan_command.proofs.ProgramLemmas.{listed_worlds}
 use Rattle.wcplan_command.proofs.WorldsLemmas.{meant_there}
 use Rattle.wcplan_command.proofs.inputs.chosen_world.Goals as goal
@@ -11,11 +11,11 @@ pub command_keys-requires : goal.command_keys-requires
 command_keys-requires g c =
     let there = c.in_ok-metadata.ensures.worlds in
     subst (λ r. c.in_ok-metadata.metadata.world.0 < length r.worlds) (sym there.4)
-    (meant_there there.0 (command_value c.args.command.now).world c.in_ok-metadata.metadata.world.0 there.2)
+    (meant_there there.0 (command_view c.args.command.now).world c.in_ok-metadata.metadata.world.0 there.2)
 
 pub returns-in_err-check_listed-clause-fault : goal.returns-in_err-check_listed-clause-fault
 returns-in_err-check_listed-clause-fault g c =
-    let command = command_value c.args.command.now in
+    let command = command_view c.args.command.now in
     let before = g.F.FileStore.held c.args.files.now in
     let metadata = c.in_ok-metadata.metadata in
     let keyed = ap (map named_key) c.deref.ensures.value ∙ c.in_ok-keys.ensures.keys in

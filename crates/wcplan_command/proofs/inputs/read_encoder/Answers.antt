@@ -2,14 +2,14 @@ use Rattle.std.proofs.Common.{ap, sym, subst}
 use Rattle.std.proofs.lemmas.Result.{err_from_is_err_and}
 use Rattle.wc_encoder.specs.EncoderParts.{parts_view}
 use Rattle.wc_program.specs.Files.{FailsToRead}
-use Rattle.wcplan_command.specs.Arguments.{command_value}
+use Rattle.wcplan_command.specs.Arguments.{command_view}
 use Rattle.wcplan_command.specs.Program.{IsPartsOf}
 use Rattle.wcplan_command.proofs.ProgramLemmas.{chosen_worlds, encoder_cause, modules_cause, parts_with}
 use Rattle.wcplan_command.proofs.inputs.read_encoder.Goals as goal
 
 pub returns-in_err-parts-clause-fault : goal.returns-in_err-parts-clause-fault
 returns-in_err-parts-clause-fault g c =
-    let command = command_value c.args.command.now in
+    let command = command_view c.args.command.now in
     let before = g.F.FileStore.held c.args.files.now in
     let metadata = c.in_ok-chosen.chosen.metadata in
     let is = c.in_ok-chosen.ensures in
@@ -19,7 +19,7 @@ returns-in_err-parts-clause-fault g c =
 
 pub returns-in_err-build-clause-fault : goal.returns-in_err-build-clause-fault
 returns-in_err-build-clause-fault g c =
-    let command = command_value c.args.command.now in
+    let command = command_view c.args.command.now in
     let before = g.F.FileStore.held c.args.files.now in
     let metadata = c.in_ok-chosen.chosen.metadata in
     let is = c.in_ok-chosen.ensures in
@@ -31,7 +31,7 @@ returns-in_err-build-clause-fault g c =
 
 pub returns-clause-encoder : goal.returns-clause-encoder
 returns-clause-encoder g c =
-    let command = command_value c.args.command.now in
+    let command = command_view c.args.command.now in
     let before = g.F.FileStore.held c.args.files.now in
     let metadata = c.in_ok-chosen.chosen.metadata in
     let is = c.in_ok-chosen.ensures in

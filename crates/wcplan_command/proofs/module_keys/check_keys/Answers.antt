@@ -2,7 +2,7 @@ use Rattle.std.proofs.Common.{map, subst}
 use Rattle.wc_selection.specs.Keys.{named_key, texts_of}
 use Rattle.wc_selection.specs.Requests.{given_keys}
 use Rattle.wc_selection.specs.ModuleKeys.{AreKeysThere, IsKeysCause}
-use Rattle.wcplan_command.specs.Arguments.{command_value}
+use Rattle.wcplan_command.specs.Arguments.{command_view}
 use Rattle.wcplan_command.specs.ModuleKeys.{request_of}
 use Rattle.wcplan_command.proofs.NamesLemmas.{request_cause}
 use Rattle.wcplan_command.proofs.module_keys.check_keys.Goals as goal
@@ -14,5 +14,5 @@ returns-in-Ok-clause-there c =
 pub returns-in-Err-clause-fault : goal.returns-in-Err-clause-fault
 returns-in-Err-clause-fault c =
     let texts = texts_of (map named_key c.args.keys.now) in
-    rw c.from.ensures (request_cause (given_keys (request_of (command_value c.args.command.now))) texts c.in-Err.fault
+    rw c.from.ensures (request_cause (given_keys (request_of (command_view c.args.command.now))) texts c.in-Err.fault
     (subst (λ q. IsKeysCause (given_keys q) texts c.in-Err.fault) c.key_request-request.ensures c.in-Err.ensures.fault))

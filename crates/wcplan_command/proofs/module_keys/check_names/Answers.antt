@@ -1,7 +1,7 @@
 use Rattle.std.proofs.Common.{◌≡◌, ◌∙◌, All, Contains, map, ap, subst}
 use Rattle.wc_selection.specs.Keys.{named_key}
 use Rattle.wc_selection.specs.Texts.{AreDistinct, first_parts, text_of, text_pair}
-use Rattle.wcplan_command.specs.Arguments.{command_value}
+use Rattle.wcplan_command.specs.Arguments.{command_view}
 use Rattle.wcplan_command.specs.FileNames.{AreFilesNamed, IsFilesCause}
 use Rattle.wcplan_command.specs.ModuleKeys.{adapter_names}
 use Rattle.wcplan_command.proofs.NamesLemmas.{adapters_there, files_failed, keys_done, keys_failed}
@@ -9,7 +9,7 @@ use Rattle.wcplan_command.proofs.module_keys.check_names.Goals as goal
 
 pub returns-in-Some-file_fault-clause-fault : goal.returns-in-Some-file_fault-clause-fault
 returns-in-Some-file_fault-clause-fault c =
-    let command = command_value c.args.command.now in
+    let command = command_view c.args.command.now in
     let names : map text_of c.in_ok-adapters.adapters.items ≡ adapter_names command =
     c.in_ok-adapters.ensures ∙ ap (λ xs. first_parts (map text_pair xs)) c.deref.ensures.value in
     let others : map text_of c.in_ok-exporters.exporters.items ≡ first_parts command.adapter_exports =
@@ -24,7 +24,7 @@ returns-in-Some-file_fault-clause-fault c =
 
 pub returns-clause-there : goal.returns-clause-there
 returns-clause-there c =
-    let command = command_value c.args.command.now in
+    let command = command_view c.args.command.now in
     let names : map text_of c.in_ok-adapters.adapters.items ≡ adapter_names command =
     c.in_ok-adapters.ensures ∙ ap (λ xs. first_parts (map text_pair xs)) c.deref.ensures.value in
     let others : map text_of c.in_ok-exporters.exporters.items ≡ first_parts command.adapter_exports =
@@ -40,7 +40,7 @@ returns-clause-there c =
 
 pub returns-clause-fault : goal.returns-clause-fault
 returns-clause-fault c =
-    let command = command_value c.args.command.now in
+    let command = command_view c.args.command.now in
     let names : map text_of c.in_ok-adapters.adapters.items ≡ adapter_names command =
     c.in_ok-adapters.ensures ∙ ap (λ xs. first_parts (map text_pair xs)) c.deref.ensures.value in
     let others : map text_of c.in_ok-exporters.exporters.items ≡ first_parts command.adapter_exports =

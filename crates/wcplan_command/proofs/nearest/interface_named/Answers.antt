@@ -6,7 +6,7 @@ use Rattle.std.proofs.lemmas.Map.Views.{All-turn}
 use Rattle.semver.specs.Identifiers.{parts_text}
 use Rattle.wc_resolve.specs.declared.worlds.WorldKey.{WorldKey}
 use Rattle.wc_resolve.specs.declared.worlds.WorldItem.{WorldItem}
-use Rattle.wc_resolve.specs.Queries.{key_text}
+use Rattle.wc_resolve.specs.Resolve.{key_text}
 use Rattle.wc_resolve.specs.Ranges.{IsItemIn, IsKeyIn}
 use Rattle.wc_resolve.specs.Views.{KeyView, ItemView, item_view, key_view, world_entry}
 use Rattle.wc_resolve.proofs.ViewedLemmas.{all_unviewed}

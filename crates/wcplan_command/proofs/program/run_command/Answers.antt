@@ -1,6 +1,6 @@
 use Rattle.std.proofs.Common.{refl}
 use Rattle.std.proofs.lemmas.Result.{err_from_is_err_and}
-use Rattle.wcplan_command.specs.Arguments.{command_value}
+use Rattle.wcplan_command.specs.Arguments.{command_view}
 use Rattle.wc_program.specs.Files.{store_change}
 use Rattle.wc_program.specs.Screen.{Becomes}
 use Rattle.wcplan_command.proofs.RunLemmas.{quiet}
@@ -8,7 +8,7 @@ use Rattle.wcplan_command.proofs.program.run_command.Goals as goal
 
 pub returns-in_err-encoder-clause-fault : goal.returns-in_err-encoder-clause-fault
 returns-in_err-encoder-clause-fault g c =
-    let command = command_value c.args.command.now in
+    let command = command_view c.args.command.now in
     let store = g.F.FileStore in
     let directories = g.F.DirectoryStore in
     let files = store_change store.held directories.makes store.read_fails directories.make_fails store.write_fails c.args.files.now c.args.files.now in

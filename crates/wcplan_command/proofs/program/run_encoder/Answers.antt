@@ -1,7 +1,7 @@
 use Rattle.std.proofs.Common.{refl}
 use Rattle.wc_world.specs.Options.{plain_options}
 use Rattle.wc_world.specs.WorldViews.{world_view}
-use Rattle.wcplan_command.specs.Arguments.{command_value}
+use Rattle.wcplan_command.specs.Arguments.{command_view}
 use Rattle.wc_program.specs.Files.{store_change}
 use Rattle.wc_program.specs.Screen.{Becomes}
 use Rattle.wcplan_command.proofs.RunLemmas.{quiet, world_cause}
@@ -15,7 +15,7 @@ run_world-requires-clause-nameable g c = c.worlds_nameable.ensures plain_options
 
 pub returns-in-Err-clause-fault : goal.returns-in-Err-clause-fault
 returns-in-Err-clause-fault g c =
-    let command = command_value c.args.command.now in
+    let command = command_view c.args.command.now in
     let store = g.F.FileStore in
     let directories = g.F.DirectoryStore in
     let files = store_change store.held directories.makes store.read_fails directories.make_fails store.write_fails c.args.files.now c.args.files.now in

@@ -1,16 +1,16 @@
 use Rattle.std.proofs.Common.{OnOk, Some, refl, subst}
 use Rattle.std.proofs.lemmas.Result.{err_from_is_err_and}
 use Rattle.wc_world.specs.WorldViews.{world_view}
-use Rattle.wcplan_command.specs.Arguments.{command_value}
+use Rattle.wcplan_command.specs.Arguments.{command_view}
 use Rattle.wc_program.specs.Files.{store_change}
 use Rattle.wc_program.specs.Screen.{Becomes}
-use Rattle.wcplan_command.specs.declared.faults.ProgramFault.TheVariants.{Memory}
+use Rattle.wcplan_command.specs.declared.fault.ProgramFault.TheVariants.{Memory}
 use Rattle.wcplan_command.proofs.RunLemmas.{all_written, description_cause, quiet, some_unwritten}
 use Rattle.wcplan_command.proofs.program.run_plan.Goals as goal
 
 pub returns-in_err-outputs-clause-fault : goal.returns-in_err-outputs-clause-fault
 returns-in_err-outputs-clause-fault g c =
-    let command = command_value c.args.command.now in
+    let command = command_view c.args.command.now in
     let store = g.F.FileStore in
     let directories = g.F.DirectoryStore in
     let files = store_change store.held directories.makes store.read_fails directories.make_fails store.write_fails c.args.files.now c.args.files.now in
@@ -20,7 +20,7 @@ returns-in_err-outputs-clause-fault g c =
 
 pub returns-in_err-description-clause-fault : goal.returns-in_err-description-clause-fault
 returns-in_err-description-clause-fault g c =
-    let command = command_value c.args.command.now in
+    let command = command_view c.args.command.now in
     let store = g.F.FileStore in
     let directories = g.F.DirectoryStore in
     let files = store_change store.held directories.makes store.read_fails directories.make_fails store.write_fails c.args.files.now c.args.files.now in
@@ -33,7 +33,7 @@ returns-in_err-description-clause-fault g c =
 
 pub returns-clause-done : goal.returns-clause-done
 returns-clause-done g c =
-    let command = command_value c.args.command.now in
+    let command = command_view c.args.command.now in
     let store = g.F.FileStore in
     let directories = g.F.DirectoryStore in
     let files = store_change store.held directories.makes store.read_fails directories.make_fails store.write_fails c.args.files.now c.write_and_print.new.files in
@@ -47,7 +47,7 @@ returns-clause-done g c =
 
 pub returns-clause-fault : goal.returns-clause-fault
 returns-clause-fault g c =
-    let command = command_value c.args.command.now in
+    let command = command_view c.args.command.now in
     let store = g.F.FileStore in
     let directories = g.F.DirectoryStore in
     let files = store_change store.held directories.makes store.read_fails directories.make_fails store.write_fails c.args.files.now c.write_and_print.new.files in

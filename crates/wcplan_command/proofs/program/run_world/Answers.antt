@@ -1,7 +1,7 @@
 use Rattle.std.proofs.Common.{refl}
 use Rattle.wc_world.specs.WorldViews.{world_view}
-use Rattle.wcplan_command.specs.Arguments.{command_value}
-use Rattle.wcplan_command.specs.Faults.{of_plan}
+use Rattle.wcplan_command.specs.Arguments.{command_view}
+use Rattle.wcplan_command.specs.Fault.{of_plan}
 use Rattle.wc_program.specs.Files.{store_change}
 use Rattle.wc_program.specs.Screen.{Becomes}
 use Rattle.wcplan_command.proofs.RunLemmas.{plan_cause, quiet}
@@ -14,7 +14,7 @@ run_plan-requires-clause-planned g c =
 
 pub returns-in-Err-clause-fault : goal.returns-in-Err-clause-fault
 returns-in-Err-clause-fault g c =
-    let command = command_value c.args.command.now in
+    let command = command_view c.args.command.now in
     let store = g.F.FileStore in
     let directories = g.F.DirectoryStore in
     let files = store_change store.held directories.makes store.read_fails directories.make_fails store.write_fails c.args.files.now c.args.files.now in

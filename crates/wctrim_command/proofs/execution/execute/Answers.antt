@@ -1,7 +1,7 @@
 use Rattle.std.proofs.Common.{refl, []}
 use Rattle.std.specs.Option.{option_map}
 use Rattle.std.proofs.lemmas.Result.{err_from_is_err_and}
-use Rattle.wctrim_command.proofs.FaultsLemmas.{cause_of_command}
+use Rattle.wctrim_command.proofs.FaultLemmas.{cause_of_command}
 use Rattle.wctrim_command.proofs.ExecutionLemmas.{appends_nothing}
 use Rattle.wctrim_command.specs.Lines.{lines_of}
 use Rattle.wctrim_command.specs.Scan.{scan_lines}

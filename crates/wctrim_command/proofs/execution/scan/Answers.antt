@@ -1,5 +1,5 @@
 use Rattle.std.proofs.lemmas.Result.{err_from_is_err_and}
-use Rattle.wctrim_command.proofs.FaultsLemmas.{cause_of_read}
+use Rattle.wctrim_command.proofs.FaultLemmas.{cause_of_read}
 use Rattle.wctrim_command.proofs.execution.scan.Goals as goal
 
 pub returns-in_err-module-clause-fault : goal.returns-in_err-module-clause-fault

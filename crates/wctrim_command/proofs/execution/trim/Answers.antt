@@ -1,8 +1,8 @@
 use Rattle.std.proofs.lemmas.Result.{err_from_is_err_and}
-use Rattle.wc_gc.specs.Liveness.{names_of}
+use Rattle.wc_gc.specs.LiveItems.{names_of}
 use Rattle.wc_gc.specs.Parts.{settings}
 use Rattle.wc_gc.proofs.NameSetLemmas.{some_keys}
-use Rattle.wctrim_command.proofs.FaultsLemmas.{cause_of_trim}
+use Rattle.wctrim_command.proofs.FaultLemmas.{cause_of_trim}
 use Rattle.wctrim_command.proofs.ExecutionLemmas.{trim_along, some_exports}
 use Rattle.wctrim_command.proofs.execution.trim.Goals as goal
 

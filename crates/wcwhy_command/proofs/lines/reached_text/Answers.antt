@@ -6,5 +6,5 @@ use Rattle.wcwhy_command.proofs.lines.reached_text.Goals as goal
 pub returns : goal.returns
 returns c =
     let r = c.args.reasons.now in
-    chain_lines c.chain_text.result (required_in r) (adapter_in r) (names_in r) (import_value c.args.import.now) r.chains.now c.args.place c.in_ok-chain.chain
+    chain_lines c.chain_text.result (required_in r) (adapter_in r) (names_in r) (import_value c.args.import.now) r.chains.now c.args.index c.in_ok-chain.chain
     c.requires.chains c.in_ok-chain.ensures.chain c.chain_text.ensures

@@ -1,6 +1,6 @@
 use Rattle.std.proofs.Common.{sym, subst, ◌↔◌, IsTrue}
 use Rattle.wc_read.specs.declared.operators.Space.TheVariants.{Memories}
-use Rattle.wc_gc.specs.Liveness.{IsLive, names_of}
+use Rattle.wc_gc.specs.LiveItems.{IsLive, names_of}
 use Rattle.wc_example_rows.proofs.examples.gc.reaches_memory.Goals as goal
 
 pub returns : goal.returns

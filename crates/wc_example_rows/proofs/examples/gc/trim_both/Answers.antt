@@ -1,5 +1,5 @@
 use Rattle.std.proofs.Common.{inl, None}
-use Rattle.wc_gc.specs.Liveness.{trim_input}
+use Rattle.wc_gc.specs.LiveItems.{trim_input}
 use Rattle.wc_gc.specs.Parts.{settings}
 use Rattle.wc_example_rows.proofs.examples.gc.trim_both.Goals as goal
 

@@ -1,9 +1,9 @@
 use Rattle.std.proofs.Common.{subst, None}
 use Rattle.wc_gc.specs.EditedImage.{edited_image, edited_rank}
-use Rattle.wc_gc.specs.Liveness.{trim_input}
+use Rattle.wc_gc.specs.LiveItems.{trim_input}
 use Rattle.wc_gc.specs.Parts.{settings}
 use Rattle.wc_gc.specs.Unfolding.{UnfoldsAs, built_module, edited_from, in_image}
-use Rattle.wc_gc.specs.Untouched.{original_of}
+use Rattle.wc_gc.specs.UntouchedLaws.{original_of}
 use Rattle.wc_example_rows.proofs.examples.gc.trim_unedited.Goals as goal
 
 pub returns : goal.returns

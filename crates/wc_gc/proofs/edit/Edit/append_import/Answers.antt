@@ -2,7 +2,7 @@ use Rattle.std.proofs.Common.{◌≡◌, ◌+◌, ◌∙◌, ap, arith}
 use Rattle.wc_read.specs.Items.{imported}
 use Rattle.wc_read.specs.declared.operators.Space.TheVariants.{Types}
 use Rattle.wc_gc.specs.Found.{main_module}
-use Rattle.wc_gc.specs.Private.Edits.{new_indices, types_of}
+use Rattle.wc_gc.specs.Private.Edit.{new_indices, types_of}
 use Rattle.wc_gc.proofs.EditLemmas.{import_appended, text_or}
 use Rattle.wc_gc.proofs.edit.Edit.append_import.Goals as goal
 

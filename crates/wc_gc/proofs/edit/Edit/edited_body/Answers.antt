@@ -1,4 +1,4 @@
-use Rattle.wc_read.specs.Decoding.{body_in}
+use Rattle.wc_read.specs.BodyOperators.{body_in}
 use Rattle.wc_gc.specs.NewIndices.{new_of}
 use Rattle.wc_gc.proofs.EditLemmas.{old_new}
 use Rattle.wc_gc.proofs.edit.Edit.edited_body.Goals as goal

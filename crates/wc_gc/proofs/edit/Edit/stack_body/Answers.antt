@@ -1,5 +1,5 @@
-use Rattle.wc_gc.specs.Edited.{called_realloc, stack_of, state_of}
-use Rattle.wc_gc.specs.Private.Edits.{found_of, funcs_of, new_indices}
+use Rattle.wc_gc.specs.Edit.{called_realloc, stack_of, state_of}
+use Rattle.wc_gc.specs.Private.Edit.{found_of, funcs_of, new_indices}
 use Rattle.wc_gc.proofs.EditLemmas.{stack_new}
 use Rattle.wc_gc.proofs.edit.Edit.stack_body.Goals as goal
 

@@ -1,6 +1,6 @@
 use Rattle.std.proofs.Common.{◌-◌, ◌*◌, ◌/◌, subst, sym, arith}
 use Rattle.std.proofs.lemmas.Bool.{false≢true}
-use Rattle.wc_gc.specs.Private.Positions.{IsCut}
+use Rattle.wc_gc.specs.Private.RangeSet.{IsCut}
 use Rattle.wc_gc.proofs.StartLemmas.{cut_once}
 use Rattle.wc_gc.proofs.ranks.Ranks.rank_near.Goals as goal
 

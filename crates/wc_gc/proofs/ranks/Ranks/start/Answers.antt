@@ -1,6 +1,6 @@
 use Rattle.std.proofs.Common.{◌≡◌, ◌∙◌, ◌*◌, ◌/◌, length, sym, subst, arith}
 use Rattle.std.proofs.lemmas.List.{get_or_past}
-use Rattle.wc_gc.specs.Private.Positions.{IsCut}
+use Rattle.wc_gc.specs.Private.RangeSet.{IsCut}
 use Rattle.wc_gc.proofs.RangeLemmas.{cut_at}
 use Rattle.wc_gc.proofs.ranks.Ranks.start.Goals as goal
 

@@ -1,7 +1,7 @@
 use Rattle.std.proofs.Common.{sym, ◌∙◌, subst, [], ◌∷◌}
 use Rattle.std.proofs.lemmas.Bool.{not-true}
-use Rattle.wc_gc.specs.Private.Searches.{HasGrown}
-use Rattle.wc_gc.specs.LiveSets.{has_item}
+use Rattle.wc_gc.specs.Private.Search.{HasGrown}
+use Rattle.wc_gc.specs.Live.{has_item}
 use Rattle.wc_gc.proofs.SearchLemmas.{grown_push, items_decided}
 use Rattle.wc_gc.proofs.search.Search.reach.Goals as goal
 

@@ -1,7 +1,7 @@
 use Rattle.std.proofs.Common.{◌<◌, ◌≤◌, length, sym, ◌∙◌, refl, arith, inl, inr, rules}
 use Rattle.std.proofs.lemmas.List.{get_or_default}
 use Rattle.wc_gc.specs.Decoded.{decoded_module}
-use Rattle.wc_gc.specs.Private.Searches.{finds}
+use Rattle.wc_gc.specs.Private.Search.{finds}
 use Rattle.wc_gc.proofs.ReachLemmas.{roots_more, start_at, step_at, reached_at, count_at, reached_in_range, bad_at, all_there, falls_by}
 use Rattle.wc_gc.proofs.ItemCountLemmas.{bounded_found, total}
 use Rattle.wc_read.specs.declared.operators.Space.TheVariants.{Types}

@@ -1,6 +1,6 @@
 use Rattle.std.proofs.Common.{◌-◌, take}
 use Rattle.wc_gc.specs.Decoded.{decoded_module}
-use Rattle.wc_gc.specs.Private.Searches.{FindsItems, finds}
+use Rattle.wc_gc.specs.Private.Search.{FindsItems, finds}
 use Rattle.wc_gc.proofs.ReachLemmas.{IsAt}
 use Rattle.wc_gc.proofs.ItemCountLemmas.{total}
 use Rattle.wc_gc.proofs.search.Search.reach_all.Given as goal

@@ -2,7 +2,7 @@ use Rattle.std.proofs.Common.{◌<◌, length, take, sym, subst, arith, List}
 use Rattle.wc_read.specs.Operators.{InstrValue, instr_value, instr_values}
 use Rattle.wc_gc.specs.Decoded.{decoded_module}
 use Rattle.wc_gc.specs.Entries.{code_refs, present}
-use Rattle.wc_gc.specs.Private.Searches.{FindsItems}
+use Rattle.wc_gc.specs.Private.Search.{FindsItems}
 use Rattle.wc_gc.proofs.ReachLemmas.{finds_code, code_more}
 use Rattle.wc_gc.proofs.search.Search.reach_code.Goals as goal
 

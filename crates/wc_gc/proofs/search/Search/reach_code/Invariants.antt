@@ -2,7 +2,7 @@ use Rattle.std.proofs.Common.{take}
 use Rattle.wc_read.specs.Operators.{instr_values}
 use Rattle.wc_gc.specs.Decoded.{decoded_module}
 use Rattle.wc_gc.specs.Entries.{code_refs, present}
-use Rattle.wc_gc.specs.Private.Searches.{FindsItems}
+use Rattle.wc_gc.specs.Private.Search.{FindsItems}
 use Rattle.wc_gc.proofs.search.Search.reach_code.Given as goal
 
 abbrev pub invariant-loop-instr : goal.invariant-loop-instr

@@ -1,6 +1,6 @@
 use Rattle.std.proofs.Common.{[], ◌∷◌}
 use Rattle.wc_read.specs.declared.operators.Space.TheVariants.{Types}
-use Rattle.wc_read.specs.Decoding.{body_in}
+use Rattle.wc_read.specs.BodyOperators.{body_in}
 use Rattle.wc_gc.specs.Decoded.{ItemIndex, decoded_module}
 use Rattle.wc_gc.specs.Entries.{body_refs}
 use Rattle.wc_gc.proofs.ReachLemmas.{finds_present_then}

@@ -1,6 +1,6 @@
 use Rattle.std.proofs.Common.{◌<◌, length, sym, ◌∙◌, rules}
 use Rattle.wc_gc.specs.Decoded.{decoded_module}
-use Rattle.wc_gc.proofs.ExplainLemmas.{outside_at}
+use Rattle.wc_gc.proofs.TrimPlaceLemmas.{outside_at}
 use Rattle.wc_gc.proofs.trim_place.bodies.first_outside.Goals as goal
 
 pub returns-then-not-branch : goal.returns-then-not-branch

@@ -6,7 +6,7 @@ use Rattle.wc_read.specs.declared.operators.Instr.{Instr}
 use Rattle.wc_read.proofs.DecodingLemmas.{body_found, body_missing}
 use Rattle.wc_gc.specs.Decoded.{decoded_module}
 use Rattle.wc_gc.specs.InRange.{is_code_in_range}
-use Rattle.wc_gc.specs.TrimPlaces.{IsFirstOutside, IsOperatorPlace}
+use Rattle.wc_gc.specs.TrimPlace.{IsFirstOutside, IsOperatorPlace}
 use Rattle.wc_gc.proofs.trim_place.bodies.outside_in_body.Goals as goal
 
 pub returns-in-Ok : goal.returns-in-Ok

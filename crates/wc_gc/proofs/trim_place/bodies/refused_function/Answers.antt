@@ -2,9 +2,9 @@ use Rattle.std.proofs.Common.{◌<◌, ◌≤◌, length, sym, ◌∙◌, refl, 
 use Rattle.std.proofs.lemmas.List.{get_or_default}
 use Rattle.wc_gc.specs.Bits.{bit_of}
 use Rattle.wc_gc.specs.Decoded.{decoded_module}
-use Rattle.wc_gc.specs.Private.Searches.{finds}
+use Rattle.wc_gc.specs.Private.Search.{finds}
 use Rattle.wc_gc.proofs.ReachLemmas.{step_at, reached_in_range, all_there, falls_by}
-use Rattle.wc_gc.proofs.ExplainLemmas.{begun_at, refused_at}
+use Rattle.wc_gc.proofs.TrimPlaceLemmas.{begun_at, refused_at}
 use Rattle.wc_gc.proofs.ItemCountLemmas.{bounded_found, total}
 use Rattle.wc_gc.proofs.trim_place.bodies.refused_function.Goals as goal
 

@@ -1,7 +1,7 @@
 use Rattle.std.proofs.Common.{◌-◌}
 use Rattle.wc_gc.specs.Bits.{bit_of}
 use Rattle.wc_gc.specs.Decoded.{decoded_module}
-use Rattle.wc_gc.specs.Private.Searches.{finds}
+use Rattle.wc_gc.specs.Private.Search.{finds}
 use Rattle.wc_gc.proofs.ReachLemmas.{IsAt}
 use Rattle.wc_gc.proofs.ItemCountLemmas.{total}
 use Rattle.wc_gc.proofs.trim_place.bodies.refused_function.Given as goal

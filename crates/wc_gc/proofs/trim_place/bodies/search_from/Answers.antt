@@ -1,8 +1,8 @@
 use Rattle.std.proofs.Common.{◌<◌, length, arith}
 use Rattle.wc_read.specs.declared.operators.Space.TheVariants.{Types}
 use Rattle.wc_gc.specs.Bits.{bit_of}
-use Rattle.wc_gc.specs.Private.Searches.{finds}
-use Rattle.wc_gc.proofs.ExplainLemmas.{no_roots, root_more, all_roots}
+use Rattle.wc_gc.specs.Private.Search.{finds}
+use Rattle.wc_gc.proofs.TrimPlaceLemmas.{no_roots, root_more, all_roots}
 use Rattle.wc_gc.proofs.trim_place.bodies.search_from.Goals as goal
 
 pub loop-root-init : goal.loop-root-init

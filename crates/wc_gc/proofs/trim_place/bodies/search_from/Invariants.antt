@@ -1,5 +1,5 @@
 use Rattle.std.proofs.Common.{take}
-use Rattle.wc_gc.specs.Private.Explained.{HasFound}
+use Rattle.wc_gc.specs.Private.TrimPlace.{HasFound}
 use Rattle.wc_gc.proofs.trim_place.bodies.search_from.Given as goal
 
 abbrev pub invariant-loop-root : goal.invariant-loop-root

@@ -1,7 +1,7 @@
 use Rattle.std.proofs.Common.{◌≡◌, ◌<◌, ◌∙◌, arith, sym, subst, map, length, true, false, Ok, Err}
 use Rattle.std.proofs.lemmas.Result.{err_from_is_err_and}
 use Rattle.json.specs.Value.{value_view}
-use Rattle.wc_json.specs.Faults.{IsFaultOf}
+use Rattle.wc_json.specs.Fault.{IsFaultOf}
 use Rattle.wc_json.specs.Paths.{index_step}
 use Rattle.wc_json.proofs.ListLemmas.{IsFaultOf_item, after-all, after-item, items_there, list-value_view, memory_for_items}
 use Rattle.wc_json.proofs.PathLemmas.{Reads_at_step}

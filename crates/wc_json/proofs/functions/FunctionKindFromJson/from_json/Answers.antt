@@ -3,7 +3,7 @@ use Rattle.std.proofs.lemmas.Result.{err_from_is_err_and}
 use Rattle.json.specs.Value.{value_view}
 use Rattle.wc_resolve.specs.declared.functions.FunctionKind.{FunctionKind}
 use Rattle.wc_resolve.specs.declared.ids.TypeId.{TypeId}
-use Rattle.wc_json.specs.Faults.{Reads, Reading, ◌>>=◌}
+use Rattle.wc_json.specs.Fault.{Reads, Reading, ◌>>=◌}
 use Rattle.wc_json.specs.Functions.{function_kind, kind_of_resource}
 use Rattle.wc_json.specs.Ids.{index}
 use Rattle.wc_json.specs.Paths.{at_step, variant_step}

@@ -1,6 +1,6 @@
 use Rattle.std.proofs.Common.{ap}
 use Rattle.json.specs.Value.{value_view}
-use Rattle.wc_json.specs.Faults.{◌>>=◌}
+use Rattle.wc_json.specs.Fault.{◌>>=◌}
 use Rattle.wc_json.specs.Kinds.{handle, handle_of}
 use Rattle.wc_json.specs.Paths.{at_step, variant_step}
 use Rattle.wc_json.proofs.MemoryLemmas.{read_at_variant}

@@ -1,7 +1,7 @@
 use Rattle.std.proofs.Common.{◌∙◌, ap, sym, subst}
 use Rattle.json.specs.Value.{value_view}
 use Rattle.wc_resolve.specs.Views.{KindView, kind_view}
-use Rattle.wc_json.specs.Faults.{Reads, Reading, ◌>>=◌}
+use Rattle.wc_json.specs.Fault.{Reads, Reading, ◌>>=◌}
 use Rattle.wc_json.specs.Kinds.{kind_of}
 use Rattle.wc_json.specs.Paths.{at_step, variant_step}
 use Rattle.wc_json.proofs.KindLemmas.{kind-not_text}

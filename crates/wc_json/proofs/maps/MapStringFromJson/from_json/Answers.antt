@@ -3,7 +3,7 @@ use Rattle.std.specs.Str.{bytes_eq}
 use Rattle.std.proofs.lemmas.Result.{err_from_is_err_and}
 use Rattle.indexmap.specs.IndexMap.{insert_entry}
 use Rattle.json.specs.Value.{members_view}
-use Rattle.wc_json.specs.Faults.{IsFaultOf}
+use Rattle.wc_json.specs.Fault.{IsFaultOf}
 use Rattle.wc_json.specs.Maps.{entries_after}
 use Rattle.wc_json.specs.Paths.{key_step}
 use Rattle.wc_json.proofs.MapLemmas.{IsFaultOf_member, entries-value_view, entries_after-member, entries_view, entries_view-insert_entry}

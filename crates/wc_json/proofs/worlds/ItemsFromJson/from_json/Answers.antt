@@ -5,7 +5,7 @@ use Rattle.json.specs.Value.{members_view}
 use Rattle.wc_resolve.proofs.KeyLemmas.{key_view_eq, keys_viewed}
 use Rattle.wc_resolve.specs.Views.{item_view, key_view}
 use Rattle.wc_resolve.specs.contracts.worlds.WorldKeyPartialEq.TheImpl.{eq-value as key_eq}
-use Rattle.wc_json.specs.Faults.{IsFaultOf}
+use Rattle.wc_json.specs.Fault.{IsFaultOf}
 use Rattle.wc_json.specs.Keys.{item_key}
 use Rattle.wc_json.specs.Maps.{entries_after}
 use Rattle.wc_json.specs.Paths.{key_step}

@@ -1,4 +1,4 @@
-use Rattle.wc_read.specs.Decoding.{operators_left}
+use Rattle.wc_read.specs.BodyOperators.{operators_left}
 use Rattle.wc_read.proofs.BodyOperatorsLemmas.{done_is, done_is_not}
 use Rattle.wc_read.proofs.body_operators.Operators.is_done.Goals as goal
 

@@ -1,7 +1,7 @@
 use Rattle.std.proofs.Common.{sym, refl}
 use Rattle.std.proofs.lemmas.Result.{err_from_is_err_and}
-use Rattle.wc_read.specs.Decoding.{operators_left}
-use Rattle.wc_read.specs.Reading.Bytes.{vector_at}
+use Rattle.wc_read.specs.BodyOperators.{operators_left}
+use Rattle.wc_read.specs.Reading.Reader.{vector_at}
 use Rattle.wc_read.specs.Reading.Bodies.{locals_at}
 use Rattle.wc_read.proofs.DecodingLemmas.{body_after_locals, body_with_locals}
 use Rattle.wc_read.proofs.LocalRunsLemmas.{refused_locals, front_runs, keeps_read, keeps_text, keeps_no_types, keeps_exact, small_enough, rest_within}

@@ -1,7 +1,7 @@
 use Rattle.std.proofs.lemmas.Result.{err_from_is_err_and}
 use Rattle.wc_read.specs.Operators.{SpellsInstr}
-use Rattle.wc_read.specs.Reading.Operators.{instr_at}
-use Rattle.wc_read.specs.Decoding.{operators_left, bytes_left}
+use Rattle.wc_read.specs.Reading.Instructions.{instr_at}
+use Rattle.wc_read.specs.BodyOperators.{operators_left, bytes_left}
 use Rattle.wc_read.proofs.OperatorsLemmas.{instr_meets, instr_some}
 use Rattle.wc_read.proofs.ToEndLemmas.{to_shorter}
 use Rattle.wc_read.proofs.BodyOperatorsLemmas.{left_read, left_stopped, left_not_read}

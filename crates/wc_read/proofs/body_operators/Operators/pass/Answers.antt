@@ -1,6 +1,6 @@
 use Rattle.std.proofs.Common.{◌∙◌}
 use Rattle.wc_read.specs.Blocks.{open_blocks}
-use Rattle.wc_read.specs.Decoding.{operators_left, bytes_left}
+use Rattle.wc_read.specs.BodyOperators.{operators_left, bytes_left}
 use Rattle.wc_read.proofs.PassingLemmas.{passed_left, passed_text}
 use Rattle.wc_read.proofs.body_operators.Operators.pass.Goals as goal
 

@@ -1,7 +1,7 @@
 use Rattle.std.proofs.Common.{◌≡◌, ◌<◌, ◌≤◌, ◌^◌, ℕ, ◌+◌, ◌-◌, ◌*◌, ◌%◌, List, ◌∷◌, Some, arith}
 use Rattle.std.proofs.Math.Pow.{pow_mono}
 use Rattle.std.proofs.lemmas.Result.{err_from_is_err_and}
-use Rattle.wc_read.specs.Reading.Bytes.{byte_at}
+use Rattle.wc_read.specs.Reading.Reader.{byte_at}
 use Rattle.wc_read.proofs.NumbersLemmas.{IsSoFar, byte_cut, byte_none, number_fails, number_empty, number_end, number_high, number_too_long, number_step, shl_without_overflow, last_digits, last_below, fits_left, fits_if_shifted_out, high_if_not}
 use Rattle.wc_read.proofs.reader.Reader.digits.Goals as goal
 use Rattle.wc_read.proofs.reader.Reader.digits.Goals.{After-from, After-from-in-loop-byte, else-left-lt-GROUP_BITS-via-then-left-lt-GROUP_BITS+else-byte-left-ne0, else-left-lt-GROUP_BITS-via-else-left-lt-GROUP_BITS}

@@ -1,7 +1,7 @@
 use Rattle.std.proofs.Common.{Some, refl, sym, ◌∙◌, ap, rules}
 use Rattle.std.proofs.lemmas.Result.{err_from_is_err_and}
 use Rattle.wc_read.specs.Operators.{WithI32}
-use Rattle.wc_read.specs.Reading.Operators.{immediates_at}
+use Rattle.wc_read.specs.Reading.Instructions.{immediates_at}
 use Rattle.wc_read.proofs.OptionsLemmas.{bind_none, bind_some}
 use Rattle.wc_read.proofs.FrequentLemmas.{frequent_read, frequent_fails, some_first, gives_frequent}
 use Rattle.wc_read.proofs.reader.Reader.frequent.Goals as goal

@@ -1,7 +1,7 @@
 use Rattle.std.proofs.Common.{◌≡◌, ◌≤◌, ◌^◌, ℕ, ◌+◌, ◌-◌, ◌*◌, ◌%◌, List, ◌∷◌, Some, arith}
 use Rattle.std.proofs.Math.Pow.{pow_mono}
 use Rattle.std.proofs.lemmas.Result.{err_from_is_err_and}
-use Rattle.wc_read.specs.Reading.Bytes.{byte_at}
+use Rattle.wc_read.specs.Reading.Reader.{byte_at}
 use Rattle.wc_read.proofs.NumbersLemmas.{byte_cut, byte_none, shl_without_overflow}
 use Rattle.wc_read.proofs.SignedLoopLemmas.{IsSignedSoFar, signed_fails, signed_empty, signed_end, signed_too_long, signed_step, gives_or_none}
 use Rattle.wc_read.proofs.reader.Reader.signed.Goals as goal

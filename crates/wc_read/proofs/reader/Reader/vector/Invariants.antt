@@ -1,5 +1,5 @@
 use Rattle.std.proofs.Common.{◌-◌, map}
-use Rattle.wc_read.specs.Reading.Bytes.{vector_at}
+use Rattle.wc_read.specs.Reading.Reader.{vector_at}
 use Rattle.wc_read.proofs.CountedLemmas.{IsPartRead}
 use Rattle.wc_read.proofs.reader.Reader.vector.Given as goal
 

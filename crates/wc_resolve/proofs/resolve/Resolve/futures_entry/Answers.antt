@@ -1,7 +1,7 @@
 use Rattle.std.proofs.Common.{List, ap, map, subst}
 use Rattle.wc_resolve.specs.Futures.{AreFuturesEntries, entry_view}
 use Rattle.wc_resolve.specs.Views.{TypeView}
-use Rattle.wc_resolve.specs.World.{ResolveView}
+use Rattle.wc_resolve.specs.Kinds.{ResolveView}
 use Rattle.wc_resolve.proofs.FuturesEntryLemmas.{entry_read}
 use Rattle.wc_resolve.proofs.resolve.Resolve.futures_entry.Goals as goal
 

@@ -1,6 +1,6 @@
 use Rattle.std.proofs.Common.{sym, ap}
 use Rattle.wc_resolve.specs.Views.{function_view}
-use Rattle.wc_resolve.specs.World.{ResolveView}
+use Rattle.wc_resolve.specs.Kinds.{ResolveView}
 use Rattle.wc_resolve.proofs.ResolveLemmas.{usable}
 use Rattle.wc_resolve.proofs.resolve.Resolve.has_function.Goals as goal
 

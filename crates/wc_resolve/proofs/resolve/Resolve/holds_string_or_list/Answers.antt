@@ -1,7 +1,7 @@
 use Rattle.std.proofs.Common.{◌∙◌, Bool, List, true, ap, subst}
 use Rattle.wc_resolve.specs.Contents.{AreTextFlags, has_text, text_flag}
 use Rattle.wc_resolve.specs.Views.{TypeView}
-use Rattle.wc_resolve.specs.World.{ResolveView}
+use Rattle.wc_resolve.specs.Kinds.{ResolveView}
 use Rattle.wc_resolve.proofs.ContentLemmas.{type_settled}
 use Rattle.wc_resolve.proofs.resolve.Resolve.holds_string_or_list.Goals as goal
 

@@ -1,7 +1,7 @@
 use Rattle.std.proofs.Common.{List, [], ap, subst}
 use Rattle.wc_resolve.specs.Views.{TypeView}
-use Rattle.wc_resolve.specs.World.{ResolveView}
-use Rattle.wc_resolve.specs.Tables.{IsOrder}
+use Rattle.wc_resolve.specs.Kinds.{ResolveView}
+use Rattle.wc_resolve.specs.Validate.{IsOrder}
 use Rattle.wc_resolve.specs.Live.{listing_rule}
 use Rattle.wc_resolve.proofs.TypeRuleLemmas.{value_by_rule_alone, value_by_rule_follows}
 use Rattle.wc_resolve.proofs.ListingLemmas.{listing_looks_down}

@@ -1,8 +1,8 @@
 use Rattle.std.proofs.Common.{List, ◌∙◌, ap, subst, sym}
-use Rattle.wc_resolve.specs.Queries.{HasNoPackage}
-use Rattle.wc_resolve.specs.Tables.{AreNamesOf}
+use Rattle.wc_resolve.specs.Resolve.{HasNoPackage}
+use Rattle.wc_resolve.specs.Validate.{AreNamesOf}
 use Rattle.wc_resolve.specs.Views.{PackageView, package_name_view}
-use Rattle.wc_resolve.specs.World.{ResolveView}
+use Rattle.wc_resolve.specs.Kinds.{ResolveView}
 use Rattle.wc_resolve.proofs.PackagePositionLemmas.{names_at, none_then}
 use Rattle.wc_resolve.proofs.resolve.Resolve.package_named.Goals as goal
 

@@ -1,8 +1,8 @@
 use Rattle.std.proofs.Common.{List, false, ap, subst}
 use Rattle.wc_resolve.specs.Contents.{text_rule}
 use Rattle.wc_resolve.specs.Views.{TypeView}
-use Rattle.wc_resolve.specs.World.{ResolveView}
-use Rattle.wc_resolve.specs.Tables.{IsOrder}
+use Rattle.wc_resolve.specs.Kinds.{ResolveView}
+use Rattle.wc_resolve.specs.Validate.{IsOrder}
 use Rattle.wc_resolve.proofs.TypeRuleLemmas.{value_by_rule_alone, value_by_rule_follows}
 use Rattle.wc_resolve.proofs.ContentLemmas.{text_looks_down}
 use Rattle.wc_resolve.proofs.resolve.Resolve.texts_unique.Goals as goal

@@ -1,9 +1,9 @@
 use Rattle.std.proofs.Common.{◌≡◌, List, ap, ◌∙◌, subst}
 use Rattle.std.specs.Prelude.{IfOk}
 use Rattle.wc_resolve.specs.Flat.{flat_entry, lists}
-use Rattle.wc_resolve.specs.Signatures.{SignatureView, flatten_functype, signature_view}
+use Rattle.wc_resolve.specs.Signature.{SignatureView, flatten_functype, signature_view}
 use Rattle.wc_resolve.specs.Views.{TypeView, function_view}
-use Rattle.wc_resolve.specs.World.{ResolveView}
+use Rattle.wc_resolve.specs.Kinds.{ResolveView}
 use Rattle.wc_resolve.proofs.CoreSignatureLemmas.{core_settled}
 use Rattle.wc_resolve.specs.Flat.{AreFlattened}
 use Rattle.wc_resolve.proofs.resolve.Resolve.wasm_signature.Goals as goal

@@ -1,10 +1,10 @@
 use Rattle.std.proofs.Common.{map, subst}
 use Rattle.std.specs.List.{All}
 use Rattle.std.proofs.lemmas.List.{take_all}
-use Rattle.wc_resolve.specs.Places.{DoesInterfaceFollow}
+use Rattle.wc_resolve.specs.Explain.{DoesInterfaceFollow}
 use Rattle.wc_resolve.specs.ResolveParts.{parts_view}
 use Rattle.wc_resolve.specs.Views.{interface_view}
-use Rattle.wc_resolve.proofs.PlaceLemmas.{breach_found}
+use Rattle.wc_resolve.proofs.ExplainLemmas.{breach_found}
 use Rattle.wc_resolve.proofs.validate.first.first_interface.Goals as goal
 
 pub returns-then-not-interface_follows : goal.returns-then-not-interface_follows

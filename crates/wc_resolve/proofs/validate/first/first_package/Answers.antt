@@ -1,10 +1,10 @@
 use Rattle.std.proofs.Common.{◌↔◌, IsTrue, map, subst}
 use Rattle.std.specs.List.{All}
 use Rattle.std.proofs.lemmas.List.{take_all}
-use Rattle.wc_resolve.specs.Places.{DoesPackageFollow}
+use Rattle.wc_resolve.specs.Explain.{DoesPackageFollow}
 use Rattle.wc_resolve.specs.ResolveParts.{parts_view}
 use Rattle.wc_resolve.specs.Views.{package_view}
-use Rattle.wc_resolve.proofs.PlaceLemmas.{breach_found}
+use Rattle.wc_resolve.proofs.ExplainLemmas.{breach_found}
 use Rattle.wc_resolve.proofs.ViewedLemmas.{all_more}
 use Rattle.wc_resolve.proofs.validate.first.first_package.Goals as goal
 

@@ -1,6 +1,6 @@
 use Rattle.std.proofs.Common.{map, take}
 use Rattle.std.specs.List.{All}
-use Rattle.wc_resolve.specs.Places.{DoesPackageFollow}
+use Rattle.wc_resolve.specs.Explain.{DoesPackageFollow}
 use Rattle.wc_resolve.specs.ResolveParts.{parts_view}
 use Rattle.wc_resolve.specs.Views.{package_view}
 use Rattle.wc_resolve.proofs.validate.first.first_package.Given as goal

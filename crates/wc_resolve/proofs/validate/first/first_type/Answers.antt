@@ -1,10 +1,10 @@
 use Rattle.std.proofs.Common.{map, subst}
 use Rattle.std.specs.List.{All}
 use Rattle.std.proofs.lemmas.List.{take_all}
-use Rattle.wc_resolve.specs.Places.{DoesTypeFollow}
+use Rattle.wc_resolve.specs.Explain.{DoesTypeFollow}
 use Rattle.wc_resolve.specs.ResolveParts.{parts_view}
 use Rattle.wc_resolve.specs.Views.{type_view}
-use Rattle.wc_resolve.proofs.PlaceLemmas.{breach_found}
+use Rattle.wc_resolve.proofs.ExplainLemmas.{breach_found}
 use Rattle.wc_resolve.proofs.validate.first.first_type.Goals as goal
 
 pub returns-then-not-branch : goal.returns-then-not-branch

@@ -1,6 +1,6 @@
 use Rattle.std.proofs.Common.{map, take}
 use Rattle.std.specs.List.{All}
-use Rattle.wc_resolve.specs.Places.{DoesTypeFollow}
+use Rattle.wc_resolve.specs.Explain.{DoesTypeFollow}
 use Rattle.wc_resolve.specs.ResolveParts.{parts_view}
 use Rattle.wc_resolve.specs.Views.{type_view}
 use Rattle.wc_resolve.proofs.validate.first.first_type.Given as goal

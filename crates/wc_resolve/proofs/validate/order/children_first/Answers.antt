@@ -1,6 +1,6 @@
 use Rattle.std.proofs.Common.{◌<◌, map, length, rules}
 use Rattle.wc_resolve.specs.Views.{type_view}
-use Rattle.wc_resolve.specs.World.{children}
+use Rattle.wc_resolve.specs.Kinds.{children}
 use Rattle.wc_resolve.specs.declared.validate.order.IndexStep.TheVariants.{Enter, Leave}
 use Rattle.wc_resolve.proofs.SearchLemmas.{target, walk_start, in_bounds, within_types, left, skipped, cycle_closed, entered, weight_entered, weight_left}
 use Rattle.wc_resolve.proofs.validate.order.children_first.Goals as goal

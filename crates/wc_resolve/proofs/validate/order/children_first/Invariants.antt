@@ -1,6 +1,6 @@
 use Rattle.std.proofs.Common.{◌+◌, length, map}
 use Rattle.wc_resolve.specs.Views.{type_view}
-use Rattle.wc_resolve.specs.World.{children}
+use Rattle.wc_resolve.specs.Kinds.{children}
 use Rattle.wc_resolve.proofs.SearchLemmas.{IsWalk, weight}
 use Rattle.wc_resolve.proofs.validate.order.children_first.Given as goal
 

@@ -2,7 +2,7 @@ use Rattle.std.proofs.Common.{◌≡◌, ◌<◌, length, map, get_or, refl, sym
 use Rattle.std.proofs.lemmas.List.{length-map}
 use Rattle.std.proofs.lemmas.List.Elements.{Contains-get_or}
 use Rattle.wc_resolve.specs.Views.{type_view}
-use Rattle.wc_resolve.specs.World.{kind_at}
+use Rattle.wc_resolve.specs.Kinds.{kind_at}
 use Rattle.wc_resolve.specs.Resources.{is_resource_kind}
 use Rattle.wc_resolve.proofs.ResourceFlagLemmas.{resource_flags_start, resource_flags_step, resource_flags_end}
 use Rattle.wc_resolve.proofs.validate.resources.find_resources.Goals as goal

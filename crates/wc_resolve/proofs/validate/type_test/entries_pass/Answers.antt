@@ -1,6 +1,6 @@
 use Rattle.std.proofs.Common.{rules}
 use Rattle.wc_resolve.specs.Views.{world_entry}
-use Rattle.wc_resolve.specs.World.{DoesItemPass}
+use Rattle.wc_resolve.specs.Kinds.{DoesItemPass}
 use Rattle.wc_resolve.proofs.ViewedLemmas.{viewed}
 use Rattle.wc_resolve.proofs.validate.type_test.entries_pass.Goals as goal
 

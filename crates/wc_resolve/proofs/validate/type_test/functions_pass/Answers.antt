@@ -1,6 +1,6 @@
 use Rattle.std.proofs.Common.{rules}
 use Rattle.wc_resolve.specs.Views.{function_entry}
-use Rattle.wc_resolve.specs.World.{SignatureHasOnly}
+use Rattle.wc_resolve.specs.Kinds.{SignatureHasOnly}
 use Rattle.wc_resolve.proofs.ViewedLemmas.{viewed}
 use Rattle.wc_resolve.proofs.validate.type_test.functions_pass.Goals as goal
 

@@ -2,10 +2,10 @@ use Rattle.std.proofs.Common.{◌<◌, map, ◌∙◌, ap, Some, subst}
 use Rattle.wc_read.specs.Exports.{ExportValue, export_value}
 use Rattle.wc_read.specs.Modules.{count_of, module_value}
 use Rattle.wc_resolve.proofs.ViewedLemmas.{all_unviewed}
-use Rattle.wc_validate.specs.Private.Explained.{IsExportStopAt}
+use Rattle.wc_validate.specs.Private.Explain.{IsExportStopAt}
 use Rattle.wc_validate.specs.Private.Externs.{extern_view}
 use Rattle.wc_validate.proofs.BuiltinLemmas.{not_so}
-use Rattle.wc_validate.proofs.PlaceLemmas.{export_at, other_mismatch}
+use Rattle.wc_validate.proofs.ExplainLemmas.{export_at, other_mismatch}
 use Rattle.wc_validate.proofs.explain.exports.export_place.Goals as goal
 
 pub returns : goal.returns

@@ -2,9 +2,9 @@ use Rattle.std.proofs.Common.{[], ◌<◌}
 use Rattle.wc_read.specs.Exports.{ExportValue, export_value}
 use Rattle.wc_read.specs.Modules.{count_of, module_value}
 use Rattle.wc_resolve.proofs.ViewedLemmas.{all_unviewed}
-use Rattle.wc_validate.specs.NameScopes.{name_scope_of}
+use Rattle.wc_validate.specs.NameScope.{name_scope_of}
 use Rattle.wc_validate.proofs.ExportRecordLemmas.{no_exports}
-use Rattle.wc_validate.proofs.PlaceLemmas.{exports_passed, exports_stop}
+use Rattle.wc_validate.proofs.ExplainLemmas.{exports_passed, exports_stop}
 use Rattle.wc_validate.proofs.explain.exports.first_mismatched.Goals as goal
 
 pub loop-index-init : goal.loop-index-init

@@ -3,7 +3,7 @@ use Rattle.wc_read.specs.Exports.{export_value}
 use Rattle.wc_read.specs.Modules.{module_value}
 use Rattle.wc_validate.specs.Exports.Map.{ExportRecord}
 use Rattle.wc_validate.specs.Exports.Record.{AreExports, core_exports}
-use Rattle.wc_validate.specs.NameScopes.{name_scope_of}
+use Rattle.wc_validate.specs.NameScope.{name_scope_of}
 use Rattle.wc_validate.proofs.explain.exports.first_mismatched.Given as goal
 
 abbrev pub invariant-loop-index : goal.invariant-loop-index

@@ -1,7 +1,7 @@
 use Rattle.std.proofs.Common.{None, Some, ap, refl}
 use Rattle.std.specs.List.{filter_map}
 use Rattle.wc_read.specs.Types.{func_type_value}
-use Rattle.wc_validate.specs.Places.{an_export, missing_export}
+use Rattle.wc_validate.specs.Explain.{an_export, missing_export}
 use Rattle.wc_validate.specs.Requirements.{typed_name}
 use Rattle.wc_validate.proofs.ExportedFunctionLemmas.{typed_found}
 use Rattle.wc_validate.proofs.MissingLemmas.{difference_is, lack_missing, lack_retyped}

@@ -1,4 +1,4 @@
-use Rattle.wc_validate.proofs.PlaceLemmas.{named_entry}
+use Rattle.wc_validate.proofs.ExplainLemmas.{named_entry}
 use Rattle.wc_validate.proofs.explain.imports.adapter_function.Goals as goal
 
 pub returns-in-None : goal.returns-in-None

@@ -1,5 +1,5 @@
 use Rattle.wc_validate.specs.Private.Imports.Contexts.{import_scope}
-use Rattle.wc_validate.proofs.PlaceLemmas.{recorded_all, recorded_more, stop_at}
+use Rattle.wc_validate.proofs.ExplainLemmas.{recorded_all, recorded_more, stop_at}
 use Rattle.wc_validate.proofs.explain.imports.first_refused.Goals as goal
 
 pub returns-in-Err-clause-refused : goal.returns-in-Err-clause-refused

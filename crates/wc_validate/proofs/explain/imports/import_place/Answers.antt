@@ -3,10 +3,10 @@ use Rattle.std.specs.Option.{option_map}
 use Rattle.std.proofs.lemmas.List.Elements.{All-get_or, All-take}
 use Rattle.wc_read.specs.declared.types.Import.{Import}
 use Rattle.wc_read.specs.Imports.{import_values}
-use Rattle.wc_validate.specs.Places.{difference_view}
+use Rattle.wc_validate.specs.Explain.{difference_view}
 use Rattle.wc_validate.specs.Private.Imports.Contexts.{IsTypeIn, import_scope}
 use Rattle.wc_validate.proofs.BuiltinLemmas.{not_so}
-use Rattle.wc_validate.proofs.PlaceLemmas.{other_at, place_at}
+use Rattle.wc_validate.proofs.ExplainLemmas.{other_at, place_at}
 use Rattle.wc_validate.proofs.explain.imports.import_place.Goals as goal
 
 pub returns : goal.returns

@@ -1,6 +1,6 @@
 use Rattle.std.proofs.Common.{Some, subst, sym}
-use Rattle.wc_validate.specs.Private.Explained.{AreTypesIn}
-use Rattle.wc_validate.proofs.PlaceLemmas.{types_none}
+use Rattle.wc_validate.specs.Private.Explain.{AreTypesIn}
+use Rattle.wc_validate.proofs.ExplainLemmas.{types_none}
 use Rattle.wc_validate.proofs.explain.imports.import_types.Goals as goal
 
 pub returns-in_ok-mismatched_types-in-SignatureMismatch : goal.returns-in_ok-mismatched_types-in-SignatureMismatch

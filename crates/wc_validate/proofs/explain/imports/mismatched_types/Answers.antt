@@ -1,6 +1,6 @@
 use Rattle.std.proofs.Common.{length, subst}
 use Rattle.wc_validate.specs.Private.Imports.Contexts.{IsClassifiedIn, IsTypeIn}
-use Rattle.wc_validate.proofs.PlaceLemmas.{mismatched_at}
+use Rattle.wc_validate.proofs.ExplainLemmas.{mismatched_at}
 use Rattle.wc_validate.proofs.explain.imports.mismatched_types.Goals as goal
 
 pub returns : goal.returns

@@ -1,6 +1,6 @@
 use Rattle.wc_read.specs.Types.{func_type_value}
 use Rattle.wc_validate.proofs.AdapterTypeLemmas.{type_test}
-use Rattle.wc_validate.proofs.PlaceLemmas.{differing_at}
+use Rattle.wc_validate.proofs.ExplainLemmas.{differing_at}
 use Rattle.wc_validate.proofs.explain.imports.types_after.Goals as goal
 
 pub returns : goal.returns

@@ -1,6 +1,6 @@
 use Rattle.std.proofs.Common.{map}
 use Rattle.wc_resolve.specs.Views.{key_view, world_entry}
-use Rattle.wc_validate.specs.Places.{subject_view}
+use Rattle.wc_validate.specs.Explain.{subject_view}
 use Rattle.wc_validate.proofs.BuiltinLemmas.{not_so}
 use Rattle.wc_validate.proofs.MissingLemmas.{key_other, key_placed, key_reached}
 use Rattle.wc_validate.proofs.explain.keys.key_place.Goals as goal

@@ -1,7 +1,7 @@
 use Rattle.std.proofs.Common.{inl, inr, refl}
-use Rattle.wc_names.specs.Schemes.{legacy, standard}
+use Rattle.wc_names.specs.Mangling.{legacy, standard}
 use Rattle.wc_validate.specs.Private.Externs.{extern_view}
-use Rattle.wc_validate.specs.NameScopes.{name_scope_of}
+use Rattle.wc_validate.specs.NameScope.{name_scope_of}
 use Rattle.wc_validate.proofs.ExportKindLemmas.{by_any_type, by_none, by_scheme_read, legacy_rejected}
 use Rattle.wc_validate.proofs.exports.classify.classify_export.Goals as goal
 

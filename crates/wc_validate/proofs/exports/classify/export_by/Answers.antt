@@ -1,8 +1,8 @@
-use Rattle.wc_validate.specs.NameScopes.{name_scope_of}
+use Rattle.wc_validate.specs.NameScope.{name_scope_of}
 use Rattle.wc_validate.proofs.ExportKindLemmas.{no_global}
 use Rattle.wc_validate.proofs.ClassificationLemmas.{classified_nothing}
 use Rattle.wc_validate.specs.Classifications.{of_exports}
-use Rattle.wc_validate.specs.Faults.{fault_kind}
+use Rattle.wc_validate.specs.Fault.{fault_kind}
 use Rattle.wc_validate.proofs.exports.classify.export_by.Goals as goal
 
 pub returns-in-Func : goal.returns-in-Func

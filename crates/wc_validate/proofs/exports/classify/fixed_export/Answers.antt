@@ -10,7 +10,7 @@ use Rattle.wc_validate.proofs.ExportKindLemmas.{some_is}
 use Rattle.wc_validate.proofs.IntrinsicLemmas.{not_found}
 use Rattle.wc_validate.proofs.ClassificationLemmas.{classified_export, classified_nothing}
 use Rattle.wc_validate.specs.Classifications.{of_exports}
-use Rattle.wc_validate.specs.Faults.{fault_kind}
+use Rattle.wc_validate.specs.Fault.{fault_kind}
 use Rattle.wc_validate.proofs.exports.classify.fixed_export.Goals as goal
 
 pub returns-then-eq : goal.returns-then-eq

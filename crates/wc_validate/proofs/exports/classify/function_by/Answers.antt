@@ -3,11 +3,11 @@ use Rattle.wc_read.specs.Types.{func_type_value}
 use Rattle.wc_names.specs.Exports.{IsExportKind, function_table, memory}
 use Rattle.wc_names.specs.Imports.{func_type}
 use Rattle.wc_validate.specs.Private.Exports.Classify.{fixed_kinds, named_kinds}
-use Rattle.wc_validate.specs.NameScopes.{name_scope_of}
+use Rattle.wc_validate.specs.NameScope.{name_scope_of}
 use Rattle.wc_validate.proofs.ExportKindLemmas.{no_other}
 use Rattle.wc_validate.proofs.ClassificationLemmas.{group_passed, group_skipped, group_none, group_some}
 use Rattle.wc_validate.specs.Classifications.{of_exports}
-use Rattle.wc_validate.specs.Faults.{fault_kind}
+use Rattle.wc_validate.specs.Fault.{fault_kind}
 use Rattle.wc_validate.proofs.exports.classify.function_by.Goals as goal
 
 pub returns-in_err-fixed : goal.returns-in_err-fixed

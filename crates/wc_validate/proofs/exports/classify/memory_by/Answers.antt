@@ -4,7 +4,7 @@ use Rattle.wc_validate.proofs.BuiltinLemmas.{not_equal}
 use Rattle.wc_validate.proofs.ExportKindLemmas.{no_memory}
 use Rattle.wc_validate.proofs.ClassificationLemmas.{classified_nothing, classified_unchecked}
 use Rattle.wc_validate.specs.Classifications.{of_exports}
-use Rattle.wc_validate.specs.Faults.{fault_kind}
+use Rattle.wc_validate.specs.Fault.{fault_kind}
 use Rattle.wc_validate.proofs.exports.classify.memory_by.Goals as goal
 
 pub returns-then-eq : goal.returns-then-eq

@@ -3,7 +3,7 @@ use Rattle.wc_names.specs.ExportViews.{export_target}
 use Rattle.wc_validate.proofs.ExportKindLemmas.{is_callback_of, no_callback, no_callback_of}
 use Rattle.wc_validate.proofs.ClassificationLemmas.{classified_failed, export_made, classified_nothing}
 use Rattle.wc_validate.specs.Classifications.{of_exports}
-use Rattle.wc_validate.specs.Faults.{fault_kind}
+use Rattle.wc_validate.specs.Fault.{fault_kind}
 use Rattle.std.proofs.Common.{refl}
 use Rattle.wc_validate.proofs.exports.classify.named_callback.Goals as goal
 

@@ -2,7 +2,7 @@ use Rattle.wc_read.specs.Types.{func_type_value}
 use Rattle.wc_validate.proofs.ExportKindLemmas.{is_destructor_of, no_destructor}
 use Rattle.wc_validate.proofs.ClassificationLemmas.{classified_export, classified_nothing}
 use Rattle.wc_validate.specs.Classifications.{of_exports}
-use Rattle.wc_validate.specs.Faults.{fault_kind}
+use Rattle.wc_validate.specs.Fault.{fault_kind}
 use Rattle.wc_validate.proofs.exports.classify.named_destructor.Goals as goal
 
 pub returns-in_default : goal.returns-in_default

@@ -2,10 +2,10 @@ use Rattle.std.proofs.Common.{[], ◌∷◌, ◌∙◌, sym}
 use Rattle.wc_read.specs.Types.{func_type_value}
 use Rattle.wc_names.specs.Exports.{IsExportKind, callback, destructor, function, post_return}
 use Rattle.wc_names.specs.Imports.{func_type}
-use Rattle.wc_validate.specs.NameScopes.{name_scope_of}
+use Rattle.wc_validate.specs.NameScope.{name_scope_of}
 use Rattle.wc_validate.proofs.ClassificationLemmas.{group_passed, group_none, group_some, classified_alone}
 use Rattle.wc_validate.specs.Classifications.{of_exports}
-use Rattle.wc_validate.specs.Faults.{fault_kind}
+use Rattle.wc_validate.specs.Fault.{fault_kind}
 use Rattle.wc_validate.proofs.exports.classify.named_export.Goals as goal
 
 pub returns-in_err-function : goal.returns-in_err-function

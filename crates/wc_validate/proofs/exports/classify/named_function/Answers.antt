@@ -3,12 +3,12 @@ use Rattle.wc_read.specs.Types.{func_type_value}
 use Rattle.wc_names.specs.Exports.{function_export}
 use Rattle.wc_names.specs.ExportViews.{export_target}
 use Rattle.wc_names.specs.Imports.{function_type}
-use Rattle.wc_validate.specs.NameScopes.{name_scope_of}
+use Rattle.wc_validate.specs.NameScope.{name_scope_of}
 use Rattle.wc_validate.proofs.BuiltinLemmas.{not_so}
 use Rattle.wc_validate.proofs.ExportKindLemmas.{is_function_of, no_function_of, target_usable}
 use Rattle.wc_validate.proofs.ClassificationLemmas.{classified_failed, export_made, export_mismatch, classified_nothing}
 use Rattle.wc_validate.specs.Classifications.{of_exports}
-use Rattle.wc_validate.specs.Faults.{fault_kind}
+use Rattle.wc_validate.specs.Fault.{fault_kind}
 use Rattle.wc_validate.proofs.exports.classify.named_function.Goals as goal
 
 pub returns-in_err-target : goal.returns-in_err-target

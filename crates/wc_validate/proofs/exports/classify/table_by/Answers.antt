@@ -5,7 +5,7 @@ use Rattle.wc_validate.proofs.ExportKindLemmas.{no_memory_table, no_table, some_
 use Rattle.wc_validate.proofs.IntrinsicLemmas.{not_found}
 use Rattle.wc_validate.proofs.ClassificationLemmas.{classified_nothing, classified_unchecked}
 use Rattle.wc_validate.specs.Classifications.{of_exports}
-use Rattle.wc_validate.specs.Faults.{fault_kind}
+use Rattle.wc_validate.specs.Fault.{fault_kind}
 use Rattle.wc_validate.proofs.exports.classify.table_by.Goals as goal
 
 pub returns-in_default : goal.returns-in_default

@@ -1,7 +1,7 @@
 use Rattle.wc_validate.specs.Exports.Contexts.{core_export}
 use Rattle.wc_validate.specs.Private.Externs.{extern_view}
 use Rattle.wc_validate.specs.Exports.Record.{IsExportFault}
-use Rattle.wc_validate.specs.NameScopes.{name_scope_of}
+use Rattle.wc_validate.specs.NameScope.{name_scope_of}
 use Rattle.wc_validate.proofs.ExportRecordLemmas.{entry_fault, entry_none, entry_some, recorded_new, recorded_nothing}
 use Rattle.wc_validate.proofs.RecorderLemmas.{passed}
 use Rattle.wc_validate.proofs.exports.record.record_export.Goals as goal

@@ -4,7 +4,7 @@ use Rattle.wc_read.specs.Modules.{count_of, module_value}
 use Rattle.wc_resolve.proofs.ViewedLemmas.{all_unviewed}
 use Rattle.wc_validate.specs.Exports.Map.{export_entry}
 use Rattle.wc_validate.specs.Exports.Record.{IsExportsFault, core_exports}
-use Rattle.wc_validate.specs.NameScopes.{name_scope_of}
+use Rattle.wc_validate.specs.NameScope.{name_scope_of}
 use Rattle.wc_validate.proofs.ExportRecordLemmas.{ExportProgress, exports_end, exports_fault, exports_next, exports_next_fresh, exports_start, values_end, values_next}
 use Rattle.wc_validate.proofs.RecorderLemmas.{passed}
 use Rattle.wc_validate.proofs.exports.record.record_exports.Goals as goal

@@ -2,7 +2,7 @@ use Rattle.std.proofs.Common.{drop, map}
 use Rattle.wc_read.specs.Exports.{export_value}
 use Rattle.wc_read.specs.Modules.{module_value}
 use Rattle.wc_validate.specs.Exports.Map.{export_entry}
-use Rattle.wc_validate.specs.NameScopes.{name_scope_of}
+use Rattle.wc_validate.specs.NameScope.{name_scope_of}
 use Rattle.wc_validate.proofs.ExportRecordLemmas.{ExportProgress}
 use Rattle.wc_validate.proofs.exports.record.record_exports.Given as goal
 

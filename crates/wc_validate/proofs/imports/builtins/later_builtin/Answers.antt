@@ -1,6 +1,6 @@
 use Rattle.std.proofs.Common.{refl}
 use Rattle.wc_names.specs.Views.{error_context_new, error_context_debug_message, context_get, context_set}
-use Rattle.wc_validate.specs.Faults.{fault_kind}
+use Rattle.wc_validate.specs.Fault.{fault_kind}
 use Rattle.wc_validate.proofs.ClassificationLemmas.{classified_import}
 use Rattle.wc_validate.proofs.BuiltinLemmas.{later_of_threads}
 use Rattle.wc_validate.proofs.imports.builtins.later_builtin.Goals as goal

@@ -1,6 +1,6 @@
 use Rattle.std.proofs.Common.{refl}
 use Rattle.wc_names.specs.Views.{error_context_drop, backpressure_inc, backpressure_dec, waitable_set_new, waitable_set_wait, waitable_set_poll, waitable_set_drop, waitable_join, subtask_drop, subtask_cancel}
-use Rattle.wc_validate.specs.Faults.{fault_kind}
+use Rattle.wc_validate.specs.Fault.{fault_kind}
 use Rattle.wc_validate.proofs.ClassificationLemmas.{classified_import}
 use Rattle.wc_validate.proofs.BuiltinLemmas.{any_of_later, not_so}
 use Rattle.wc_validate.proofs.imports.builtins.root_builtin.Goals as goal

@@ -2,7 +2,7 @@ use Rattle.std.proofs.Common.{Some, ap, ◌∙◌}
 use Rattle.wc_names.specs.Builtins.{builtin_type}
 use Rattle.wc_names.specs.Meanings.{means}
 use Rattle.wc_validate.specs.Private.Imports.Builtins.{thread_type}
-use Rattle.wc_validate.specs.Faults.{fault_kind}
+use Rattle.wc_validate.specs.Fault.{fault_kind}
 use Rattle.wc_validate.proofs.ClassificationLemmas.{classified_import, classified_nothing}
 use Rattle.wc_validate.proofs.BuiltinLemmas.{thread_signature}
 use Rattle.wc_validate.specs.Classifications.{of_imports}

@@ -2,7 +2,7 @@ use Rattle.std.proofs.Common.{refl, sym, subst}
 use Rattle.wc_names.specs.Imports.{table_type, global_type}
 use Rattle.wc_validate.specs.Private.Externs.{extern_view}
 use Rattle.wc_validate.specs.Imports.Classify.{IsClassified, core_import}
-use Rattle.wc_validate.specs.NameScopes.{name_scope_of}
+use Rattle.wc_validate.specs.NameScope.{name_scope_of}
 use Rattle.wc_validate.proofs.imports.classify.classify.Goals as goal
 
 pub returns-in-Func : goal.returns-in-Func

@@ -4,7 +4,7 @@ use Rattle.std.proofs.lemmas.Slice.Eq.{bytes_eq-Decides}
 use Rattle.wc_read.specs.Types.{func_type_value}
 use Rattle.wc_names.specs.Environment.{environment_module}
 use Rattle.wc_validate.proofs.ClassificationLemmas.{classified_nothing}
-use Rattle.wc_validate.specs.Faults.{fault_kind}
+use Rattle.wc_validate.specs.Fault.{fault_kind}
 use Rattle.wc_validate.specs.declared.name_fault.NameFault.TheVariants.{TypedReference}
 use Rattle.wc_validate.proofs.BuiltinLemmas.{not_equal}
 use Rattle.wc_validate.proofs.ImportSchemeLemmas.{kept_environment, no_environment}

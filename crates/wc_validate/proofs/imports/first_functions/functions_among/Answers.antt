@@ -1,29 +1,29 @@
 use Rattle.std.proofs.Common.{arith}
-use Rattle.wc_validate.proofs.FirstFunctionLemmas.{HasPlaced, placed_more, placed_none}
-use Rattle.wc_validate.proofs.FirstPositionLemmas.{placed_end, placed_fits, placed_next, placed_start}
+use Rattle.wc_validate.proofs.FirstFunctionLemmas.{HasPositions, positions_more, positions_none}
+use Rattle.wc_validate.proofs.FirstPositionLemmas.{position_end, position_fits, position_next, position_start}
 use Rattle.wc_validate.proofs.imports.first_functions.functions_among.Goals as goal
 
 pub loop-name-init : goal.loop-name-init
 loop-name-init c =
-    placed_start HasPlaced c.args.names.now.entries c.iter-name-items.result c.into_iter-name-iterator.result _ c.with_hasher-positions.result.entries
+    position_start HasPositions c.args.names.now.entries c.iter-name-items.result c.into_iter-name-iterator.result _ c.with_hasher-positions.result.entries
     c.into_iter-name-iterator.ensures.into_iter_gives
     c.iter-name-items.ensures.rest c.iter-name-items.ensures.len c.iter-name-items.ensures.fits
-    (placed_none c.with_hasher-positions.result.entries c.with_hasher-positions.ensures.empty)
+    (positions_none c.with_hasher-positions.result.entries c.with_hasher-positions.ensures.empty)
 
 pub overflow_add-position : goal.overflow_add-position
 overflow_add-position c =
-    let bound = placed_fits HasPlaced c.args.names.now.entries c.loop-name._name-iterator c.loop-name.positions.entries c.loop-name.position
+    let bound = position_fits HasPositions c.args.names.now.entries c.loop-name._name-iterator c.loop-name.positions.entries c.loop-name.position
     c.loop-name.invariant in omega (arith, bound)
 
 pub loop-name-preserved : goal.loop-name-preserved
 loop-name-preserved c =
-    placed_next HasPlaced c.args.names.now.entries c.loop-name._name-iterator c.next.new.self (c.in-Some._name.now, c.in-Some.import.now)
+    position_next HasPositions c.args.names.now.entries c.loop-name._name-iterator c.next.new.self (c.in-Some._name.now, c.in-Some.import.now)
     c.loop-name.positions.entries c.keep_function.new.positions.entries c.loop-name.position c.loop-name.invariant
     c.in-Some.ensures.steps
-    (placed_more c.loop-name.invariant.passed (c.in-Some._name.now, c.in-Some.import.now)
+    (positions_more c.loop-name.invariant.passed (c.in-Some._name.now, c.in-Some.import.now)
     c.loop-name.positions.entries c.keep_function.new.positions.entries c.loop-name.position c.in_ok-keep_function.ensures)
 
 pub returns : goal.returns
 returns c =
-    (placed_end HasPlaced c.args.names.now.entries c.loop-name._name-iterator c.loop-name.positions.entries c.loop-name.position c.loop-name.invariant
+    (position_end HasPositions c.args.names.now.entries c.loop-name._name-iterator c.loop-name.positions.entries c.loop-name.position c.loop-name.invariant
     c.in-None.ensures.steps.0).0

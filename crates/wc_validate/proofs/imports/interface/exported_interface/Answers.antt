@@ -3,8 +3,8 @@ use Rattle.wc_resolve.specs.Views.{key_view}
 use Rattle.wc_names.specs.Meanings.{unknown_interface}
 use Rattle.wc_validate.proofs.ClassificationLemmas.{classified_refused}
 use Rattle.wc_validate.specs.declared.name_fault.NameFault.TheVariants.{UnknownInterface}
-use Rattle.wc_validate.specs.Faults.{fault_kind}
-use Rattle.wc_validate.specs.NameScopes.{lookup_name_scope}
+use Rattle.wc_validate.specs.Fault.{fault_kind}
+use Rattle.wc_validate.specs.NameScope.{lookup_name_scope}
 use Rattle.wc_validate.proofs.ImportInterfaceLemmas.{found_in_range}
 use Rattle.wc_validate.proofs.ScopeLemmas.{keys_in_range}
 use Rattle.wc_validate.proofs.StageLemmas.{failed, still_err}

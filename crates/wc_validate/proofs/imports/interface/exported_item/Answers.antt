@@ -2,13 +2,13 @@ use Rattle.std.proofs.Common.{◌∷◌, ◌++◌, [], map, false, refl}
 use Rattle.wc_read.specs.Types.{func_type_value}
 use Rattle.wc_names.specs.Imports.{IsKind, export_unknown, export_intrinsic, export_other_name}
 use Rattle.wc_names.specs.Meanings.{unknown_intrinsic}
-use Rattle.wc_names.specs.Schemes.{export_prefix, interface_prefix}
+use Rattle.wc_names.specs.Mangling.{export_prefix, interface_prefix}
 use Rattle.wc_names.specs.WitIntrinsics.{wit_intrinsics}
 use Rattle.wc_validate.proofs.ClassificationLemmas.{group_some, group_none, classified_last, classified_next}
 use Rattle.wc_validate.specs.declared.name_fault.NameFault.TheVariants.{UnknownIntrinsic}
-use Rattle.wc_validate.specs.Faults.{fault_kind}
+use Rattle.wc_validate.specs.Fault.{fault_kind}
 use Rattle.wc_validate.specs.Private.Imports.Interface.{found_view}
-use Rattle.wc_validate.specs.NameScopes.{imported_function, name_scope_of}
+use Rattle.wc_validate.specs.NameScope.{imported_function, name_scope_of}
 use Rattle.wc_validate.proofs.FoundLemmas.{export_known, of_export_intrinsics}
 use Rattle.wc_validate.proofs.ImportInterfaceLemmas.{id_in_range}
 use Rattle.wc_validate.proofs.StageLemmas.{stages_err, still_err}

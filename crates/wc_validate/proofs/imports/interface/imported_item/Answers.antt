@@ -2,13 +2,13 @@ use Rattle.std.proofs.Common.{◌∷◌, ◌++◌, [], map, true, refl}
 use Rattle.wc_read.specs.Types.{func_type_value}
 use Rattle.wc_names.specs.Imports.{IsKind, interface_unknown, interface_function, interface_intrinsic, interface_other_name}
 use Rattle.wc_names.specs.Meanings.{missing_function}
-use Rattle.wc_names.specs.Schemes.{interface_prefix}
+use Rattle.wc_names.specs.Mangling.{interface_prefix}
 use Rattle.wc_names.specs.WitIntrinsics.{wit_intrinsics}
 use Rattle.wc_validate.proofs.ClassificationLemmas.{group_some, group_none, classified_last, classified_next, classified_none, classified_some}
 use Rattle.wc_validate.specs.declared.name_fault.NameFault.TheVariants.{MissingFunction}
-use Rattle.wc_validate.specs.Faults.{fault_kind}
+use Rattle.wc_validate.specs.Fault.{fault_kind}
 use Rattle.wc_validate.specs.Private.Imports.Interface.{found_view}
-use Rattle.wc_validate.specs.NameScopes.{imported_function, name_scope_of}
+use Rattle.wc_validate.specs.NameScope.{imported_function, name_scope_of}
 use Rattle.wc_validate.proofs.FoundLemmas.{import_known, of_interface_function, of_interface_intrinsics}
 use Rattle.wc_validate.proofs.ImportInterfaceLemmas.{id_in_range}
 use Rattle.wc_validate.proofs.StageLemmas.{stage_err, stages_err, still_err}

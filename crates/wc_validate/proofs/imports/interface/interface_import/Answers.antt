@@ -1,11 +1,11 @@
 use Rattle.std.proofs.Common.{◌++◌, inl, refl, ap, ◌∙◌}
 use Rattle.wc_read.specs.Types.{func_type_value}
 use Rattle.wc_names.specs.Meanings.{bad_syntax}
-use Rattle.wc_names.specs.Schemes.{interface_prefix, export_prefix}
+use Rattle.wc_names.specs.Mangling.{interface_prefix, export_prefix}
 use Rattle.wc_validate.proofs.ClassificationLemmas.{classified_refused}
 use Rattle.wc_validate.specs.declared.name_fault.NameFault.TheVariants.{BadSyntax}
-use Rattle.wc_validate.specs.Faults.{fault_kind}
-use Rattle.wc_validate.specs.NameScopes.{lookup_name_scope}
+use Rattle.wc_validate.specs.Fault.{fault_kind}
+use Rattle.wc_validate.specs.NameScope.{lookup_name_scope}
 use Rattle.wc_validate.proofs.ImportSchemeLemmas.{begins, begins_not, of_export_module, of_import_module}
 use Rattle.wc_validate.proofs.FoundLemmas.{no_export}
 use Rattle.wc_validate.specs.Classifications.{of_imports}

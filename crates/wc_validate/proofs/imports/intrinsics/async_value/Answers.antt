@@ -5,7 +5,7 @@ use Rattle.wc_names.specs.Meanings.{means}
 use Rattle.wc_names.specs.Views.{async_value}
 use Rattle.wc_validate.proofs.ClassificationLemmas.{classified_import, classified_nothing}
 use Rattle.wc_validate.specs.Private.Imports.Builtins.{async_value_type}
-use Rattle.wc_validate.specs.Faults.{fault_kind}
+use Rattle.wc_validate.specs.Fault.{fault_kind}
 use Rattle.wc_validate.proofs.ScopeLemmas.{world_in_range}
 use Rattle.wc_validate.proofs.StageLemmas.{failed}
 use Rattle.wc_validate.specs.Classifications.{of_imports}

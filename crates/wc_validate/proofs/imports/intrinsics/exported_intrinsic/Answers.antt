@@ -1,8 +1,8 @@
 use Rattle.std.proofs.Common.{◌∷◌, [], refl}
-use Rattle.wc_names.specs.Schemes.{resource_drop, resource_new, resource_rep}
+use Rattle.wc_names.specs.Mangling.{resource_drop, resource_new, resource_rep}
 use Rattle.wc_names.specs.WitIntrinsics.{of_resource, task_return, no_task_return, task_cancel, of_async_value}
 use Rattle.wc_validate.proofs.ClassificationLemmas.{classified_some, classified_none}
-use Rattle.wc_validate.specs.Faults.{fault_kind}
+use Rattle.wc_validate.specs.Fault.{fault_kind}
 use Rattle.wc_validate.specs.Private.Imports.Kinds.{IsIntrinsic}
 use Rattle.wc_validate.specs.Private.Imports.Lookups.{lookup_scope}
 use Rattle.wc_validate.proofs.StageLemmas.{stage_err}

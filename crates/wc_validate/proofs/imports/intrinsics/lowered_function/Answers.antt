@@ -4,7 +4,7 @@ use Rattle.wc_names.specs.Contexts.{context_scope}
 use Rattle.wc_names.specs.Imports.{function_type}
 use Rattle.wc_names.specs.Meanings.{means}
 use Rattle.wc_validate.proofs.ClassificationLemmas.{classified_import, classified_mismatch, classified_nothing}
-use Rattle.wc_validate.specs.Faults.{fault_kind}
+use Rattle.wc_validate.specs.Fault.{fault_kind}
 use Rattle.wc_validate.specs.Private.Imports.Kinds.{function_import}
 use Rattle.wc_validate.proofs.BuiltinLemmas.{not_so}
 use Rattle.wc_validate.proofs.IntrinsicLemmas.{not_found}

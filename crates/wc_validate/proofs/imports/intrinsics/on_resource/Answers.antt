@@ -1,6 +1,6 @@
 use Rattle.std.proofs.Common.{sym, ◌∙◌}
 use Rattle.wc_validate.proofs.ClassificationLemmas.{classified_import, classified_nothing}
-use Rattle.wc_validate.specs.Faults.{fault_kind}
+use Rattle.wc_validate.specs.Fault.{fault_kind}
 use Rattle.wc_validate.specs.Private.Imports.Intrinsics.{operation_of}
 use Rattle.wc_validate.proofs.IntrinsicLemmas.{not_found, same_meaning, with_result, without_result}
 use Rattle.wc_validate.proofs.StageLemmas.{failed}

@@ -1,6 +1,6 @@
-use Rattle.wc_names.specs.Schemes.{resource_drop}
+use Rattle.wc_names.specs.Mangling.{resource_drop}
 use Rattle.wc_validate.proofs.ClassificationLemmas.{classified_nothing}
-use Rattle.wc_validate.specs.Faults.{fault_kind}
+use Rattle.wc_validate.specs.Fault.{fault_kind}
 use Rattle.wc_validate.specs.Private.Imports.Lookups.{lookup_scope}
 use Rattle.wc_validate.proofs.IntrinsicLemmas.{of_named_resource}
 use Rattle.wc_validate.specs.Classifications.{of_imports}

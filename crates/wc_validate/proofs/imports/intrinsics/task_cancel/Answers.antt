@@ -1,6 +1,6 @@
 use Rattle.std.proofs.Common.{refl}
 use Rattle.wc_validate.proofs.ClassificationLemmas.{classified_import, classified_nothing}
-use Rattle.wc_validate.specs.Faults.{fault_kind}
+use Rattle.wc_validate.specs.Fault.{fault_kind}
 use Rattle.wc_validate.proofs.BuiltinLemmas.{not_so}
 use Rattle.wc_validate.specs.Classifications.{of_imports}
 use Rattle.wc_validate.proofs.imports.intrinsics.task_cancel.Goals as goal

@@ -1,7 +1,7 @@
 use Rattle.std.proofs.Common.{◌∷◌, [], refl}
 use Rattle.wc_names.specs.WitIntrinsics.{task_return, no_task_return, task_cancel, of_async_value}
 use Rattle.wc_validate.proofs.ClassificationLemmas.{classified_some, classified_none, group_some, group_none}
-use Rattle.wc_validate.specs.Faults.{fault_kind}
+use Rattle.wc_validate.specs.Fault.{fault_kind}
 use Rattle.wc_validate.specs.Private.Imports.Kinds.{IsIntrinsic}
 use Rattle.wc_validate.specs.Private.Imports.Lookups.{lookup_scope}
 use Rattle.wc_validate.proofs.StageLemmas.{one_stage, stage_err, stages_err}

@@ -3,7 +3,7 @@ use Rattle.wc_resolve.specs.Views.{function_view}
 use Rattle.wc_names.specs.Meanings.{no_such_export}
 use Rattle.wc_validate.proofs.ClassificationLemmas.{classified_nothing, classified_refused, classified_unchecked}
 use Rattle.wc_validate.specs.declared.name_fault.NameFault.TheVariants.{NoSuchExport}
-use Rattle.wc_validate.specs.Faults.{fault_kind}
+use Rattle.wc_validate.specs.Fault.{fault_kind}
 use Rattle.wc_validate.specs.Private.Imports.Lookups.{lookup_scope}
 use Rattle.wc_validate.proofs.IntrinsicLemmas.{no_task, is_task, is_no_task, same_task}
 use Rattle.wc_validate.proofs.StageLemmas.{failed}

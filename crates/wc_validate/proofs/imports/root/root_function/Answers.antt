@@ -1,6 +1,6 @@
 use Rattle.wc_read.specs.Types.{func_type_value}
-use Rattle.wc_validate.specs.Faults.{fault_kind}
-use Rattle.wc_validate.specs.NameScopes.{name_scope_of}
+use Rattle.wc_validate.specs.Fault.{fault_kind}
+use Rattle.wc_validate.specs.NameScope.{name_scope_of}
 use Rattle.wc_validate.proofs.ImportRootLemmas.{of_root_function}
 use Rattle.wc_validate.proofs.imports.root.root_function.Goals as goal
 

@@ -1,11 +1,11 @@
 use Rattle.std.proofs.Common.{◌∷◌, refl}
 use Rattle.wc_read.specs.Types.{func_type_value}
 use Rattle.wc_names.specs.Imports.{IsKind, root_builtin, root_function}
-use Rattle.wc_names.specs.Schemes.{root_module}
+use Rattle.wc_names.specs.Mangling.{root_module}
 use Rattle.wc_validate.proofs.ClassificationLemmas.{classified_some, classified_none}
-use Rattle.wc_validate.specs.Faults.{fault_kind}
+use Rattle.wc_validate.specs.Fault.{fault_kind}
 use Rattle.wc_validate.specs.Private.Imports.Kinds.{other_root_kinds}
-use Rattle.wc_validate.specs.NameScopes.{imported_function, name_scope_of}
+use Rattle.wc_validate.specs.NameScope.{imported_function, name_scope_of}
 use Rattle.wc_validate.proofs.ImportRootLemmas.{of_root_builtin}
 use Rattle.wc_validate.proofs.StageLemmas.{stage_err, still_err}
 use Rattle.wc_validate.specs.Classifications.{of_imports}

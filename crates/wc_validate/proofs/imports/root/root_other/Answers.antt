@@ -1,11 +1,11 @@
 use Rattle.std.proofs.Common.{◌∷◌, [], map, refl, true}
 use Rattle.wc_read.specs.Types.{func_type_value}
 use Rattle.wc_names.specs.Imports.{IsKind, root_intrinsic, root_other_item, root_unknown}
-use Rattle.wc_names.specs.Schemes.{root_module}
+use Rattle.wc_names.specs.Mangling.{root_module}
 use Rattle.wc_names.specs.WitIntrinsics.{wit_intrinsics}
 use Rattle.wc_validate.proofs.ClassificationLemmas.{group_some, group_none}
-use Rattle.wc_validate.specs.Faults.{fault_kind}
-use Rattle.wc_validate.specs.NameScopes.{imported_function, name_scope_of}
+use Rattle.wc_validate.specs.Fault.{fault_kind}
+use Rattle.wc_validate.specs.NameScope.{imported_function, name_scope_of}
 use Rattle.wc_validate.proofs.ImportRootLemmas.{of_root_intrinsics}
 use Rattle.wc_validate.proofs.StageLemmas.{failed, stages_err, still_err}
 use Rattle.wc_validate.specs.Classifications.{of_imports}

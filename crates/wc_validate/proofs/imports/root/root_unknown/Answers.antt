@@ -2,11 +2,11 @@ use Rattle.std.proofs.Common.{◌∷◌, [], refl, sym, ◌∙◌}
 use Rattle.wc_read.specs.Types.{func_type_value}
 use Rattle.wc_names.specs.Imports.{IsKind, root_other_item, root_unknown}
 use Rattle.wc_names.specs.Meanings.{no_root_import, root_not_function}
-use Rattle.wc_names.specs.Schemes.{root_module}
+use Rattle.wc_names.specs.Mangling.{root_module}
 use Rattle.wc_validate.proofs.ClassificationLemmas.{classified_last, classified_next, classified_refused}
 use Rattle.wc_validate.specs.declared.name_fault.NameFault.TheVariants.{NoRootImport, RootNotFunction}
-use Rattle.wc_validate.specs.Faults.{fault_kind}
-use Rattle.wc_validate.specs.NameScopes.{imported_function, name_scope_of}
+use Rattle.wc_validate.specs.Fault.{fault_kind}
+use Rattle.wc_validate.specs.NameScope.{imported_function, name_scope_of}
 use Rattle.wc_validate.proofs.ImportRootLemmas.{no_other_item, other_item}
 use Rattle.wc_validate.specs.Classifications.{of_imports}
 use Rattle.wc_validate.proofs.imports.root.root_unknown.Goals as goal

@@ -1,10 +1,10 @@
 use Rattle.std.proofs.Common.{◌++◌, sym, ap, ◌∙◌}
 use Rattle.std.proofs.lemmas.List.{append_cancel_left}
 use Rattle.wc_read.specs.Types.{func_type_value}
-use Rattle.wc_names.specs.Schemes.{export_prefix, root_module}
+use Rattle.wc_names.specs.Mangling.{export_prefix, root_module}
 use Rattle.wc_validate.proofs.ClassificationLemmas.{classified_nothing}
-use Rattle.wc_validate.specs.Faults.{fault_kind}
-use Rattle.wc_validate.specs.NameScopes.{name_scope_of}
+use Rattle.wc_validate.specs.Fault.{fault_kind}
+use Rattle.wc_validate.specs.NameScope.{name_scope_of}
 use Rattle.wc_validate.proofs.BuiltinLemmas.{equal, unequal}
 use Rattle.wc_validate.proofs.ImportSchemeLemmas.{begins, begins_not, no_export_root, of_export_root}
 use Rattle.wc_validate.specs.Classifications.{of_imports}

@@ -2,11 +2,11 @@ use Rattle.std.proofs.Common.{◌≡◌, ◌++◌, refl, sym, ◌∙◌}
 use Rattle.std.proofs.lemmas.Slice.Eq.{bytes_eq-Decides}
 use Rattle.wc_read.specs.Types.{func_type_value}
 use Rattle.wc_names.specs.Imports.{IsKind, environment}
-use Rattle.wc_names.specs.Schemes.{root_module}
+use Rattle.wc_names.specs.Mangling.{root_module}
 use Rattle.wc_validate.proofs.ClassificationLemmas.{group_none, group_some, classified_none, classified_some}
-use Rattle.wc_validate.specs.Faults.{fault_kind}
+use Rattle.wc_validate.specs.Fault.{fault_kind}
 use Rattle.wc_validate.specs.Private.Imports.Kinds.{export_root_kinds, other_kinds}
-use Rattle.wc_validate.specs.NameScopes.{imported_function, lookup_name_scope}
+use Rattle.wc_validate.specs.NameScope.{imported_function, lookup_name_scope}
 use Rattle.wc_validate.proofs.BuiltinLemmas.{not_equal}
 use Rattle.wc_validate.proofs.ImportSchemeLemmas.{of_other, of_root}
 use Rattle.wc_validate.proofs.StageLemmas.{stage_err, stages_err, still_err}

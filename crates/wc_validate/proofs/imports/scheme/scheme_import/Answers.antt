@@ -1,7 +1,7 @@
 use Rattle.std.proofs.Common.{inl, inr, refl, sym}
 use Rattle.wc_read.specs.Types.{func_type_value}
-use Rattle.wc_names.specs.Schemes.{standard, legacy}
-use Rattle.wc_validate.specs.NameScopes.{name_scope_of}
+use Rattle.wc_names.specs.Mangling.{standard, legacy}
+use Rattle.wc_validate.specs.NameScope.{name_scope_of}
 use Rattle.wc_validate.proofs.ImportSchemeLemmas.{scheme_is}
 use Rattle.wc_validate.proofs.ImportClassifyLemmas.{decided_by}
 use Rattle.wc_validate.proofs.imports.scheme.scheme_import.Goals as goal

@@ -1,5 +1,5 @@
 use Rattle.wc_names.specs.Interfaces.{canonical_ids, full_ids}
-use Rattle.wc_validate.specs.NameScopes.{name_scope_of}
+use Rattle.wc_validate.specs.NameScope.{name_scope_of}
 use Rattle.wc_validate.proofs.name_scope.Interfaces.new.Goals as goal
 
 pub returns-then-lookups-le-FEW_LOOKUPS : goal.returns-then-lookups-le-FEW_LOOKUPS

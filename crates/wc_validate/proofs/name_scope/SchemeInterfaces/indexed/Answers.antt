@@ -1,5 +1,5 @@
 use Rattle.std.proofs.Common.{true, false}
-use Rattle.wc_validate.specs.NameScopes.{name_scope_of}
+use Rattle.wc_validate.specs.NameScope.{name_scope_of}
 use Rattle.wc_validate.proofs.ScopeLemmas.{keys_in_range}
 use Rattle.wc_validate.proofs.name_scope.SchemeInterfaces.indexed.Goals as goal
 

@@ -1,7 +1,7 @@
 use Rattle.std.proofs.Common.{ap, subst, sym}
 use Rattle.wc_resolve.specs.declared.functions.AbiVariant.TheVariants.{GuestImport, GuestImportAsync}
 use Rattle.wc_names.specs.Views.{function_import_view}
-use Rattle.wc_world.specs.Lowered.{same_call}
+use Rattle.wc_world.specs.Lowering.{same_call}
 use Rattle.wc_world.specs.Private.ImportedItems.{IsCall, interface_index}
 use Rattle.wc_world.proofs.ImportedItemLemmas.{call_drops, call_other, call_own}
 use Rattle.wc_world.proofs.UsedLemmas.{on_ok}

@@ -1,6 +1,6 @@
 use Rattle.std.proofs.Common.{◌≡◌, subst, sym}
 use Rattle.wc_resolve.specs.declared.functions.AbiVariant.TheVariants.{GuestImport, GuestImportAsync}
-use Rattle.wc_world.specs.Lowered.{is_imported}
+use Rattle.wc_world.specs.Lowering.{is_imported}
 use Rattle.wc_names.specs.Imports.{import_abi}
 use Rattle.wc_world.specs.Private.ImportedItems.{interface_index}
 use Rattle.wc_world.proofs.imported_items.ImportedItems.has_function.Goals as goal

@@ -1,6 +1,6 @@
 use Rattle.std.proofs.Common.{◌∙◌, ap, sym, map}
 use Rattle.std.specs.Prelude.{◌||◌}
-use Rattle.wc_validate.specs.Validated.{module_record}
+use Rattle.wc_validate.specs.Validate.{module_record}
 use Rattle.wc_world.specs.WorldViews.{adapter_entry}
 use Rattle.wc_world.proofs.SlotLemmas.{any_adapter, slot_used}
 use Rattle.wc_world.proofs.world.ComponentWorld.can_use_context_slot_1.Goals as goal

@@ -1,5 +1,5 @@
 use Rattle.std.proofs.Common.{◌⊎◌}
-use Rattle.wc_validate.specs.Validated.{module_record}
+use Rattle.wc_validate.specs.Validate.{module_record}
 use Rattle.wc_world.specs.Causes.{IsComponentWorldCause, IsMemory}
 use Rattle.wc_world.specs.declared.fault.WorldFault.{WorldFault}
 use Rattle.wc_world.proofs.AdapterLemmas.{first_or_memory}

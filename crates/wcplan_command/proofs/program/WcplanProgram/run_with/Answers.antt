@@ -1,6 +1,6 @@
 use Rattle.std.proofs.Common.{map, refl, string_bytes}
 use Rattle.wc_program.specs.Files.{store_change}
-use Rattle.wcplan_command.specs.Arguments.{command_value}
+use Rattle.wcplan_command.specs.Arguments.{command_view}
 use Rattle.wcplan_command.proofs.RunLemmas.{ends_by_command, ends_by_stop}
 use Rattle.wcplan_command.proofs.program.WcplanProgram.run_with.Goals as goal
 
@@ -11,7 +11,7 @@ returns-in-Ok g c =
     let directories = g.F.DirectoryStore in
     let files = store_change store.held directories.makes store.read_fails directories.make_fails store.write_fails c.args.shell.now.files
     c.run_and_report.new.shell.files in
-    ends_by_command arguments (command_value c.in-Ok.command) files _ _ _ c.in-Ok.ensures c.run_and_report.ensures
+    ends_by_command arguments (command_view c.in-Ok.command) files _ _ _ c.in-Ok.ensures c.run_and_report.ensures
 
 pub returns-in-Err : goal.returns-in-Err
 returns-in-Err g c =

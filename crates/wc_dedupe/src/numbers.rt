@@ -1,0 +1,97 @@
+//! The names that imports get, one after another.
+
+ghost use Rattle.std.specs.Prelude.{◌≡◌, ◌≢◌, ◌^◌, ◌<◌, ◌≤◌, List, length, Some, IfOk, slice_get, string_bytes};
+ghost use Rattle.std.specs.Option.{option_map};
+ghost use Rattle.wc_dedupe.specs.Private.Numbers.{AreNumbers, Gives, GivesNumber, Takes};
+ghost use Rattle.wc_dedupe.specs.Private.NamePositions.{names_of, Ascend};
+ghost use Rattle.wc_dedupe.specs.Renaming.{ImportName, name_with_number};
+
+use std::alloc::{AllocError, Global};
+
+/// The room for a number of up to six digits after a name.
+const NUMBER_ROOM: usize = " [v999999]".len();
+
+/// The least number after a name.
+const FIRST_NUMBER: u64 = 2;
+
+/// Gives the next import a name. `names` has all original names in ascending order, without repeats, and `position` is
+/// where that of this import is. `numbers` has for each of them 0 while no import has it; else a number from 2 on: with
+/// each smaller one from 2 after it, the name is that of an import already. `given` imports have names. The answer is
+/// the new name, `None` where the import keeps the original one. After an error nothing is known of `numbers`.
+pub(crate) fn give(
+    alloc: Global,
+    names: &[(&str, &str)],
+    numbers: &mut [u64],
+    position: usize,
+    given: usize,
+) -> Result<Option<String>, AllocError>
+    requires ascend { Ascend names.now }
+    requires position { position < length names.now }
+    requires given { (ns : List ImportName) × (length ns ≡ given)
+        × AreNumbers (names_of names.now) ns numbers.old }
+    requires few { given < 2 ^ 63 }
+    ensures { IfOk result (λ name. Gives (names_of names.now) numbers.old numbers.new position
+        (option_map string_bytes name)) }
+{
+    if numbers[position] == 0 {
+        numbers[position] = FIRST_NUMBER;
+        return Ok(None);
+    }
+    let name = give_number(alloc, names, numbers, position, given)?;
+    Ok(Some(name))
+}
+
+/// Gives the next import the name at `position` with the least number with which no import has it.
+fn give_number(
+    alloc: Global,
+    names: &[(&str, &str)],
+    numbers: &mut [u64],
+    position: usize,
+    given: usize,
+) -> Result<String, AllocError>
+    requires ascend { Ascend names.now }
+    requires position { position < length names.now }
+    requires given { (ns : List ImportName) × (length ns ≡ given)
+        × AreNumbers (names_of names.now) ns numbers.old }
+    requires few { given < 2 ^ 63 }
+    requires taken { slice_get numbers.old position ≢ Some 0 }
+    ensures { IfOk result (λ name. GivesNumber (names_of names.now) numbers.old numbers.new position
+        (string_bytes name)) }
+{
+    let original = names[position];
+    let limit = given as u64 + 3;
+    for number in numbers[position]..limit {
+        let name = name_with_number(alloc, original.1, number)?;
+        if take(names, numbers, original.0, name.as_str()) {
+            numbers[position] = number + 1;
+            return Ok(name);
+        }
+    }
+    unreachable!()
+}
+
+/// Whether no import has this name with a number yet. If it is an original name, too, it is an import's from now on.
+fn take(names: &[(&str, &str)], numbers: &mut [u64], module: &str, name: &str) -> bool
+    requires ascend { Ascend names.now }
+    requires numbers { length names.now ≤ length numbers.old }
+    ensures { Takes (names_of names.now) numbers.old numbers.new
+        (record { module_name = «module».now; name = name.now }) result }
+{
+    let Ok(position) = names.binary_search(&(module, name)) else {
+        return true;
+    };
+    if numbers[position] != 0 {
+        return false;
+    }
+    numbers[position] = FIRST_NUMBER;
+    true
+}
+
+/// `original` with a number after it.
+fn name_with_number(alloc: Global, original: &str, number: u64) -> Result<String, AllocError>
+    ensures { IfOk result (λ t. string_bytes t ≡ name_with_number original.now number) }
+{
+    let mut name = String::with_capacity(alloc, original.len() + NUMBER_ROOM)?;
+    write!(name, "{original} [v{number}]")?;
+    Ok(name)
+}

@@ -1,0 +1,400 @@
+-- Where validation stops: the first import or export that is refused, and what is recorded before it.
+use Rattle.std.proofs.Common.{◌≡◌, ◌≢◌, ◌↔◌, ℕ, Bool, false, IsTrue, ◌<◌, ◌≤◌, ◌+◌, List, [], ◌∷◌, ◌++◌, length, map, take, get_or, Option, Some, None, option_copied, IfOk, IsOkAnd, MatchOption, Result, Ok, Err, String, string_bytes, refl, sym, ap, subst, ◌∙◌, append_assoc, append-nil, inl, inr}
+use Rattle.std.specs.List.{cons_option, filter_map, slice_get}
+use Rattle.std.specs.Option.{option_map}
+use Rattle.std.specs.declared.alloc.Global.{Global}
+use Rattle.std.specs.declared.alloc.AllocError.{AllocError}
+use Rattle.std.proofs.lemmas.List.{map-append, take-map, take_all, take_more}
+use Rattle.std.proofs.lemmas.List.Elements.{filter_map-append}
+use Rattle.std.proofs.lemmas.Option.{slice_get-get_or, slice_get-map}
+use Rattle.wc_read.specs.declared.core_module.Module.{Module}
+use Rattle.wc_read.specs.declared.exports.Export.{Export as RawExport}
+use Rattle.wc_read.specs.declared.types.Import.{Import}
+use Rattle.wc_read.specs.Exports.{ExportValue, export_value}
+use Rattle.wc_read.specs.Imports.{ImportValue, import_value, import_values}
+use Rattle.wc_read.specs.Modules.{ModuleValue, SpellsModule, module_value}
+use Rattle.wc_read.specs.declared.types.FuncType.{FuncType}
+use Rattle.wc_read.specs.declared.types.ImportType.TheVariants as imported
+use Rattle.wc_read.specs.Types.{FuncTypeValue, func_type_value}
+use Rattle.wc_resolve.specs.Views.{KeyView}
+use Rattle.wc_names.specs.declared.exports.Export.{Export as ClassifiedAs}
+use Rattle.wc_names.specs.Exports.{ClassifiedExport, CoreExport}
+use Rattle.wc_names.specs.ExportViews.{export_view}
+use Rattle.wc_adapters.specs.Adapters.{LibraryView}
+use Rattle.wc_names.specs.Imports.{Classified, CoreImport, ExternType, NameScope, func_type}
+use Rattle.wc_names.specs.Laws.{MeaningsUnique}
+use Rattle.wc_names.specs.Meanings.{means}
+use Rattle.wc_names.specs.declared.imports.Import.{Import as NamedImport}
+use Rattle.wc_names.specs.Views.{ImportView, import_view}
+use Rattle.wc_validate.specs.declared.exports.classify.ExportContext.{ExportContext}
+use Rattle.wc_validate.specs.declared.explain.refused.RefusedExport.{RefusedExport}
+use Rattle.wc_validate.specs.declared.fault.ValidateFault.{ValidateFault}
+use Rattle.wc_validate.specs.declared.fault.ValidateFault.TheVariants.{Memory, NotAFunction, SignatureMismatch, NoRootImport, RootNotFunction, BadSyntax, UnknownInterface, UnknownIntrinsic, MissingFunction, NoSuchExport, TypedReference, WholeDiffers, Mixed, SeveralMemoryImports, DuplicateImport, AdapterTypesDiffer}
+use Rattle.wc_validate.specs.declared.imports.record.ImportContext.{ImportContext}
+use Rattle.wc_validate.specs.declared.imports.recorder.Recorder.{Recorder}
+use Rattle.wc_validate.specs.declared.name_fault.NameFault.{NameFault}
+use Rattle.wc_validate.specs.declared.name_fault.NameFault.TheVariants as naming
+use Rattle.wc_validate.specs.declared.place.Place.{Place}
+use Rattle.wc_validate.specs.declared.place.Subject.{Subject}
+use Rattle.wc_validate.specs.Exports.Contexts.{core_export}
+use Rattle.wc_validate.specs.Exports.Map.{ExportRecord}
+use Rattle.wc_validate.specs.Exports.Record.{AreExports, IsExportRecorded, IsMismatched, core_exports, entry_of, item_type, typed_export}
+use Rattle.wc_validate.specs.Fault.{import_fault_kind}
+use Rattle.wc_validate.specs.Classifications.{IsClassification}
+use Rattle.wc_validate.specs.Imports.Classify.{IsClassified, IsNameFault}
+use Rattle.wc_validate.specs.Imports.Entries.{Entry, adapter_type_of, by_modules, first_by, single, whole}
+use Rattle.wc_validate.specs.Imports.Record.{ImportScope, AreEntries, IsEntry, IsEntryCause, IsFaultOfImport, IsValidAfter, entry_faults, extern_type, library_entry}
+use Rattle.wc_validate.specs.NameScope.{name_scope_of}
+use Rattle.wc_validate.specs.Explain.{IsExplained, IsExportPlace, IsFirstRefused, IsImportPlace, IsOfImport, IsOtherMismatch, IsOtherRefused, IsTypedAt, DifferenceView, difference_of, an_export, an_import, place_view, subject_view}
+use Rattle.wc_validate.specs.Private.Explain.{AreDifferingTypes, AreMismatchedTypes, AreTypesIn, HasRecordedImports, IsAdapterFunction, function_view, IsExportStopAt, IsExportStopIn, IsImportExplained, IsMismatchExplained, IsModuleExplained, IsStopAt}
+use Rattle.wc_validate.specs.Private.Exports.Classify.{IsExportClassified}
+use Rattle.wc_validate.specs.Private.Imports.Contexts.{AreRecorded, AreRecordedIn, HasLibrary, IsClassifiedIn, IsImportRecorded, IsImportRefusal, import_scope}
+use Rattle.wc_validate.specs.Private.Imports.Recorder.{types_in}
+use Rattle.wc_validate.specs.Validate.{IsImportScopeFor, IsNameScopeOf, ValidationInput}
+use Rattle.wc_validate.proofs.BuiltinLemmas.{not_so}
+use Rattle.wc_validate.proofs.ExclusionLemmas.{kind_of}
+use Rattle.wc_validate.proofs.ImportRecordLemmas.{by_name}
+use Rattle.wc_validate.proofs.LawLemmas.{entries_same}
+use Rattle.wc_validate.proofs.ExportRecordLemmas.{entry_none, entry_some, recorded_nothing}
+
+some_same : {X : Type 0} {x y : X} → Some x ≡ Some y → x ≡ y
+some_same e = cc e
+
+-- an entry after the others
+entries_end : (s : ImportScope) (b : List Entry) (is : List ImportValue) (xs : List Entry) (i : ImportValue) (x : Entry) → AreEntries s b is xs
+    → IsEntry s i x → IsValidAfter (b ++ xs) x → AreEntries s b (is ++ i ∷ []) (xs ++ x ∷ [])
+entries_end s b [] xs i x h e v =
+    subst (λ z. AreEntries s b (i ∷ []) (z ++ x ∷ [])) (sym h)
+    (e, subst (λ z. IsValidAfter z x) (append-nil b) (subst (λ z. IsValidAfter (b ++ z) x) h v), refl)
+entries_end s b (j ∷ is) [] i x h e v = absurd h
+entries_end s b (j ∷ is) (y ∷ xs) i x h e v =
+    (h.0, h.1, entries_end s (b ++ y ∷ []) is xs i x h.2 e (subst (λ z. IsValidAfter z x) (sym (append_assoc b (y ∷ []) xs)) v))
+
+pub recorded_more : (s : ImportScope) (imports : List Import) (index : ℕ) (d : Import) (old new : Recorder) → index < length imports
+    → (p : AreRecorded s (import_values (take index imports)) old) → IsImportRecorded s p.0 (import_value (get_or imports index d)) new
+    → AreRecorded s (import_values (take (index + 1) imports)) new
+recorded_more s imports index d old new below p h =
+    let more = ap import_values (take_more imports index d below) ∙ map-append import_value (take index imports) (get_or imports index d ∷ []) in
+    subst (λ z. AreRecorded s z new) (sym more)
+    (p.0 ++ h.0 ∷ [], entries_end s [] (import_values (take index imports)) p.0 (import_value (get_or imports index d)) h.0 p.1 h.1 h.2.0, h.2.1)
+
+pub recorded_all : (s : ImportScope) (imports : List Import) (index : ℕ) (r : Recorder) → length imports ≤ index
+    → AreRecorded s (import_values (take index imports)) r → AreRecorded s (import_values imports) r
+recorded_all s imports index r end p = subst (λ z. AreRecorded s (import_values z) r) (take_all index imports end) p
+
+-- the first that is refused
+value_there : (imports : List Import) (index : ℕ) (d : Import) → index < length imports
+    → slice_get (import_values imports) index ≡ Some (import_value (get_or imports index d))
+value_there imports index d below = slice_get-map import_value imports index ∙ ap (option_map import_value) (slice_get-get_or imports index d below)
+
+pub stop_at : (s : ImportScope) (imports : List Import) (index : ℕ) (d : Import) (r : Recorder) (f : ValidateFault) → index < length imports
+    → (p : AreRecorded s (import_values (take index imports)) r) → IsImportRefusal s p.0 (import_value (get_or imports index d)) f
+    → IsStopAt s (import_values imports) index f
+stop_at s imports index d r Memory below p h = tt
+stop_at s imports index d r f below p h = (
+  import_value (get_or imports index d),
+  p.0,
+  record {
+    there = value_there imports index d below;
+    recorded = subst (λ z. AreEntries s [] z p.0) (sym (take-map import_value index imports)) p.1;
+    refused = h;
+  },
+)
+
+-- which faults an import can have
+cause_of_import : (before : List Entry) (x : Entry) (k : ValidateFault) → IsEntryCause before x k → IsOfImport k
+cause_of_import before (whole m which) WholeDiffers h = tt
+cause_of_import before (whole m which) Mixed h = tt
+cause_of_import before (whole m which) f h = absurd h
+cause_of_import before (single m name i) SeveralMemoryImports h = tt
+cause_of_import before (single m name i) Mixed h = tt
+cause_of_import before (single m name i) DuplicateImport h = tt
+cause_of_import before (single m name i) AdapterTypesDiffer h = tt
+cause_of_import before (single m name i) f h = absurd h
+
+name_of_import : (e : NameScope) (a : CoreImport) (f : ValidateFault) → IsNameFault e a (import_fault_kind f) → IsOfImport f
+name_of_import e a NotAFunction h = tt
+name_of_import e a SignatureMismatch h = tt
+name_of_import e a NoRootImport h = tt
+name_of_import e a RootNotFunction h = tt
+name_of_import e a BadSyntax h = tt
+name_of_import e a UnknownInterface h = tt
+name_of_import e a UnknownIntrinsic h = tt
+name_of_import e a MissingFunction h = tt
+name_of_import e a NoSuchExport h = tt
+name_of_import e a TypedReference h = tt
+name_of_import e a f h = absurd h
+
+pub fault_of_import : (s : ImportScope) (before : List Entry) (i : ImportValue) (f : ValidateFault) → IsFaultOfImport s before i f → IsOfImport f
+fault_of_import s before i f (inl h) = name_of_import s.name_scope h.1 f h.3
+fault_of_import s before i f (inr h) =
+    let kind = kind_of (λ k (g : ValidateFault). IsEntryCause before h.0 k × (g ≡ k)) entry_faults f h.2 in
+    subst IsOfImport (sym kind.1.1) (cause_of_import before h.0 kind.0 kind.1.0)
+
+-- an import that is refused with another fault
+pub other_at : (s : ImportScope) (imports : List ImportValue) (index : ℕ) (f g : ValidateFault) → IsStopAt s imports index g → g ≢ Memory
+    → (IsOfImport g → f ≢ g) → IsOtherRefused s imports f
+other_at s imports index f Memory h real other = absurd (real refl)
+other_at s imports index f g h real other = (index, h.0, h.1, g, h.2, other (fault_of_import s h.1 h.0 g h.2.refused))
+
+-- the types of an import, by another name of the fault and of the import
+typed_as : (s : ImportScope) (before : List Entry) (x y : ImportValue) (f g : ValidateFault) (types : Option DifferenceView) → x ≡ y → f ≡ g
+    → IsTypedAt s before y g types → IsTypedAt s before x f types
+typed_as s before x y f g types is same h =
+    subst (λ z. IsTypedAt s before z f types) (sym is) (subst (λ z. IsTypedAt s before y z types) (sym same) h)
+
+-- an import as the place of a fault
+placed : (s : ImportScope) (imports : List ImportValue) (index : ℕ) (x : ImportValue) (subject : Subject) (types : Option DifferenceView) (f g : ValidateFault)
+    → slice_get imports index ≡ Some x → IsStopAt s imports index g → g ≢ Memory → f ≡ g
+    → subject_view subject ≡ an_import x.module_name x.name index
+    → ((before : List Entry) → AreEntries s [] (take index imports) before → IsTypedAt s before x g types)
+    → IsImportPlace s imports f (record { subject = subject_view subject; types = types })
+placed s imports index x subject types f Memory there h real same is typed = absurd (real refl)
+placed s imports index x subject types f g there h real same is typed =
+    let value : h.0 ≡ x = some_same (sym h.2.there ∙ there) in
+    record {
+      index = index;
+      value = h.0;
+      before = h.1;
+      first = subst (IsFirstRefused s imports index h.0 h.1) (sym same) h.2;
+      subject = is ∙ ap (λ (z : ImportValue). an_import z.module_name z.name index) (sym value);
+      types = typed_as s h.1 h.0 x f g types value same (typed h.1 h.2.recorded);
+    }
+
+pub place_at : (s : ImportScope) (imports : List Import) (index : ℕ) (d : Import) (subject : Subject) (types : Option DifferenceView) (f g : ValidateFault)
+    → index < length imports → IsStopAt s (import_values imports) index g → g ≢ Memory → f ≡ g
+    → subject_view subject ≡ an_import (get_or imports index d).module.now (get_or imports index d).name.now index
+    → ((before : List Entry) → AreEntries s [] (import_values (take index imports)) before → IsTypedAt s before (import_value (get_or imports index d)) g types)
+    → IsImportPlace s (import_values imports) f (record { subject = subject_view subject; types = types })
+place_at s imports index d subject types f g below h real same is typed =
+    placed s (import_values imports) index (import_value (get_or imports index d)) subject types f g (value_there imports index d below) h real same is
+    (λ before entries. typed before (subst (λ z. AreEntries s [] z before) (take-map import_value index imports) entries))
+
+-- the types of an import that is refused for its type
+type_at : (types : List FuncType) (index : ℕ) (d : FuncType) (ty : ExternType) → index < length types
+    → option_map func_type (slice_get (map func_type_value types) index) ≡ Some ty → ty ≡ func_type (func_type_value (get_or types index d))
+type_at types index d ty below is =
+    sym (some_same (sym (ap (option_map func_type) (slice_get-map func_type_value types index ∙ ap (option_map func_type_value) (slice_get-get_or types index d below)))
+    ∙ is))
+
+differ_as : (ty : ExternType) (wanted found : FuncTypeValue) → ty ≡ func_type found → ty ≢ func_type wanted → found ≢ wanted
+differ_as ty wanted found is differ same = differ (is ∙ ap func_type same)
+
+mismatch_of : (e : NameScope) (a : CoreImport) (wanted : FuncType) → IsClassified e a (Err (naming.SignatureMismatch wanted))
+    → (v : ImportView) × Classified e a (means v (Some (func_type_value wanted))) × (a.ty ≢ func_type (func_type_value wanted))
+unfolding IsClassified
+mismatch_of e a wanted h = h
+
+pub mismatched_at : (c : ImportContext) (i : Import) (index : ℕ) (d wanted found : FuncType) → i.ty ≡ imported.Func index → index < length c.types.now
+    → func_type_value found ≡ func_type_value (get_or c.types.now index d)
+    → ((library : Option LibraryView) → IsClassifiedIn c library i (Err (naming.SignatureMismatch wanted)))
+    → AreMismatchedTypes c i (record { wanted = wanted; found = found })
+mismatched_at c i index d wanted found is below same h = λ library before.
+    let m = h library in
+    let typed : option_map func_type (slice_get (map func_type_value c.types.now) index) ≡ Some (m.0).ty
+    = subst (λ z. extern_type (map func_type_value c.types.now) z ≡ Some (m.0).ty) is m.1.2 in
+    let found_is : (m.0).ty ≡ func_type (func_type_value found) = type_at c.types.now index d (m.0).ty below typed ∙ ap func_type (sym same) in
+    let n = mismatch_of (name_scope_of c.names) m.0 wanted m.2 in
+    (m.0, n.0, m.1, n.1, found_is, differ_as (m.0).ty (func_type_value wanted) (func_type_value found) found_is n.2)
+
+-- the function of an adapter that an import is by its name
+pub named_entry : (c : ImportContext) (i : Import) (o : Option Entry) (r : Result NamedImport NameFault)
+    (answer : Result ((String Global × String Global) × FuncType) AllocError) → None ≡ o
+    → ((library : Option LibraryView) → HasLibrary c library → o ≡ library_entry library i.module.now i.name.now)
+    → ((library : Option LibraryView) → IsClassifiedIn c library i r) → IfOk answer (λ f. IsOkAnd r (λ v. function_view f ≡ import_view v))
+    → IfOk answer (IsAdapterFunction c i)
+named_entry c i o r (Err e) none is found h = tt
+named_entry c i o (Err e) (Ok f) none is found h = absurd h
+named_entry c i o (Ok v) (Ok f) none is found h = λ library has.
+    let k = found library in
+    subst (λ z. IsEntry (import_scope c library) (import_value i) (single i.module.now i.name.now z)) (sym h)
+    (by_name (import_scope c library) (import_value i) v o none (is library has) k.0 k.1 k.2)
+
+-- the types of an import of a function of an adapter that was imported with another type
+pub differing_at : (c : ImportContext) (is : List Import) (i : Import) (recorder : Recorder) (key : String Global × String Global) (first wanted found : FuncType)
+    (b : Bool) → MeaningsUnique (name_scope_of c.names).resolve
+    → ((library : Option LibraryView) → HasLibrary c library → AreRecordedIn c library is recorder) → IsAdapterFunction c i (key, found)
+    → Some (func_type_value first) ≡ types_in recorder (string_bytes key.0) (string_bytes key.1) → func_type_value wanted ≡ func_type_value first
+    → IsTrue b ↔ (func_type_value found ≡ func_type_value first) → b ≡ false → AreDifferingTypes c is i (record { wanted = wanted; found = found })
+differing_at c is i recorder key first wanted found b unique recorded function noted same law differ = λ library before has entries.
+    let r = recorded library has in
+    let before_is : r.0 ≡ before =
+    entries_same (name_scope_of c.names).resolve unique (import_scope c library) [] (import_values is) r.0 before refl r.1 entries in (
+      string_bytes key.0,
+      string_bytes key.1,
+      function library has,
+      subst (λ z. first_by (adapter_type_of (string_bytes key.0) (string_bytes key.1)) z ≡ Some (func_type_value wanted)) before_is
+          (sym (r.2.types (string_bytes key.0) (string_bytes key.1)) ∙ (sym noted ∙ ap (λ z. Some z) (sym same))),
+      λ e. not_so b _ law differ (e ∙ same),
+    )
+
+-- the types that the fault of an import compares
+pub types_none : (c : ImportContext) (is : List Import) (i : Import) (f : ValidateFault) → f ≢ SignatureMismatch → f ≢ AdapterTypesDiffer
+    → AreTypesIn c is i f None
+types_none c is i SignatureMismatch no_mismatch no_difference = absurd (no_mismatch refl)
+types_none c is i AdapterTypesDiffer no_mismatch no_difference = absurd (no_difference refl)
+types_none c is i f no_mismatch no_difference = λ library before has entries. refl
+
+module _ (j : ValidationInput) (m : Module) (c : ImportContext) (imports : List Import) (names : IsNameScopeOf j.encoder (name_scope_of c.names))
+    (renames : option_copied c.renames ≡ j.renames) (types : c.types.now ≡ m.types.items) (library : HasLibrary c j.library) (same : imports ≡ m.imports.items) where
+  scope_for : IsImportScopeFor j.encoder j.renames j.library (module_value m).types (import_scope c j.library)
+  scope_for = record { has_name_scope = names; has_library = refl; has_renames = renames; has_types = ap (map func_type_value) types }
+
+  pub import_explained : (r : Result (Option Place) AllocError) (f : ValidateFault) → IfOk r (IsImportExplained c imports f)
+      → IfOk r (IsModuleExplained j (module_value m) f)
+  import_explained (Ok None) f h =
+      inl (import_scope c j.library, scope_for, subst (λ z. IsOtherRefused (import_scope c j.library) (import_values z) f) same (h j.library library))
+  import_explained (Ok (Some p)) f h =
+      inl (
+        import_scope c j.library,
+        scope_for,
+        subst (λ z. IsImportPlace (import_scope c j.library) (import_values z) f (place_view p)) same (h j.library library),
+      )
+  import_explained (Err e) f h = tt
+
+  pub imports_recorded : (r : Recorder) → AreRecordedIn c j.library imports r → HasRecordedImports j (module_value m)
+  imports_recorded r p = (
+    by_modules p.0,
+    (
+      import_scope c j.library,
+      scope_for,
+      (p.0, subst (λ z. AreEntries (import_scope c j.library) [] (import_values z) p.0) same p.1, refl),
+    ),
+  )
+
+-- exports
+exports_more : (e : NameScope) (keys : List KeyView) (xs : List CoreExport) (x : CoreExport) (old new : ExportRecord) → AreExports e keys xs old
+    → IsExportRecorded e keys x old new → AreExports e keys (xs ++ x ∷ []) new
+exports_more e keys [] x old new h k =
+    (k.0, [], k.1, refl, k.2 ∙ (ap (λ z. z ++ entry_of x.name k.0) h ∙ sym (append-nil (entry_of x.name k.0))))
+exports_more e keys (y ∷ ys) x old new h k = (
+  h.0,
+  h.1 ++ entry_of x.name k.0,
+  h.2,
+  exports_more e keys ys x h.1 (h.1 ++ entry_of x.name k.0) h.3 (k.0, k.1, refl),
+  k.2 ∙ (ap (λ z. z ++ entry_of x.name k.0) h.4 ∙ append_assoc (entry_of y.name h.0) h.1 (entry_of x.name k.0)),
+)
+
+recorded_export : (e : NameScope) (keys : List KeyView) (x : CoreExport) (o : Option ClassifiedAs) (old : ExportRecord)
+    → IsExportClassified (ClassifiedExport e keys x) x.ty (Ok o) → (new : ExportRecord) × IsExportRecorded e keys x old new
+recorded_export e keys x None old h = (old, recorded_nothing e keys x old (entry_none e keys x h))
+recorded_export e keys x (Some y) old h =
+    (old ++ entry_of x.name (Some (export_view y)), (Some (export_view y), entry_some e keys x y h, refl))
+
+core_more : (m : ModuleValue) (es : List ExportValue) (x : ExportValue) (ty : ExternType) → item_type m x.kind x.index ≡ Some ty
+    → core_exports m (es ++ x ∷ []) ≡ core_exports m es ++ core_export x.name ty ∷ []
+unfolding core_exports
+core_more m es x ty is =
+    filter_map-append (typed_export m) es (x ∷ [])
+    ∙ ap (λ z. filter_map (typed_export m) es ++ z) (ap (λ (o : Option ExternType). cons_option (option_map (core_export x.name) o) []) is)
+
+abbrev pub HasExportsBefore : NameScope → List KeyView → ModuleValue → List RawExport → ℕ → Type 0
+HasExportsBefore e keys m es i = (before : ExportRecord) × AreExports e keys (core_exports m (map export_value (take i es))) before
+
+module _ (e : NameScope) (keys : List KeyView) (m : ModuleValue) (es : List RawExport) (i : ℕ) (d : RawExport) (ty : ExternType) (below : i < length es)
+    (typed : item_type m (export_value (get_or es i d)).kind (export_value (get_or es i d)).index ≡ Some ty) (p : HasExportsBefore e keys m es i) where
+  pub exports_passed : (o : Option ClassifiedAs)
+      → IsExportClassified (ClassifiedExport e keys (core_export (export_value (get_or es i d)).name ty)) ty (Ok o) → HasExportsBefore e keys m es (i + 1)
+  exports_passed o h =
+      let x = export_value (get_or es i d) in
+      let new = recorded_export e keys (core_export x.name ty) o p.0 h in
+      let more = ap (map export_value) (take_more es i d below) ∙ map-append export_value (take i es) (get_or es i d ∷ []) in (
+        new.0,
+        subst (λ z. AreExports e keys z new.0)
+            (sym (ap (core_exports m) more ∙ core_more m (map export_value (take i es)) x ty typed))
+            (exports_more e keys (core_exports m (map export_value (take i es))) (core_export x.name ty) p.0 new.0 p.1 new.1),
+      )
+
+  pub exports_stop : (f : NameFault)
+      → IsExportClassified (ClassifiedExport e keys (core_export (export_value (get_or es i d)).name ty)) ty (Err f)
+      → IsExportStopAt e keys m (map export_value es) i f
+  unfolding IsClassification IsMismatched
+  exports_stop naming.Memory h = tt
+  exports_stop (naming.SignatureMismatch wanted) h =
+      let x = export_value (get_or es i d) in (
+        core_export x.name ty,
+        record {
+          value = x;
+          there = slice_get-map export_value es i ∙ ap (option_map export_value) (slice_get-get_or es i d below);
+          typed = ap (option_map (core_export x.name)) typed;
+          before = p.0;
+          recorded = subst (λ z. AreExports e keys (core_exports m z) p.0) (sym (take-map export_value i es)) p.1;
+          mismatched = (h.0, func_type_value wanted, h.1, h.2);
+        },
+        h,
+      )
+  exports_stop naming.NotAFunction h = absurd h
+  exports_stop naming.NoRootImport h = absurd h
+  exports_stop naming.RootNotFunction h = absurd h
+  exports_stop naming.BadSyntax h = absurd h
+  exports_stop naming.UnknownInterface h = absurd h
+  exports_stop naming.UnknownIntrinsic h = absurd h
+  exports_stop naming.MissingFunction h = absurd h
+  exports_stop naming.NoSuchExport h = absurd h
+  exports_stop naming.TypedReference h = absurd h
+
+-- an export as the place of a fault
+core_of : (m : ModuleValue) (v : ExportValue) (x : CoreExport) (ty : ExternType) → item_type m v.kind v.index ≡ Some ty → typed_export m v ≡ Some x
+    → core_export v.name ty ≡ x
+core_of m v x ty typed is = some_same (sym (ap (option_map (core_export v.name)) typed) ∙ is)
+
+pub export_at : (e : NameScope) (keys : List KeyView) (m : ModuleValue) (es : List RawExport) (i : ℕ) (d : RawExport) (name : String Global)
+    (wanted found ty : FuncType) (f : ValidateFault) → i < length es → IsExportStopAt e keys m (map export_value es) i (naming.SignatureMismatch wanted)
+    → f ≡ SignatureMismatch → string_bytes name ≡ (export_value (get_or es i d)).name
+    → item_type m (export_value (get_or es i d)).kind (export_value (get_or es i d)).index ≡ Some (func_type (func_type_value ty))
+    → func_type_value found ≡ func_type_value ty
+    → IsExportPlace e keys m (map export_value es) f
+    (record { subject = an_export (string_bytes name); types = Some (difference_of (func_type_value wanted) (func_type_value found)) })
+export_at e keys m es i d name wanted found ty f below stop same called typed copied =
+    let there = slice_get-map export_value es i ∙ ap (option_map export_value) (slice_get-get_or es i d below) in
+    let value : stop.1.value ≡ export_value (get_or es i d) = some_same (sym stop.1.there ∙ there) in
+    let core = core_of m (export_value (get_or es i d)) stop.0 (func_type (func_type_value ty)) typed
+    (subst (λ z. typed_export m z ≡ Some stop.0) value stop.1.typed) in
+    let found_is : (stop.0).ty ≡ func_type (func_type_value found) = ap (λ (z : CoreExport). z.ty) (sym core) ∙ ap func_type (sym copied) in
+    record {
+      is_mismatch = same;
+      index = i;
+      core_export = stop.0;
+      first = stop.1;
+      subject = ap an_export (called ∙ ap (λ (z : CoreExport). z.name) core);
+      types = (stop.2.0, stop.2.1, found_is, differ_as (stop.0).ty (func_type_value wanted) (func_type_value found) found_is stop.2.2);
+    }
+
+pub other_mismatch : (e : NameScope) (keys : List KeyView) (m : ModuleValue) (es : List ExportValue) (i : ℕ) (f : ValidateFault) (wanted : FuncType)
+    → IsExportStopAt e keys m es i (naming.SignatureMismatch wanted) → f ≢ SignatureMismatch → IsOtherMismatch e keys m es f
+other_mismatch e keys m es i f wanted stop other = (i, stop.0, stop.1, other)
+
+pub export_explained : (j : ValidationInput) (m : Module) (c : ExportContext) (es : List RawExport) → HasRecordedImports j (module_value m)
+    → IsNameScopeOf j.encoder (name_scope_of c.names) → c.standard.keys ≡ j.keys → es ≡ m.exports.items → (x : RefusedExport) (f : ValidateFault)
+    → IsExportStopIn c m es x → (r : Result (Option Place) AllocError) → IsMismatchExplained m es x f r → IfOk r (IsModuleExplained j (module_value m) f)
+export_explained j m c es imports names keys same x f stop r h = shown r (h (name_scope_of c.names) c.standard.keys stop) where
+  shown : (r : Result (Option Place) AllocError)
+      → IfOk r (λ answer. MatchOption answer (IsOtherMismatch (name_scope_of c.names) c.standard.keys (module_value m) (map export_value es) f)
+      (λ (p : Place). IsExportPlace (name_scope_of c.names) c.standard.keys (module_value m) (map export_value es) f (place_view p)))
+      → IfOk r (IsModuleExplained j (module_value m) f)
+  shown (Ok None) h =
+      inr (
+        imports.0,
+        imports.1,
+        name_scope_of c.names,
+        names,
+        inr (subst (λ z. IsOtherMismatch (name_scope_of c.names) z (module_value m) (map export_value m.exports.items) f) keys
+            (subst (λ z. IsOtherMismatch (name_scope_of c.names) c.standard.keys (module_value m) (map export_value z) f) same h)),
+      )
+  shown (Ok (Some p)) h =
+      inr (inl (
+        imports.0,
+        imports.1,
+        name_scope_of c.names,
+        names,
+        subst (λ z. IsExportPlace (name_scope_of c.names) z (module_value m) (map export_value m.exports.items) f (place_view p)) keys
+            (subst (λ z. IsExportPlace (name_scope_of c.names) c.standard.keys (module_value m) (map export_value z) f (place_view p)) same h),
+      ))
+  shown (Err e) h = tt
+
+-- the module that bytes spell
+pub explained : (j : ValidationInput) (bytes : List ℕ) (m : ModuleValue) → SpellsModule bytes m → (r : Result (Option Place) AllocError) (f : ValidateFault)
+    → IfOk r (IsModuleExplained j m f) → IfOk r (IsExplained j bytes f)
+explained j bytes m spelled (Ok None) f h = inr (m, spelled, h)
+explained j bytes m spelled (Ok (Some p)) f h = (m, spelled, h)
+explained j bytes m spelled (Err e) f h = tt

@@ -1,0 +1,34 @@
+-- What parts of a run of a command do.
+use Rattle.std.specs.Prelude.{◌≡◌, ◌⊎◌, ⊤, ℕ, List, Some, None}
+use Rattle.wc_read.specs.Modules.{ModuleValue}
+use Rattle.wc_read.specs.Names.{GlobalNameValue}
+use Rattle.wc_program.specs.Screen.{Printing, nothing, printed, failed}
+use Rattle.wcwhy_command.specs.Arguments.{CommandView, pattern_view, help, version, wrong, wrong_view}
+use Rattle.wcwhy_command.specs.Patterns.{first_unknown}
+use Rattle.wcwhy_command.specs.Program.{EndsWithoutMemory, IsTextFor, StopEnds}
+use Rattle.wcwhy_command.specs.declared.arguments.NoCommand.{NoCommand}
+use Rattle.wcwhy_command.specs.declared.arguments.NoCommand.TheVariants.{Memory, Help, Version, Wrong}
+use Rattle.wcwhy_command.specs.declared.fault.WhyFault.{WhyFault}
+use Rattle.wcwhy_command.specs.declared.fault.WhyFault.TheVariants.{Memory as why_memory, NoImport, Output}
+
+-- what is printed where there is no command; there may have been no memory for it
+abbrev pub AnswersStop : NoCommand → (Printing → Type 0) → (Printing → Type 0) → ℕ → Type 0
+AnswersStop Memory out err status = EndsWithoutMemory out err status
+AnswersStop Help out err status = StopEnds help out err status
+AnswersStop Version out err status = StopEnds version out err status
+AnswersStop (Wrong w) out err status = StopEnds (wrong (wrong_view w)) out err status ⊎ EndsWithoutMemory out err status
+
+-- this adapter has some of the imports that each option asks for, and this is printed of it
+abbrev pub ArePrinted : CommandView → ModuleValue → List GlobalNameValue → (Printing → Type 0) → Type 0
+ArePrinted c m names out = (text : List ℕ) × (first_unknown m.imports c.imports ≡ None) × IsTextFor c m names text × out (printed text)
+
+-- why it could not be printed of an adapter
+abbrev pub IsReasonsCause : CommandView → ModuleValue → (Printing → Type 0) → WhyFault → Type 0
+IsReasonsCause c m out why_memory = ⊤
+IsReasonsCause c m out Output = out failed
+IsReasonsCause c m out (NoImport p) = (first_unknown m.imports c.imports ≡ Some (pattern_view p)) × out nothing
+IsReasonsCause c m out f = ⊥
+
+-- a text that is as `Is` says is printed
+abbrev pub PrintsSome : (List ℕ → Type 0) → (Printing → Type 0) → Type 0
+PrintsSome Is out = (text : List ℕ) × Is text × out (printed text)
