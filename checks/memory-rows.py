@@ -57,9 +57,9 @@ REACHED = {
         "LiveTypes::add_func=live_types LiveTypes::add_type=live_types LiveTypes::add_type_id=live_types "
         "LiveTypes::add_world_item=live_types LiveTypes::add_world_item_beside=live_types "
         "PackageName::clone=package_name_clone PackageName::version_compat_track "
-        "Resolve::build=resolve_build Resolve::canonicalized_id_of Resolve::external_id_value Resolve::id_of "
-        "Resolve::interface_direct_deps Resolve::name_world_key Resolve::wasm_signature WorldKey::clone=key_clone "
-        "explain_parts=wcplan",
+        "Resolve::build=resolve_build Resolve::build_explained=wcplan Resolve::canonicalized_id_of "
+        "Resolve::external_id_value Resolve::id_of Resolve::interface_direct_deps Resolve::name_world_key "
+        "Resolve::wasm_signature WorldKey::clone=key_clone explain_parts=wcplan",
     "wc_selection":
         "AdapterKeys::new=wcplan AdapterKeys::required=wcplan KeyIndex::keys_under=world_into KeyIndex::new=world_into "
         "MainModule::new=wcplan check_keys=wcplan export_keys=wcplan first_missing=wcplan first_repeated=wcplan "
@@ -73,10 +73,12 @@ REACHED = {
     "wc_validate":
         "AdapterModuleDidNotExport::clone=validate_adapter_module ImportMap::required_from_adapter=validate_module "
         "WorldInterfaces::new=validate_adapter_module WorldInterfaces::validate_adapter_module "
-        "explain_adapter_module=wcplan explain_module=wcplan validate_adapter_module validate_module",
+        "WorldInterfaces::validate_adapter_module_explained=validate_adapter_module explain_adapter_module=wcplan "
+        "explain_module=wcplan validate_adapter_module validate_adapter_module_explained=validate_adapter_module "
+        "validate_module validate_module_explained=validate_module",
     "wc_world":
-        "ComponentWorld::new=component_world ImportOptions::for_import=plain_options explain=wcplan "
-        "required_exports=component_world",
+        "ComponentWorld::new=component_world ComponentWorld::new_explained=component_world "
+        "ImportOptions::for_import=plain_options explain=wcplan required_exports=component_world",
     "wc_write":
         "BodyText::put=write_module append_import_section append_locals=allocate_stack_via_realloc "
         "append_operator=allocate_stack_via_realloc append_raw_section raw_section write_body write_import_section "
@@ -95,7 +97,7 @@ def functions():
         for path in files_of(crate, "src", ".rt"):
             for it in functions_of(str(path), path.read_text(encoding="utf-8")):
                 answer = re.split(r"\n\s*(?:requires|ensures)\b", it.text)[0].rpartition("->")[2]
-                can_fail = "AllocError" in answer or "Fault" in answer or it.name in OTHERS.get(crate, "").split()
+                can_fail = re.search("AllocError|Fault|Refused", answer) or it.name in OTHERS.get(crate, "").split()
                 if can_fail and (it.is_public or it.in_trait == "pub trait") and (it.owner or it.name) in exported:
                     yield "::".join(word for word in (crate, it.owner, it.name) if word)
 

@@ -18,7 +18,8 @@ use wc_module_rows::validation::described_modules::described_of;
 use wc_resolve::Resolve;
 use wc_validate::ValidateFault;
 use wc_world::{
-    ComponentWorld, ImportOptions, ModulePlace, PlainOptions, WorldFault, WorldPlace, explain,
+    ComponentWorld, ImportOptions, ModulePlace, PlainOptions, RefusedWorld, WorldFault, WorldPlace,
+    explain,
 };
 
 /// A fault; and after PageSize the adapter, and the bytes in its pages and in the main module's.
@@ -74,11 +75,27 @@ fn put_asked_place(
     }
 }
 
+/// The lines of a place.
+fn place_lines(alloc: Global, place: Result<Option<WorldPlace>, AllocError>) -> Lines {
+    let mut lines = Lines::new(alloc);
+    match place {
+        Ok(Some(place)) => put_world_place(&place, &mut lines),
+        Ok(None) => lines.push_str("none\n"),
+        Err(_) => lines.lack_memory(),
+    }
+    lines
+}
+
+/// Puts what a fault is about, as two calls answer it; once, where they agree.
 fn put_explained(alloc: Global, encoder: &ComponentEncoder, fault: &WorldFault, out: &mut Lines) {
-    match explain(alloc, encoder, fault) {
-        Ok(Some(place)) => put_world_place(&place, out),
-        Ok(None) => out.push_str("none\n"),
-        Err(_) => out.lack_memory(),
+    let explained = place_lines(alloc, explain(alloc, encoder, fault));
+    out.push_lines(&explained);
+    if let Err(refused) = ComponentWorld::new_explained(alloc, encoder, &PlainOptions) {
+        let RefusedWorld { fault: _, place } = refused;
+        let found = place_lines(alloc, place);
+        if found.text() != explained.text() {
+            out.push_lines(&found);
+        }
     }
 }
 

@@ -29,6 +29,7 @@ use Rattle.wc_validate.specs.Imports.Classify.{HasSignature, IsNameFault}
 use Rattle.wc_validate.specs.Validate.{HasNoCause, IsValidateCause, IsExportsCause, IsExportsRecord, IsImportsCause, IsImportsRecord, IsModuleCause, IsRecordOf, IsImportScopeFor, ValidationInput, ModuleRecord, module_record}
 use Rattle.wc_validate.specs.declared.validate.ValidatedModule.{ValidatedModule}
 use Rattle.wc_validate.specs.declared.fault.ValidateFault.{ValidateFault}
+use Rattle.wc_validate.specs.declared.refused.RefusedModule.{RefusedModule}
 use Rattle.wc_validate.specs.declared.fault.ValidateFault.TheVariants.{Memory, Read, NotAModule, SignatureMismatch}
 use Rattle.wc_validate.proofs.LawLemmas.{exports_alike, none_some, one_core, one_entry, one_name_scope, same_signature, import_scopes_same}
 
@@ -174,7 +175,7 @@ pub records_exclude : (e : EncoderView) → MeaningsUnique e.resolve → Exports
 records_exclude e unique unique_exports one j bytes r is p f other h = other (no_fault e unique unique_exports one j bytes r f is p h)
 
 -- of what is answered
-pub answered : (e : EncoderView) → RecordsExcludeFaults e → (x : Result ValidatedModule ValidateFault) (j : ValidationInput) (bytes : List ℕ) → j.encoder ≡ e
+pub answered : (e : EncoderView) → RecordsExcludeFaults e → (x : Result ValidatedModule RefusedModule) (j : ValidationInput) (bytes : List ℕ) → j.encoder ≡ e
     → IfOk x (λ v. IsRecordOf j bytes (module_record v)) → OnOk x (HasNoCause j bytes)
 answered e law (Ok v) j bytes is h = law j bytes (module_record v) is h
 answered e law (Err f) j bytes is h = tt

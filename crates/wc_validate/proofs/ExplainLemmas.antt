@@ -1,25 +1,22 @@
 -- Where validation stops: the first import or export that is refused, and what is recorded before it.
-use Rattle.std.proofs.Common.{◌≡◌, ◌≢◌, ◌↔◌, ℕ, Bool, false, IsTrue, ◌<◌, ◌≤◌, ◌+◌, List, [], ◌∷◌, ◌++◌, length, map, take, get_or, Option, Some, None, option_copied, IfOk, IsOkAnd, MatchOption, Result, Ok, Err, String, string_bytes, refl, sym, ap, subst, ◌∙◌, append_assoc, append-nil, inl, inr}
+use Rattle.std.proofs.Common.{◌≡◌, ◌≢◌, ◌↔◌, ℕ, zero, suc, Bool, false, IsTrue, ◌<◌, ◌≤◌, ◌+◌, List, [], ◌∷◌, ◌++◌, length, map, take, get_or, Option, Some, None, option_copied, IfOk, IsOkAnd, Result, Ok, Err, String, string_bytes, refl, sym, ap, subst, ◌∙◌, append_assoc, append-nil, inl, inr}
 use Rattle.std.specs.List.{cons_option, filter_map, slice_get}
 use Rattle.std.specs.Option.{option_map}
 use Rattle.std.specs.declared.alloc.Global.{Global}
 use Rattle.std.specs.declared.alloc.AllocError.{AllocError}
 use Rattle.std.proofs.lemmas.List.{map-append, take-map, take_all, take_more}
-use Rattle.std.proofs.lemmas.List.Elements.{filter_map-append}
 use Rattle.std.proofs.lemmas.Option.{slice_get-get_or, slice_get-map}
 use Rattle.wc_read.specs.declared.core_module.Module.{Module}
 use Rattle.wc_read.specs.declared.exports.Export.{Export as RawExport}
 use Rattle.wc_read.specs.declared.types.Import.{Import}
 use Rattle.wc_read.specs.Exports.{ExportValue, export_value}
 use Rattle.wc_read.specs.Imports.{ImportValue, import_value, import_values}
-use Rattle.wc_read.specs.Modules.{ModuleValue, SpellsModule, module_value}
+use Rattle.wc_read.specs.Modules.{ModuleValue, module_value}
 use Rattle.wc_read.specs.declared.types.FuncType.{FuncType}
 use Rattle.wc_read.specs.declared.types.ImportType.TheVariants as imported
 use Rattle.wc_read.specs.Types.{FuncTypeValue, func_type_value}
-use Rattle.wc_resolve.specs.Views.{KeyView}
-use Rattle.wc_names.specs.declared.exports.Export.{Export as ClassifiedAs}
+use Rattle.wc_resolve.specs.Views.{KeyView, key_view}
 use Rattle.wc_names.specs.Exports.{ClassifiedExport, CoreExport}
-use Rattle.wc_names.specs.ExportViews.{export_view}
 use Rattle.wc_adapters.specs.Adapters.{LibraryView}
 use Rattle.wc_names.specs.Imports.{Classified, CoreImport, ExternType, NameScope, func_type}
 use Rattle.wc_names.specs.Laws.{MeaningsUnique}
@@ -27,7 +24,8 @@ use Rattle.wc_names.specs.Meanings.{means}
 use Rattle.wc_names.specs.declared.imports.Import.{Import as NamedImport}
 use Rattle.wc_names.specs.Views.{ImportView, import_view}
 use Rattle.wc_validate.specs.declared.exports.classify.ExportContext.{ExportContext}
-use Rattle.wc_validate.specs.declared.explain.refused.RefusedExport.{RefusedExport}
+use Rattle.wc_validate.specs.declared.refused.RefusedModule.{RefusedModule}
+use Rattle.wc_validate.specs.declared.validate.ValidationInput.{ValidationInput as CodeInput}
 use Rattle.wc_validate.specs.declared.fault.ValidateFault.{ValidateFault}
 use Rattle.wc_validate.specs.declared.fault.ValidateFault.TheVariants.{Memory, NotAFunction, SignatureMismatch, NoRootImport, RootNotFunction, BadSyntax, UnknownInterface, UnknownIntrinsic, MissingFunction, NoSuchExport, TypedReference, WholeDiffers, Mixed, SeveralMemoryImports, DuplicateImport, AdapterTypesDiffer}
 use Rattle.wc_validate.specs.declared.imports.record.ImportContext.{ImportContext}
@@ -38,15 +36,17 @@ use Rattle.wc_validate.specs.declared.place.Place.{Place}
 use Rattle.wc_validate.specs.declared.place.Subject.{Subject}
 use Rattle.wc_validate.specs.Exports.Contexts.{core_export}
 use Rattle.wc_validate.specs.Exports.Map.{ExportRecord}
-use Rattle.wc_validate.specs.Exports.Record.{AreExports, IsExportRecorded, IsMismatched, core_exports, entry_of, item_type, typed_export}
+use Rattle.wc_validate.specs.Exports.Record.{AreExports, HasMismatch, IsExportsFault, IsMismatched, core_exports, exports_in, item_type, typed_export}
 use Rattle.wc_validate.specs.Fault.{import_fault_kind}
 use Rattle.wc_validate.specs.Classifications.{IsClassification}
 use Rattle.wc_validate.specs.Imports.Classify.{IsClassified, IsNameFault}
 use Rattle.wc_validate.specs.Imports.Entries.{Entry, adapter_type_of, by_modules, first_by, single, whole}
 use Rattle.wc_validate.specs.Imports.Record.{ImportScope, AreEntries, IsEntry, IsEntryCause, IsFaultOfImport, IsValidAfter, entry_faults, extern_type, library_entry}
 use Rattle.wc_validate.specs.NameScope.{name_scope_of}
-use Rattle.wc_validate.specs.Explain.{IsExplained, IsExportPlace, IsFirstRefused, IsImportPlace, IsOfImport, IsOtherMismatch, IsOtherRefused, IsTypedAt, DifferenceView, difference_of, an_export, an_import, place_view, subject_view}
-use Rattle.wc_validate.specs.Private.Explain.{AreDifferingTypes, AreMismatchedTypes, AreTypesIn, HasRecordedImports, IsAdapterFunction, function_view, IsExportStopAt, IsExportStopIn, IsImportExplained, IsMismatchExplained, IsModuleExplained, IsStopAt}
+use Rattle.wc_validate.specs.Explain.{IsExportPlace, IsFirstMismatched, IsImportPlace, IsModulePlace, IsOfImport, IsPlaceOfImport, IsTypedAt, DifferenceView, PlaceView, difference_of, an_export, an_import, place_view, subject_view}
+use Rattle.wc_validate.specs.Private.Explain.{AreDifferingTypes, AreMismatchedTypes, AreTypesIn, HasRecordedImports, IsAdapterFunction, function_view, IsExportStopAt, IsPlaceIn, IsStopAt, IsStopPlaced}
+use Rattle.wc_validate.specs.Private.ValidationInputs.{validation_input_of}
+use Rattle.wc_validate.specs.Refused.{IsMemoryRefusal, IsPlaceOrNone, IsRefusedAt}
 use Rattle.wc_validate.specs.Private.Exports.Classify.{IsExportClassified}
 use Rattle.wc_validate.specs.Private.Imports.Contexts.{AreRecorded, AreRecordedIn, HasLibrary, IsClassifiedIn, IsImportRecorded, IsImportRefusal, import_scope}
 use Rattle.wc_validate.specs.Private.Imports.Recorder.{types_in}
@@ -55,7 +55,8 @@ use Rattle.wc_validate.proofs.BuiltinLemmas.{not_so}
 use Rattle.wc_validate.proofs.ExclusionLemmas.{kind_of}
 use Rattle.wc_validate.proofs.ImportRecordLemmas.{by_name}
 use Rattle.wc_validate.proofs.LawLemmas.{entries_same}
-use Rattle.wc_validate.proofs.ExportRecordLemmas.{entry_none, entry_some, recorded_nothing}
+use Rattle.wc_validate.proofs.ExportRecordLemmas.{ExportsPassed}
+use Rattle.wc_validate.proofs.RefusedLemmas.{memory_at}
 
 some_same : {X : Type 0} {x y : X} → Some x ≡ Some y → x ≡ y
 some_same e = cc e
@@ -131,44 +132,24 @@ fault_of_import s before i f (inr h) =
     let kind = kind_of (λ k (g : ValidateFault). IsEntryCause before h.0 k × (g ≡ k)) entry_faults f h.2 in
     subst IsOfImport (sym kind.1.1) (cause_of_import before h.0 kind.0 kind.1.0)
 
--- an import that is refused with another fault
-pub other_at : (s : ImportScope) (imports : List ImportValue) (index : ℕ) (f g : ValidateFault) → IsStopAt s imports index g → g ≢ Memory
-    → (IsOfImport g → f ≢ g) → IsOtherRefused s imports f
-other_at s imports index f Memory h real other = absurd (real refl)
-other_at s imports index f g h real other = (index, h.0, h.1, g, h.2, other (fault_of_import s h.1 h.0 g h.2.refused))
-
--- the types of an import, by another name of the fault and of the import
-typed_as : (s : ImportScope) (before : List Entry) (x y : ImportValue) (f g : ValidateFault) (types : Option DifferenceView) → x ≡ y → f ≡ g
-    → IsTypedAt s before y g types → IsTypedAt s before x f types
-typed_as s before x y f g types is same h =
-    subst (λ z. IsTypedAt s before z f types) (sym is) (subst (λ z. IsTypedAt s before y z types) (sym same) h)
-
--- an import as the place of a fault
-placed : (s : ImportScope) (imports : List ImportValue) (index : ℕ) (x : ImportValue) (subject : Subject) (types : Option DifferenceView) (f g : ValidateFault)
-    → slice_get imports index ≡ Some x → IsStopAt s imports index g → g ≢ Memory → f ≡ g
-    → subject_view subject ≡ an_import x.module_name x.name index
-    → ((before : List Entry) → AreEntries s [] (take index imports) before → IsTypedAt s before x g types)
-    → IsImportPlace s imports f (record { subject = subject_view subject; types = types })
-placed s imports index x subject types f Memory there h real same is typed = absurd (real refl)
-placed s imports index x subject types f g there h real same is typed =
-    let value : h.0 ≡ x = some_same (sym h.2.there ∙ there) in
+-- an import as the place of the fault that it is refused with
+pub place_at : (s : ImportScope) (imports : List Import) (index : ℕ) (d : Import) (subject : Subject) (types : Option DifferenceView) (f : ValidateFault)
+    → index < length imports → IsStopAt s (import_values imports) index f → f ≢ Memory
+    → subject_view subject ≡ an_import (get_or imports index d).module.now (get_or imports index d).name.now index
+    → ((before : List Entry) → AreEntries s [] (import_values (take index imports)) before → IsTypedAt s before (import_value (get_or imports index d)) f types)
+    → IsImportPlace s (import_values imports) f (record { subject = subject_view subject; types = types })
+place_at s imports index d subject types Memory below h real is typed = absurd (real refl)
+place_at s imports index d subject types f below h real is typed =
+    let value : h.0 ≡ import_value (get_or imports index d) = some_same (sym h.2.there ∙ value_there imports index d below) in
     record {
       index = index;
       value = h.0;
       before = h.1;
-      first = subst (IsFirstRefused s imports index h.0 h.1) (sym same) h.2;
+      first = h.2;
       subject = is ∙ ap (λ (z : ImportValue). an_import z.module_name z.name index) (sym value);
-      types = typed_as s h.1 h.0 x f g types value same (typed h.1 h.2.recorded);
+      types = subst (λ z. IsTypedAt s h.1 z f types) (sym value)
+          (typed h.1 (subst (λ z. AreEntries s [] z h.1) (take-map import_value index imports) h.2.recorded));
     }
-
-pub place_at : (s : ImportScope) (imports : List Import) (index : ℕ) (d : Import) (subject : Subject) (types : Option DifferenceView) (f g : ValidateFault)
-    → index < length imports → IsStopAt s (import_values imports) index g → g ≢ Memory → f ≡ g
-    → subject_view subject ≡ an_import (get_or imports index d).module.now (get_or imports index d).name.now index
-    → ((before : List Entry) → AreEntries s [] (import_values (take index imports)) before → IsTypedAt s before (import_value (get_or imports index d)) g types)
-    → IsImportPlace s (import_values imports) f (record { subject = subject_view subject; types = types })
-place_at s imports index d subject types f g below h real same is typed =
-    placed s (import_values imports) index (import_value (get_or imports index d)) subject types f g (value_there imports index d below) h real same is
-    (λ before entries. typed before (subst (λ z. AreEntries s [] z before) (take-map import_value index imports) entries))
 
 -- the types of an import that is refused for its type
 type_at : (types : List FuncType) (index : ℕ) (d : FuncType) (ty : ExternType) → index < length types
@@ -240,17 +221,17 @@ module _ (j : ValidationInput) (m : Module) (c : ImportContext) (imports : List 
   scope_for : IsImportScopeFor j.encoder j.renames j.library (module_value m).types (import_scope c j.library)
   scope_for = record { has_name_scope = names; has_library = refl; has_renames = renames; has_types = ap (map func_type_value) types }
 
-  pub import_explained : (r : Result (Option Place) AllocError) (f : ValidateFault) → IfOk r (IsImportExplained c imports f)
-      → IfOk r (IsModuleExplained j (module_value m) f)
-  import_explained (Ok None) f h =
-      inl (import_scope c j.library, scope_for, subst (λ z. IsOtherRefused (import_scope c j.library) (import_values z) f) same (h j.library library))
-  import_explained (Ok (Some p)) f h =
-      inl (
-        import_scope c j.library,
-        scope_for,
-        subst (λ z. IsImportPlace (import_scope c j.library) (import_values z) f (place_view p)) same (h j.library library),
-      )
-  import_explained (Err e) f h = tt
+  import_at : (f : ValidateFault) (r : Result (Option Place) AllocError) → IfOk r (IsStopPlaced c imports f)
+      → IfOk r (IsPlaceOrNone (IsPlaceOfImport j (module_value m)) f)
+  import_at f (Ok None) h = h j.library library
+  import_at f (Ok (Some p)) h =
+      (import_scope c j.library, scope_for, subst (λ z. IsImportPlace (import_scope c j.library) (import_values z) f (place_view p)) same (h j.library library))
+  import_at f (Err e) h = tt
+
+  pub import_refused : (x : RefusedModule) (f : ValidateFault) → x.fault ≡ f → IfOk x.place (IsStopPlaced c imports f)
+      → IsRefusedAt (IsPlaceOfImport j (module_value m)) x
+  import_refused x f is h =
+      subst (λ z. IfOk x.place (IsPlaceOrNone (IsPlaceOfImport j (module_value m)) z)) (sym is) (import_at f x.place h)
 
   pub imports_recorded : (r : Recorder) → AreRecordedIn c j.library imports r → HasRecordedImports j (module_value m)
   imports_recorded r p = (
@@ -263,48 +244,9 @@ module _ (j : ValidationInput) (m : Module) (c : ImportContext) (imports : List 
   )
 
 -- exports
-exports_more : (e : NameScope) (keys : List KeyView) (xs : List CoreExport) (x : CoreExport) (old new : ExportRecord) → AreExports e keys xs old
-    → IsExportRecorded e keys x old new → AreExports e keys (xs ++ x ∷ []) new
-exports_more e keys [] x old new h k =
-    (k.0, [], k.1, refl, k.2 ∙ (ap (λ z. z ++ entry_of x.name k.0) h ∙ sym (append-nil (entry_of x.name k.0))))
-exports_more e keys (y ∷ ys) x old new h k = (
-  h.0,
-  h.1 ++ entry_of x.name k.0,
-  h.2,
-  exports_more e keys ys x h.1 (h.1 ++ entry_of x.name k.0) h.3 (k.0, k.1, refl),
-  k.2 ∙ (ap (λ z. z ++ entry_of x.name k.0) h.4 ∙ append_assoc (entry_of y.name h.0) h.1 (entry_of x.name k.0)),
-)
-
-recorded_export : (e : NameScope) (keys : List KeyView) (x : CoreExport) (o : Option ClassifiedAs) (old : ExportRecord)
-    → IsExportClassified (ClassifiedExport e keys x) x.ty (Ok o) → (new : ExportRecord) × IsExportRecorded e keys x old new
-recorded_export e keys x None old h = (old, recorded_nothing e keys x old (entry_none e keys x h))
-recorded_export e keys x (Some y) old h =
-    (old ++ entry_of x.name (Some (export_view y)), (Some (export_view y), entry_some e keys x y h, refl))
-
-core_more : (m : ModuleValue) (es : List ExportValue) (x : ExportValue) (ty : ExternType) → item_type m x.kind x.index ≡ Some ty
-    → core_exports m (es ++ x ∷ []) ≡ core_exports m es ++ core_export x.name ty ∷ []
-unfolding core_exports
-core_more m es x ty is =
-    filter_map-append (typed_export m) es (x ∷ [])
-    ∙ ap (λ z. filter_map (typed_export m) es ++ z) (ap (λ (o : Option ExternType). cons_option (option_map (core_export x.name) o) []) is)
-
-abbrev pub HasExportsBefore : NameScope → List KeyView → ModuleValue → List RawExport → ℕ → Type 0
-HasExportsBefore e keys m es i = (before : ExportRecord) × AreExports e keys (core_exports m (map export_value (take i es))) before
-
 module _ (e : NameScope) (keys : List KeyView) (m : ModuleValue) (es : List RawExport) (i : ℕ) (d : RawExport) (ty : ExternType) (below : i < length es)
-    (typed : item_type m (export_value (get_or es i d)).kind (export_value (get_or es i d)).index ≡ Some ty) (p : HasExportsBefore e keys m es i) where
-  pub exports_passed : (o : Option ClassifiedAs)
-      → IsExportClassified (ClassifiedExport e keys (core_export (export_value (get_or es i d)).name ty)) ty (Ok o) → HasExportsBefore e keys m es (i + 1)
-  exports_passed o h =
-      let x = export_value (get_or es i d) in
-      let new = recorded_export e keys (core_export x.name ty) o p.0 h in
-      let more = ap (map export_value) (take_more es i d below) ∙ map-append export_value (take i es) (get_or es i d ∷ []) in (
-        new.0,
-        subst (λ z. AreExports e keys z new.0)
-            (sym (ap (core_exports m) more ∙ core_more m (map export_value (take i es)) x ty typed))
-            (exports_more e keys (core_exports m (map export_value (take i es))) (core_export x.name ty) p.0 new.0 p.1 new.1),
-      )
-
+    (typed : item_type m (export_value (get_or es i d)).kind (export_value (get_or es i d)).index ≡ Some ty) (recorded : ExportRecord)
+    (p : ExportsPassed e keys m es i recorded) where
   pub exports_stop : (f : NameFault)
       → IsExportClassified (ClassifiedExport e keys (core_export (export_value (get_or es i d)).name ty)) ty (Err f)
       → IsExportStopAt e keys m (map export_value es) i f
@@ -317,8 +259,8 @@ module _ (e : NameScope) (keys : List KeyView) (m : ModuleValue) (es : List RawE
           value = x;
           there = slice_get-map export_value es i ∙ ap (option_map export_value) (slice_get-get_or es i d below);
           typed = ap (option_map (core_export x.name)) typed;
-          before = p.0;
-          recorded = subst (λ z. AreExports e keys (core_exports m z) p.0) (sym (take-map export_value i es)) p.1;
+          before = recorded;
+          recorded = subst (λ z. AreExports e keys (core_exports m z) recorded) (sym (take-map export_value i es)) p.before;
           mismatched = (h.0, func_type_value wanted, h.1, h.2);
         },
         h,
@@ -339,20 +281,20 @@ core_of : (m : ModuleValue) (v : ExportValue) (x : CoreExport) (ty : ExternType)
 core_of m v x ty typed is = some_same (sym (ap (option_map (core_export v.name)) typed) ∙ is)
 
 pub export_at : (e : NameScope) (keys : List KeyView) (m : ModuleValue) (es : List RawExport) (i : ℕ) (d : RawExport) (name : String Global)
-    (wanted found ty : FuncType) (f : ValidateFault) → i < length es → IsExportStopAt e keys m (map export_value es) i (naming.SignatureMismatch wanted)
-    → f ≡ SignatureMismatch → string_bytes name ≡ (export_value (get_or es i d)).name
+    (wanted found ty : FuncType) → i < length es → IsExportStopAt e keys m (map export_value es) i (naming.SignatureMismatch wanted)
+    → string_bytes name ≡ (export_value (get_or es i d)).name
     → item_type m (export_value (get_or es i d)).kind (export_value (get_or es i d)).index ≡ Some (func_type (func_type_value ty))
     → func_type_value found ≡ func_type_value ty
-    → IsExportPlace e keys m (map export_value es) f
+    → IsExportPlace e keys m (map export_value es) SignatureMismatch
     (record { subject = an_export (string_bytes name); types = Some (difference_of (func_type_value wanted) (func_type_value found)) })
-export_at e keys m es i d name wanted found ty f below stop same called typed copied =
+export_at e keys m es i d name wanted found ty below stop called typed copied =
     let there = slice_get-map export_value es i ∙ ap (option_map export_value) (slice_get-get_or es i d below) in
     let value : stop.1.value ≡ export_value (get_or es i d) = some_same (sym stop.1.there ∙ there) in
     let core = core_of m (export_value (get_or es i d)) stop.0 (func_type (func_type_value ty)) typed
     (subst (λ z. typed_export m z ≡ Some stop.0) value stop.1.typed) in
     let found_is : (stop.0).ty ≡ func_type (func_type_value found) = ap (λ (z : CoreExport). z.ty) (sym core) ∙ ap func_type (sym copied) in
     record {
-      is_mismatch = same;
+      is_mismatch = refl;
       index = i;
       core_export = stop.0;
       first = stop.1;
@@ -360,41 +302,64 @@ export_at e keys m es i d name wanted found ty f below stop same called typed co
       types = (stop.2.0, stop.2.1, found_is, differ_as (stop.0).ty (func_type_value wanted) (func_type_value found) found_is stop.2.2);
     }
 
-pub other_mismatch : (e : NameScope) (keys : List KeyView) (m : ModuleValue) (es : List ExportValue) (i : ℕ) (f : ValidateFault) (wanted : FuncType)
-    → IsExportStopAt e keys m es i (naming.SignatureMismatch wanted) → f ≢ SignatureMismatch → IsOtherMismatch e keys m es f
-other_mismatch e keys m es i f wanted stop other = (i, stop.0, stop.1, other)
+-- which exports are refused: that of an export whose type is another, or for a failed allocation
+past_export : (e : NameScope) (keys : List KeyView) (o : Option CoreExport) (xs ys : List CoreExport) (before : ExportRecord)
+    → AreExports e keys (cons_option o xs) before → ((rest : ExportRecord) → AreExports e keys xs rest → HasMismatch e keys ys)
+    → HasMismatch e keys (cons_option o ys)
+past_export e keys None xs ys before h k = k before h
+past_export e keys (Some x) xs ys before h k = inr (h.0, h.2, k h.1 h.3)
 
-pub export_explained : (j : ValidationInput) (m : Module) (c : ExportContext) (es : List RawExport) → HasRecordedImports j (module_value m)
-    → IsNameScopeOf j.encoder (name_scope_of c.names) → c.standard.keys ≡ j.keys → es ≡ m.exports.items → (x : RefusedExport) (f : ValidateFault)
-    → IsExportStopIn c m es x → (r : Result (Option Place) AllocError) → IsMismatchExplained m es x f r → IfOk r (IsModuleExplained j (module_value m) f)
-export_explained j m c es imports names keys same x f stop r h = shown r (h (name_scope_of c.names) c.standard.keys stop) where
-  shown : (r : Result (Option Place) AllocError)
-      → IfOk r (λ answer. MatchOption answer (IsOtherMismatch (name_scope_of c.names) c.standard.keys (module_value m) (map export_value es) f)
-      (λ (p : Place). IsExportPlace (name_scope_of c.names) c.standard.keys (module_value m) (map export_value es) f (place_view p)))
-      → IfOk r (IsModuleExplained j (module_value m) f)
-  shown (Ok None) h =
-      inr (
-        imports.0,
-        imports.1,
-        name_scope_of c.names,
-        names,
-        inr (subst (λ z. IsOtherMismatch (name_scope_of c.names) z (module_value m) (map export_value m.exports.items) f) keys
-            (subst (λ z. IsOtherMismatch (name_scope_of c.names) c.standard.keys (module_value m) (map export_value z) f) same h)),
-      )
-  shown (Ok (Some p)) h =
-      inr (inl (
-        imports.0,
-        imports.1,
-        name_scope_of c.names,
-        names,
-        subst (λ z. IsExportPlace (name_scope_of c.names) z (module_value m) (map export_value m.exports.items) f (place_view p)) keys
-            (subst (λ z. IsExportPlace (name_scope_of c.names) c.standard.keys (module_value m) (map export_value z) f (place_view p)) same h),
-      ))
-  shown (Err e) h = tt
+pub mismatch_after : (e : NameScope) (keys : List KeyView) (m : ModuleValue) (es : List ExportValue) (n : ℕ) (v : ExportValue) (x : CoreExport)
+    (before : ExportRecord) → slice_get es n ≡ Some v → typed_export m v ≡ Some x → AreExports e keys (core_exports m (take n es)) before
+    → IsMismatched e keys x → HasMismatch e keys (core_exports m es)
+unfolding core_exports
+mismatch_after e keys m [] n v x before there typed h k = absurd (let bad : ⊥ = cc there in bad)
+mismatch_after e keys m (w ∷ ws) zero v x before there typed h k =
+    subst (λ o. HasMismatch e keys (cons_option o (filter_map (typed_export m) ws))) (sym (ap (typed_export m) (some_same there) ∙ typed)) (inl k)
+mismatch_after e keys m (w ∷ ws) (suc n) v x before there typed h k =
+    past_export e keys (typed_export m w) (filter_map (typed_export m) (take n ws)) (filter_map (typed_export m) ws) before h
+    (λ rest more. mismatch_after e keys m ws n v x rest there typed more k)
 
--- the module that bytes spell
-pub explained : (j : ValidationInput) (bytes : List ℕ) (m : ModuleValue) → SpellsModule bytes m → (r : Result (Option Place) AllocError) (f : ValidateFault)
-    → IfOk r (IsModuleExplained j m f) → IfOk r (IsExplained j bytes f)
-explained j bytes m spelled (Ok None) f h = inr (m, spelled, h)
-explained j bytes m spelled (Ok (Some p)) f h = (m, spelled, h)
-explained j bytes m spelled (Err e) f h = tt
+pub first_mismatch : (e : NameScope) (keys : List KeyView) (m : ModuleValue) (es : List ExportValue) (n : ℕ) (x : CoreExport)
+    → IsFirstMismatched e keys m es n x → HasMismatch e keys (core_exports m es)
+first_mismatch e keys m es n x h = mismatch_after e keys m es n h.value x h.before h.there h.typed h.recorded h.mismatched
+
+-- a module that is refused for an export
+pub mismatch_refused : (e : NameScope) (keys : List KeyView) (m : ModuleValue) (es : List RawExport) (i : ℕ) (wanted : FuncType) (x : RefusedModule)
+    → IsExportStopAt e keys m (map export_value es) i (naming.SignatureMismatch wanted) → x.fault ≡ SignatureMismatch
+    → IfOk x.place (IsPlaceOrNone (IsExportPlace e keys m (map export_value es)) SignatureMismatch)
+    → IsExportsFault e keys (core_exports m (map export_value es)) x.fault × IsRefusedAt (IsExportPlace e keys m (map export_value es)) x
+mismatch_refused e keys m es i wanted x stop is placed = (
+  subst (IsExportsFault e keys (core_exports m (map export_value es))) (sym is) (first_mismatch e keys m (map export_value es) i stop.0 stop.1),
+  subst (λ z. IfOk x.place (IsPlaceOrNone (IsExportPlace e keys m (map export_value es)) z)) (sym is) placed,
+)
+
+pub memory_refused : (e : NameScope) (keys : List KeyView) (m : ModuleValue) (es : List RawExport) (x : RefusedModule) → IsMemoryRefusal x
+    → IsExportsFault e keys (core_exports m (map export_value es)) x.fault × IsRefusedAt (IsExportPlace e keys m (map export_value es)) x
+memory_refused e keys m es x h = (
+  subst (IsExportsFault e keys (core_exports m (map export_value es))) (sym h.0) tt,
+  memory_at (IsExportPlace e keys m (map export_value es)) x h,
+)
+
+-- the place of a fault of exports, by the context that they are recorded by
+pub placed_exports : (i : CodeInput) (m : Module) (c : ExportContext) → HasRecordedImports (validation_input_of i) (module_value m)
+    → IsNameScopeOf i.encoder.now (name_scope_of c.names) → c.standard.keys ≡ map key_view i.required.keys.now.keys
+    → (f : ValidateFault) (p : PlaceView) → IsPlaceIn c i.required m f p → IsModulePlace (validation_input_of i) (module_value m) f p
+placed_exports i m c imports names keys f p (inl h) =
+    inr (inl (
+      imports.0,
+      imports.1,
+      name_scope_of c.names,
+      names,
+      subst (λ z. IsExportPlace (name_scope_of c.names) z (module_value m) (map export_value m.exports.items) f p) keys h,
+    ))
+placed_exports i m c imports names keys f p (inr h) =
+    inr (inr (
+      imports.0,
+      imports.1,
+      name_scope_of c.names,
+      names,
+      h.0,
+      subst (λ z. AreExports (name_scope_of c.names) z (exports_in m m.exports.items) h.0) keys h.1,
+      h.2,
+    ))

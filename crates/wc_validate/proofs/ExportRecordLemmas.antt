@@ -1,13 +1,13 @@
 -- Exports recorded one after another.
-use Rattle.std.proofs.Common.{◌≡◌, ◌≢◌, ℕ, suc, ◌<◌, ◌≤◌, ◌+◌, Bool, true, false, cond, List, [], ◌∷◌, ◌++◌, map, length, get_or, drop, Option, Some, None, Ok, Err, All, AllPairs, String, string_bytes, is_some, inl, inr, refl, sym, ap, subst, ◌∙◌, append-nil, append_assoc, arith}
+use Rattle.std.proofs.Common.{◌≡◌, ◌≢◌, ℕ, suc, ◌<◌, ◌≤◌, ◌+◌, Bool, true, false, cond, List, [], ◌∷◌, ◌++◌, map, length, get_or, drop, take, Option, Some, None, Ok, Err, All, AllPairs, String, string_bytes, is_some, refl, sym, ap, subst, ◌∙◌, append-nil, append_assoc, arith}
 use Rattle.std.specs.List.{cons_option, filter_map}
 use Rattle.std.specs.Map.{lookup}
 use Rattle.std.specs.Option.{option_map}
 use Rattle.std.specs.String.{string_eq}
 use Rattle.std.specs.Str.{bytes_eq}
 use Rattle.std.specs.declared.alloc.Global.{Global}
-use Rattle.std.proofs.lemmas.List.{drop_all, map-append}
-use Rattle.std.proofs.lemmas.List.Elements.{All-head, All-tail}
+use Rattle.std.proofs.lemmas.List.{map-append, take_all, take_more}
+use Rattle.std.proofs.lemmas.List.Elements.{All-head, All-tail, filter_map-append}
 use Rattle.std.proofs.Math.Seq.{drop-cons}
 use Rattle.std.proofs.lemmas.Slice.Eq.{bytes_eq-Decides}
 use Rattle.indexmap.specs.IndexMap.{insert_entry}
@@ -21,19 +21,14 @@ use Rattle.wc_names.specs.declared.exports.Export.{Export}
 use Rattle.wc_names.specs.Exports.{ClassifiedExport, CoreExport}
 use Rattle.wc_names.specs.ExportViews.{ExportView, export_view}
 use Rattle.wc_names.specs.Imports.{ExternType, NameScope}
-use Rattle.wc_validate.specs.declared.fault.ValidateFault.{ValidateFault}
-use Rattle.wc_validate.specs.declared.fault.ValidateFault.TheVariants as fault
 use Rattle.wc_validate.specs.Imports.AdapterTypes.{first_some}
 use Rattle.wc_validate.specs.Exports.Contexts.{core_export}
 use Rattle.wc_validate.specs.Exports.Map.{ExportRecord, export_entry}
-use Rattle.wc_validate.specs.Exports.Record.{AreExports, HasMismatch, IsExportEntry, IsExportFault, IsExportRecorded, IsExportsFault, IsMismatched, core_exports, entry_of, item_type, typed_export}
+use Rattle.wc_validate.specs.Exports.Record.{AreExports, IsExportEntry, IsExportRecorded, core_exports, entry_of, item_type, typed_export}
 use Rattle.wc_validate.proofs.IndexLemmas.{lookup_push}
 use Rattle.wc_validate.proofs.PutLemmas.{insert_new, is_called}
-use Rattle.wc_validate.specs.Classifications.{IsClassification, IsReason, of_exports}
-use Rattle.wc_read.specs.Types.{func_type_value}
-use Rattle.wc_validate.specs.declared.name_fault.NameFault.{NameFault}
+use Rattle.wc_validate.specs.Classifications.{IsClassification}
 use Rattle.wc_validate.specs.declared.name_fault.NameFault.TheVariants as naming
-use Rattle.wc_validate.specs.Fault.{fault_kind, of_name}
 use Rattle.wc_validate.specs.Private.Exports.Classify.{IsExportClassified}
 
 -- what the classification of an export says of its record
@@ -47,25 +42,10 @@ pub entry_some : (e : NameScope) (keys : List KeyView) (x : CoreExport) (y : Exp
 unfolding IsClassification IsExportEntry
 entry_some e keys x y v = v
 
-fault_by : (e : NameScope) (keys : List KeyView) (x : CoreExport) (f : NameFault) → IsReason of_exports (ClassifiedExport e keys x) x.ty (fault_kind f)
-    → IsExportFault e keys x (of_name f)
-unfolding IsMismatched
-fault_by e keys x naming.Memory h = tt
-fault_by e keys x (naming.SignatureMismatch wanted) h = (h.0, func_type_value wanted, h.1, h.2)
-fault_by e keys x naming.NotAFunction h = absurd h
-fault_by e keys x naming.NoRootImport h = absurd h
-fault_by e keys x naming.RootNotFunction h = absurd h
-fault_by e keys x naming.BadSyntax h = absurd h
-fault_by e keys x naming.UnknownInterface h = absurd h
-fault_by e keys x naming.UnknownIntrinsic h = absurd h
-fault_by e keys x naming.MissingFunction h = absurd h
-fault_by e keys x naming.NoSuchExport h = absurd h
-fault_by e keys x naming.TypedReference h = absurd h
-
-pub entry_fault : (e : NameScope) (keys : List KeyView) (x : CoreExport) (f : NameFault) → IsExportClassified (ClassifiedExport e keys x) x.ty (Err f)
-    → IsExportFault e keys x (of_name f)
+-- an allocation failed
+pub entry_memory : (e : NameScope) (keys : List KeyView) (x : CoreExport) → IsExportClassified (ClassifiedExport e keys x) x.ty (Err naming.Memory)
 unfolding IsClassification
-entry_fault e keys x f v = fault_by e keys x f v
+entry_memory e keys x = tt
 
 -- an export that means nothing adds nothing
 pub recorded_nothing : (e : NameScope) (keys : List KeyView) (x : CoreExport) (old : ExportRecord) → IsExportEntry e keys x None
@@ -131,51 +111,29 @@ fresh_next : (recorded : ExportRecord) (own : List ℕ) (o : Option ExportView) 
 fresh_next recorded own o [] differ fresh = tt
 fresh_next recorded own o (x ∷ xs) differ fresh = (unrecorded recorded x.name own o fresh.0 differ.0, fresh.1, fresh_next recorded own o xs differ.1 fresh.2)
 
-core_next : (m : ModuleValue) (x : ExportValue) (xs : List ExportValue) (ty : ExternType) → item_type m x.kind x.index ≡ Some ty
-    → core_exports m (x ∷ xs) ≡ core_export x.name ty ∷ core_exports m xs
-unfolding core_exports
-core_next m x xs ty is = ap (λ (o : Option ExternType). cons_option (option_map (core_export x.name) o) (filter_map (typed_export m) xs)) is
-
 pub no_exports : (e : NameScope) (keys : List KeyView) (m : ModuleValue) → AreExports e keys (core_exports m []) []
 unfolding core_exports
 no_exports e keys m = refl
 
--- how far exports are recorded
-pub record ExportProgress (e : NameScope) (keys : List KeyView) (m : ModuleValue) (all rest : List ExportValue) (recorded : ExportRecord) : Type 0 where
-  pub fresh : AreFresh recorded rest
-  pub entries : (more : ExportRecord) → AreExports e keys (core_exports m rest) more → AreExports e keys (core_exports m all) (recorded ++ more)
-  pub mismatch : HasMismatch e keys (core_exports m rest) → HasMismatch e keys (core_exports m all)
+-- exports
+exports_more : (e : NameScope) (keys : List KeyView) (xs : List CoreExport) (x : CoreExport) (old new : ExportRecord) → AreExports e keys xs old
+    → IsExportRecorded e keys x old new → AreExports e keys (xs ++ x ∷ []) new
+exports_more e keys [] x old new h k =
+    (k.0, [], k.1, refl, k.2 ∙ (ap (λ z. z ++ entry_of x.name k.0) h ∙ sym (append-nil (entry_of x.name k.0))))
+exports_more e keys (y ∷ ys) x old new h k = (
+  h.0,
+  h.1 ++ entry_of x.name k.0,
+  h.2,
+  exports_more e keys ys x h.1 (h.1 ++ entry_of x.name k.0) h.3 (k.0, k.1, refl),
+  k.2 ∙ (ap (λ z. z ++ entry_of x.name k.0) h.4 ∙ append_assoc (entry_of y.name h.0) h.1 (entry_of x.name k.0)),
+)
 
-module _ (e : NameScope) (keys : List KeyView) (m : ModuleValue) (all : List ExportValue) where
-  pub exports_start : (recorded : ExportRecord) → recorded ≡ [] → AllPairs (λ (x y : List ℕ). x ≢ y) (map (λ (x : ExportValue). x.name) all)
-      → ExportProgress e keys m all all recorded
-  exports_start recorded is distinct =
-      subst (ExportProgress e keys m all all) (sym is) (record { fresh = fresh_start all distinct; entries = λ more h. h; mismatch = λ h. h })
-
-  module _ (x : ExportValue) (rest : List ExportValue) (old : ExportRecord) (p : ExportProgress e keys m all (x ∷ rest) old) (ty : ExternType)
-      (typed : item_type m x.kind x.index ≡ Some ty) where
-    pub exports_next_fresh : lookup (bytes_eq x.name) old ≡ None
-    exports_next_fresh = p.fresh.0
-
-    pub exports_next : (new : ExportRecord) → IsExportRecorded e keys (core_export x.name ty) old new → ExportProgress e keys m all rest new
-    exports_next new h = subst (ExportProgress e keys m all rest) (sym h.2) (record {
-      fresh = fresh_next old x.name h.0 rest p.fresh.1 p.fresh.2;
-      entries = λ more after. subst (AreExports e keys (core_exports m all)) (sym (append_assoc old (entry_of x.name h.0) more))
-          (p.entries (entry_of x.name h.0 ++ more) (subst (λ z. AreExports e keys z (entry_of x.name h.0 ++ more)) (sym (core_next m x rest ty typed))
-          (h.0, more, h.1, after, refl)));
-      mismatch = λ after. p.mismatch (subst (HasMismatch e keys) (sym (core_next m x rest ty typed)) (inr (h.0, h.1, after)));
-    })
-
-    pub exports_fault : (f : ValidateFault) → IsExportFault e keys (core_export x.name ty) f → IsExportsFault e keys (core_exports m all) f
-    exports_fault fault.Memory h = tt
-    exports_fault fault.SignatureMismatch h = p.mismatch (subst (HasMismatch e keys) (sym (core_next m x rest ty typed)) (inl h))
-    exports_fault f h = h
-
-  pub exports_end : (rest : List ExportValue) (recorded : ExportRecord) → ExportProgress e keys m all rest recorded → rest ≡ []
-      → AreExports e keys (core_exports m all) recorded
-  exports_end rest recorded p none =
-      subst (AreExports e keys (core_exports m all)) (append-nil recorded)
-      (p.entries [] (subst (λ z. AreExports e keys (core_exports m z) []) (sym none) (no_exports e keys m)))
+core_more : (m : ModuleValue) (es : List ExportValue) (x : ExportValue) (ty : ExternType) → item_type m x.kind x.index ≡ Some ty
+    → core_exports m (es ++ x ∷ []) ≡ core_exports m es ++ core_export x.name ty ∷ []
+unfolding core_exports
+core_more m es x ty is =
+    filter_map-append (typed_export m) es (x ∷ [])
+    ∙ ap (λ z. filter_map (typed_export m) es ++ z) (ap (λ (o : Option ExternType). cons_option (option_map (core_export x.name) o) []) is)
 
 -- the rest of a list, and the next of it
 pub values_next : (exports : List RawExport) (i : ℕ) (d : RawExport) → i < length exports
@@ -184,5 +142,37 @@ values_next exports i d h =
     let one : suc i ≡ i + 1 = omega arith in
     ap (map export_value) (drop-cons exports i d h ∙ ap (λ z. get_or exports i d ∷ drop z exports) one)
 
-pub values_end : (exports : List RawExport) (i : ℕ) → length exports ≤ i → map export_value (drop i exports) ≡ []
-values_end exports i h = ap (map export_value) (drop_all i exports h)
+-- how far exports are recorded: those before an index are, and the names of the others are new
+pub record ExportsPassed (e : NameScope) (keys : List KeyView) (m : ModuleValue) (es : List RawExport) (i : ℕ) (recorded : ExportRecord) : Type 0 where
+  pub fresh : AreFresh recorded (map export_value (drop i es))
+  pub before : AreExports e keys (core_exports m (map export_value (take i es))) recorded
+
+module _ (e : NameScope) (keys : List KeyView) (m : ModuleValue) (es : List RawExport) where
+  pub exports_start : (recorded : ExportRecord) → recorded ≡ []
+      → AllPairs (λ (x y : List ℕ). x ≢ y) (map (λ (x : ExportValue). x.name) (map export_value es)) → ExportsPassed e keys m es 0 recorded
+  exports_start recorded is distinct =
+      subst (ExportsPassed e keys m es 0) (sym is) (record { fresh = fresh_start (map export_value es) distinct; before = no_exports e keys m })
+
+  module _ (i : ℕ) (d : RawExport) (old : ExportRecord) (below : i < length es) (p : ExportsPassed e keys m es i old) where
+    left : AreFresh old (export_value (get_or es i d) ∷ map export_value (drop (i + 1) es))
+    left = subst (AreFresh old) (values_next es i d below) p.fresh
+
+    pub exports_fresh : lookup (bytes_eq (export_value (get_or es i d)).name) old ≡ None
+    exports_fresh = left.0
+
+    pub exports_next : (ty : ExternType) (new : ExportRecord)
+        → item_type m (export_value (get_or es i d)).kind (export_value (get_or es i d)).index ≡ Some ty
+        → IsExportRecorded e keys (core_export (export_value (get_or es i d)).name ty) old new → ExportsPassed e keys m es (i + 1) new
+    exports_next ty new typed h =
+        let x = export_value (get_or es i d) in
+        let more = ap (map export_value) (take_more es i d below) ∙ map-append export_value (take i es) (get_or es i d ∷ []) in
+        record {
+          fresh = subst (λ z. AreFresh z (map export_value (drop (i + 1) es))) (sym h.2)
+              (fresh_next old x.name h.0 (map export_value (drop (i + 1) es)) left.1 left.2);
+          before = subst (λ z. AreExports e keys z new) (sym (ap (core_exports m) more ∙ core_more m (map export_value (take i es)) x ty typed))
+              (exports_more e keys (core_exports m (map export_value (take i es))) (core_export x.name ty) old new p.before h);
+        }
+
+  pub exports_end : (i : ℕ) (recorded : ExportRecord) → length es ≤ i → ExportsPassed e keys m es i recorded
+      → AreExports e keys (core_exports m (map export_value es)) recorded
+  exports_end i recorded end p = subst (λ z. AreExports e keys (core_exports m (map export_value z)) recorded) (take_all i es end) p.before

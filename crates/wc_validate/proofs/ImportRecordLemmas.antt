@@ -1,9 +1,7 @@
 -- Imports that are recorded one after another.
-use Rattle.std.proofs.Common.{◌≡◌, ℕ, suc, ◌<◌, ◌≤◌, ◌+◌, List, [], ◌∷◌, ◌++◌, length, map, drop, get_or, Option, Some, None, OnOk, IfErr, Result, Ok, Err, refl, sym, ap, subst, ◌∙◌, inl, inr, append_assoc, append-nil, arith}
-use Rattle.std.proofs.Math.Seq.{drop-cons}
-use Rattle.std.proofs.lemmas.List.{drop_all}
-use Rattle.wc_read.specs.declared.types.Import.{Import}
-use Rattle.wc_read.specs.Imports.{ImportValue, import_value, import_values}
+use Rattle.std.proofs.Common.{◌≡◌, ℕ, zero, suc, List, [], ◌∷◌, ◌++◌, take, Option, Some, None, OnOk, IfErr, Result, Ok, Err, refl, sym, ap, subst, ◌∙◌, inl, inr, append_assoc, append-nil}
+use Rattle.std.specs.List.{slice_get}
+use Rattle.wc_read.specs.Imports.{ImportValue}
 use Rattle.wc_names.specs.declared.imports.Import.{Import as NamedImport}
 use Rattle.wc_names.specs.Imports.{CoreImport}
 use Rattle.wc_names.specs.Views.{import_view}
@@ -14,10 +12,11 @@ use Rattle.wc_validate.specs.declared.name_fault.NameFault.TheVariants as naming
 use Rattle.wc_read.specs.Types.{func_type_value}
 use Rattle.wc_validate.specs.Fault.{of_name}
 use Rattle.wc_validate.specs.declared.imports.recorder.Recorder.{Recorder}
-use Rattle.wc_validate.specs.Private.Imports.Contexts.{AreRecorded, IsImportRecorded, IsImportRefusal, IsImportsRefusal}
+use Rattle.wc_validate.specs.Private.Explain.{IsStopAt}
+use Rattle.wc_validate.specs.Private.Imports.Contexts.{IsImportRecorded, IsImportRefusal, IsImportsRefusal}
 use Rattle.wc_validate.specs.Imports.Entries.{Entry, single}
-use Rattle.wc_validate.specs.Imports.Record.{ImportScope, library_entry, IsCoreImport, IsEntry, AreEntries, IsImportFault}
-use Rattle.wc_validate.specs.Private.Imports.Recorder.{IsRecordedAfter, IsRecorderOf, IsRefusedAfter}
+use Rattle.wc_validate.specs.Imports.Record.{ImportScope, library_entry, IsCoreImport, IsEntry, AreEntries, IsFaultOfImport, IsImportFault}
+use Rattle.wc_validate.specs.Private.Imports.Recorder.{IsRecordedAfter, IsRefusedAfter}
 use Rattle.wc_validate.specs.Imports.Classify.{IsClassified}
 
 pub by_library : (s : ImportScope) (i : ImportValue) (x : Entry) (o : Option Entry) → Some x ≡ o → o ≡ library_entry s.library i.module_name i.name
@@ -63,42 +62,28 @@ pub refused_as : {T : Type 0} (r : Result T ValidateFault) (s : ImportScope) (be
 refused_as (Ok t) s before i x entry h = tt
 refused_as (Err f) s before i x entry h = refused_at s before i x f entry h
 
--- how far imports are recorded: what is recorded of them, and that what is found of the rest is so of all
-pub record Progress (s : ImportScope) (all rest : List ImportValue) (recorder : Recorder) : Type 0 where
-  pub before : List Entry
-  pub recorded : IsRecorderOf recorder before
-  pub entries : (xs : List Entry) → AreEntries s before rest xs → AreEntries s [] all (before ++ xs)
-  pub fault : (f : ValidateFault) → IsImportFault s before rest f → IsImportFault s [] all f
+-- the import at which validation stops refuses all
+none_same : {X : Type 0} {y : X} → None ≡ Some y → ⊥
+none_same e = cc e
 
-pub progress_start : (s : ImportScope) (all : List ImportValue) (recorder : Recorder) → IsRecorderOf recorder [] → Progress s all all recorder
-progress_start s all recorder none = record { before = []; recorded = none; entries = λ xs h. h; fault = λ f h. h }
+some_same : {X : Type 0} {x y : X} → Some x ≡ Some y → x ≡ y
+some_same e = cc e
 
-pub progress_next : (s : ImportScope) (all rest : List ImportValue) (i : ImportValue) (old new : Recorder) → (p : Progress s all (i ∷ rest) old)
-    → IsImportRecorded s p.before i new → Progress s all rest new
-progress_next s all rest i old new p h = record {
-  before = p.before ++ h.0 ∷ [];
-  recorded = h.2.1;
-  entries = λ xs more. subst (AreEntries s [] all) (sym (append_assoc p.before (h.0 ∷ []) xs)) (p.entries (h.0 ∷ xs) (h.1, h.2.0, more));
-  fault = λ f more. p.fault f (inr (h.0, h.1, h.2.0, more));
-}
+pub refused_after : (s : ImportScope) (b : List Entry) (is : List ImportValue) (n : ℕ) (i : ImportValue) (xs : List Entry) (f : ValidateFault)
+    → slice_get is n ≡ Some i → AreEntries s b (take n is) xs → IsFaultOfImport s (b ++ xs) i f → IsImportFault s b is f
+refused_after s b [] n i xs f there h k = absurd (none_same there)
+refused_after s b (j ∷ js) zero i xs f there h k =
+    inl (subst (λ z. IsFaultOfImport s b z f) (sym (some_same there))
+    (subst (λ z. IsFaultOfImport s z i f) (ap (λ z. b ++ z) h ∙ append-nil b) k))
+refused_after s b (j ∷ js) (suc n) i [] f there h k = absurd h
+refused_after s b (j ∷ js) (suc n) i (x ∷ xs) f there h k =
+    inr (
+      x,
+      h.0,
+      h.1,
+      refused_after s (b ++ x ∷ []) js n i xs f there h.2 (subst (λ z. IsFaultOfImport s z i f) (sym (append_assoc b (x ∷ []) xs)) k),
+    )
 
-pub progress_end : (s : ImportScope) (all rest : List ImportValue) (recorder : Recorder) → Progress s all rest recorder → rest ≡ []
-    → AreRecorded s all recorder
-progress_end s all rest recorder p none =
-    let ends : AreEntries s p.before rest [] = subst (λ z. AreEntries s p.before z []) (sym none) refl in
-    (p.before, subst (AreEntries s [] all) (append-nil p.before) (p.entries [] ends), p.recorded)
-
-pub progress_fault : (s : ImportScope) (all rest : List ImportValue) (i : ImportValue) (recorder : Recorder) (f : ValidateFault)
-    → (p : Progress s all (i ∷ rest) recorder) → IsImportRefusal s p.before i f → IsImportsRefusal s all f
-progress_fault s all rest i recorder Memory p h = tt
-progress_fault s all rest i recorder f p h = p.fault f (inl h)
-
--- the rest of a list, and the next of it
-pub rest_next : (imports : List Import) (i : ℕ) (d : Import) → i < length imports
-    → import_values (drop i imports) ≡ import_value (get_or imports i d) ∷ import_values (drop (i + 1) imports)
-rest_next imports i d h =
-    let one : suc i ≡ i + 1 = omega arith in
-    ap (map import_value) (drop-cons imports i d h ∙ ap (λ z. get_or imports i d ∷ drop z imports) one)
-
-pub rest_end : (imports : List Import) (i : ℕ) → length imports ≤ i → import_values (drop i imports) ≡ []
-rest_end imports i h = ap (map import_value) (drop_all i imports h)
+pub stop_is_refusal : (s : ImportScope) (is : List ImportValue) (index : ℕ) (f : ValidateFault) → IsStopAt s is index f → IsImportsRefusal s is f
+stop_is_refusal s is index Memory h = tt
+stop_is_refusal s is index f h = refused_after s [] is index h.0 h.1 f h.2.there h.2.recorded h.2.refused

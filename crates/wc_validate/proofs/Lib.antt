@@ -13,6 +13,7 @@ pub mod AdapterTypeLemmas
 pub mod IndexLemmas
 pub mod ArgumentLemmas
 pub mod RecorderLemmas
+pub mod RefusedLemmas
 pub mod WholeLemmas
 pub mod ImportRecordLemmas
 pub mod AdapterFunctionLemmas
@@ -44,5 +45,6 @@ pub mod FirstExportLemmas
 pub mod FirstFunctionLemmas
 pub mod ExplainLemmas
 pub mod MissingLemmas
+pub mod OtherPlaceLemmas
 pub mod PlaceLawLemmas
 pub mod WorldInterfaceLemmas

@@ -1,24 +1,22 @@
 -- What is missing among the exports of a module: the first that something does not hold of.
-use Rattle.std.proofs.Common.{◌≡◌, ◌≢◌, ◌↔◌, ◌≤◌, ◌+◌, ℕ, Bool, true, false, cond, is_some, arith, List, [], ◌∷◌, ◌++◌, map, All, IsTrue, MatchOption, Option, Some, None, IfOk, Result, Ok, Err, String, refl, sym, ap, subst, ◌∙◌, append_assoc, append-nil, inl, inr}
+use Rattle.std.proofs.Common.{◌≡◌, ◌≢◌, ◌≤◌, ◌+◌, ℕ, Bool, true, false, cond, arith, List, [], ◌∷◌, ◌++◌, map, All, IsTrue, MatchOption, Option, Some, None, IfOk, Result, Ok, Err, String, refl, sym, ap, subst, ◌∙◌, append_assoc, append-nil, inl, inr}
 use Rattle.std.specs.Borrow.{Bor}
 use Rattle.std.specs.Map.{lookup}
-use Rattle.std.specs.Option.{IsSome, option_and_then, option_to_list}
+use Rattle.std.specs.Option.{option_to_list}
 use Rattle.wc_resolve.proofs.KeyLemmas.{nat_from}
 use Rattle.std.specs.Str.{bytes_eq}
 use Rattle.std.proofs.lemmas.Slice.Eq.{bytes_eq-Decides}
 use Rattle.semver.specs.Identifiers.{parts_text}
 use Rattle.std.specs.declared.alloc.Global.{Global}
+use Rattle.std.specs.declared.alloc.AllocError.{AllocError}
 use Rattle.std.proofs.lemmas.List.{map-append}
 use Rattle.std.proofs.lemmas.List.Elements.{All-append, All-cons, All-head, All-nil, All-tail, filter_map-append}
-use Rattle.wc_read.specs.declared.core_module.Module.{Module}
-use Rattle.wc_read.specs.declared.exports.Export.{Export as RawExport}
 use Rattle.wc_read.specs.declared.types.FuncType.{FuncType}
-use Rattle.wc_read.specs.Modules.{module_value}
-use Rattle.wc_read.specs.Types.{FuncTypeValue, func_type_value, names_types}
+use Rattle.wc_read.specs.Types.{FuncTypeValue, func_type_value}
 use Rattle.wc_resolve.specs.declared.ids.InterfaceId.{InterfaceId}
 use Rattle.wc_resolve.specs.declared.worlds.WorldItem.{WorldItem}
 use Rattle.wc_resolve.specs.declared.worlds.WorldKey.{WorldKey}
-use Rattle.wc_resolve.specs.Views.{ItemView, KeyView, function_item, interface_item, interface_key, key_view, plain_key, world_entry}
+use Rattle.wc_resolve.specs.Views.{ItemView, KeyView, interface_key, key_view, plain_key, world_entry}
 use Rattle.wc_resolve.specs.WellFormed.{IsWellFormed}
 use Rattle.wc_resolve.proofs.WellFormedLemmas.{export_keys_have_texts, export_keys_in}
 use Rattle.wc_resolve.specs.Kinds.{ResolveView}
@@ -28,28 +26,24 @@ use Rattle.wc_names.specs.Exports.{CoreExport}
 use Rattle.wc_names.specs.Imports.{NameScope}
 use Rattle.wc_names.specs.Keys.{item_under, key_eq}
 use Rattle.wc_names.specs.ExportViews.{ExportView}
-use Rattle.wc_validate.specs.declared.exports.classify.ExportContext.{ExportContext}
 use Rattle.wc_validate.specs.declared.fault.ValidateFault.{ValidateFault}
-use Rattle.wc_validate.specs.declared.fault.AdapterModuleDidNotExport.{AdapterModuleDidNotExport as NotExported}
-use Rattle.wc_validate.specs.declared.fault.ValidateFault.TheVariants.{AdapterExportType, AdapterModuleDidNotExport, Memory, MissingCallback, MissingInterfaceExport, MissingWorldExport, SeveralMemoryExports, TypedReference}
+use Rattle.wc_validate.specs.declared.fault.ValidateFault.TheVariants.{Memory, MissingCallback, SeveralMemoryExports}
 use Rattle.wc_validate.specs.declared.name_scope.Names.{Names}
 use Rattle.wc_validate.specs.declared.place.Place.{Place}
 use Rattle.wc_validate.specs.declared.place.Subject.{Subject}
 use Rattle.wc_validate.specs.declared.requirements.RequiredExports.{RequiredExports}
-use Rattle.wc_validate.specs.declared.validate.ValidationInput.{ValidationInput as CodeInput}
 use Rattle.wc_validate.specs.Exports.Map.{ExportRecord, export_entry, is_memory}
-use Rattle.wc_validate.specs.Exports.Record.{AreExports, AreExportsAdded, AreRecordedBy, exports_in}
 use Rattle.wc_validate.specs.Imports.Map.{required_entry}
-use Rattle.wc_validate.specs.Explain.{IsFirstFailing, IsFirstLacking, IsFirstUnexported, IsFunctionLack, IsFunctionPlace, IsKeyPlace, IsLack, IsSecondMemory, PlaceView, an_export, SubjectView, difference_of, missing_export, place_view}
-use Rattle.wc_validate.specs.Private.Explain.{HasRecordedImports, IsNotExported, IsOfKey, IsSaidApart, IsCallbackExplained, IsFunctionLackAt, IsLackAt, IsLackNamed, IsLackOf, IsMemoryExplained, IsMissingExplained, IsMissingFrom, IsModuleExplained, IsSaidAs, IsSecondNamed, IsUncalled, IsUnexported}
-use Rattle.wc_validate.specs.NameScope.{HasItsWorld, name_scope_of}
+use Rattle.wc_validate.specs.Explain.{IsCallbackPlace, IsFirstFailing, IsFirstLacking, IsFirstUnexported, IsFunctionLack, IsFunctionPlace, IsKeyPlace, IsLack, IsMemoryPlace, IsMissingPlace, IsSecondMemory, PlaceView, an_export, SubjectView, difference_of, missing_export, place_view}
+use Rattle.wc_validate.specs.Private.Explain.{IsCallbackPlaced, IsFunctionLackAt, IsLackAt, IsLackNamed, IsLackOf, IsMemoryPlaced, IsRefusedForCallbacks, IsRefusedForMemories, IsSecondNamed, IsUncalled, IsUnexported}
+use Rattle.wc_validate.specs.NameScope.{HasItsWorld}
 use Rattle.wc_validate.specs.Private.Requirements.{HasKeysNamed}
-use Rattle.wc_validate.specs.Texts.{name_not_exported}
 use Rattle.wc_validate.specs.Private.ExportedFunctions.{IsExportIndexOf}
-use Rattle.wc_validate.specs.Private.ValidationInputs.{validation_input_of}
-use Rattle.wc_validate.specs.Requirements.{AreMet, IsFirstUnmet, IsMet, IsShortfall, IsUnmetFault, Requirement, callback_name, callbacks, exported_type, interface_functions, is_called_back, item_requirement, key_requirement, key_requirements, memory_count, one_memory, type_requirement, typed_function, world_function}
-use Rattle.wc_validate.specs.Validate.{IsNameScopeOf}
-use Rattle.wc_validate.proofs.RequirementLemmas.{keys_next, met_append}
+use Rattle.wc_validate.specs.Requirements.{AreMet, IsFirstUnmet, IsMet, IsShortfall, IsUnmetFault, Requirement, callback_name, callbacks, exported_type, is_called_back, key_requirement, key_requirements, memory_count, one_memory, type_requirement, typed_function, world_function}
+use Rattle.wc_validate.specs.declared.refused.RefusedModule.{RefusedModule}
+use Rattle.wc_validate.specs.Refused.{IsMemoryRefusal, IsPlaceOrNone, IsRefusedAt}
+use Rattle.wc_validate.proofs.RefusedLemmas.{memory_at, refused_as}
+use Rattle.wc_validate.proofs.RequirementLemmas.{first_right, keys_next, met_append, unmet_left, unmet_right}
 
 -- a list that is gone through as long as something holds
 pub record Passed {X : Type 0} (P : X → Type 0) (all rest : List X) : Type 0 where
@@ -91,7 +85,7 @@ not_all P xs x p h = p.fails (All-head P x p.after (all_rest P p.before (x ∷ p
 
 -- the fault of the first requirement that is not met
 module _ (r : ResolveView) (xs : List CoreExport) (recorded : ExportRecord) (f : ValidateFault) where
-  skip_met : (ms ns : List Requirement) → AreMet r xs recorded ms → IsFirstUnmet r xs recorded (ms ++ ns) f → IsFirstUnmet r xs recorded ns f
+  pub skip_met : (ms ns : List Requirement) → AreMet r xs recorded ms → IsFirstUnmet r xs recorded (ms ++ ns) f → IsFirstUnmet r xs recorded ns f
   skip_met [] ns met h = h
   skip_met (m ∷ ms) ns met (inl h) = absurd (h.0 met.0)
   skip_met (m ∷ ms) ns met (inr h) = skip_met ms ns met.1 h.1
@@ -101,7 +95,7 @@ module _ (r : ResolveView) (xs : List CoreExport) (recorded : ExportRecord) (f :
   no_unmet (m ∷ ms) met (inl h) = h.0 met.0
   no_unmet (m ∷ ms) met (inr h) = no_unmet ms met.1 h.1
 
-  short_of_first : (need : Requirement) (ns : List Requirement) → ¬ IsMet r xs recorded need → IsFirstUnmet r xs recorded (need ∷ ns) f
+  pub short_of_first : (need : Requirement) (ns : List Requirement) → ¬ IsMet r xs recorded need → IsFirstUnmet r xs recorded (need ∷ ns) f
       → IsShortfall xs need f
   short_of_first need ns unmet (inl h) = h.1
   short_of_first need ns unmet (inr h) = absurd (unmet h.0)
@@ -171,50 +165,59 @@ keys_cut exports keys before after key need cut required =
     ∙ ap (λ z. key_requirements exports before ++ z)
     (keys_next exports (key ∷ after) after key refl ∙ ap (λ o. option_to_list o ++ key_requirements exports after) required))
 
--- which faults a key can have: one for each kind of what it requires
-interface_short : (xs : List CoreExport) (i : ℕ) (f : ValidateFault) → IsShortfall xs (interface_functions i) f → f ≡ MissingInterfaceExport
-interface_short xs i MissingInterfaceExport h = refl
-interface_short xs i f h = absurd h
+-- the fault of a key, among those of all keys; and that of a required function
+module _ (r : ResolveView) (xs : List CoreExport) (recorded : ExportRecord) where
+  pub key_unmet : (exports : Entries) (keys : List KeyView) (f : ValidateFault) (key : KeyView) → IsFirstLacking r xs recorded exports keys key f
+      → IsFirstUnmet r xs recorded (key_requirements exports keys) f
+  key_unmet exports keys f key p =
+      let rest = key_requirements exports p.after in
+      let cut = keys_cut exports keys p.before p.after key p.need p.cut p.required in
+      subst (λ z. IsFirstUnmet r xs recorded z f) (sym cut)
+      (first_right r xs recorded (key_requirements exports p.before) (p.need ∷ rest) f p.met (inl (p.unmet, p.short)))
 
-world_short : (xs : List CoreExport) (name : List ℕ) (f : ValidateFault) → IsShortfall xs (world_function name) f → f ≡ MissingWorldExport
-world_short xs name MissingWorldExport h = refl
-world_short xs name f h = absurd h
+  pub lack_unmet : (exports : Entries) (keys : List KeyView) (f : ValidateFault) (key : KeyView) → IsLackAt r xs recorded exports keys key f
+      → IsUnmetFault r xs recorded (key_requirements exports keys) f
+  lack_unmet exports keys Memory key h = tt
+  lack_unmet exports keys f key h = key_unmet exports keys f key h
 
-short_alike : (o : Option ItemView) (need : Requirement) (xs : List CoreExport) (f g : ValidateFault) → option_and_then item_requirement o ≡ Some need
-    → IsShortfall xs need f → IsShortfall xs need g → (f ≡ g) × IsOfKey g
-short_alike None need xs f g is h k = absurd (let bad : ⊥ = cc is in bad)
-short_alike (Some (interface_item i external)) need xs f g is h k =
-    let same = some_same (sym is) in
-    let own = interface_short xs i f (subst (λ z. IsShortfall xs z f) same h) in
-    let other = interface_short xs i g (subst (λ z. IsShortfall xs z g) same k) in
-    (own ∙ sym other, subst IsOfKey (sym other) tt)
-short_alike (Some (function_item v)) need xs f g is h k =
-    let same = some_same (sym is) in
-    let own = world_short xs v.name f (subst (λ z. IsShortfall xs z f) same h) in
-    let other = world_short xs v.name g (subst (λ z. IsShortfall xs z g) same k) in
-    (own ∙ sym other, subst IsOfKey (sym other) tt)
-short_alike (Some item) need xs f g is h k = absurd (let bad : ⊥ = cc is in bad)
+  pub function_unmet : (functions : List (List ℕ × FuncTypeValue)) (f : ValidateFault) (x : List ℕ × FuncTypeValue)
+      → IsFirstUnexported r xs recorded functions x f → IsFirstUnmet r xs recorded (map type_requirement functions) f
+  function_unmet functions f x p =
+      let rest = map type_requirement p.after in
+      let cut : map type_requirement functions ≡ map type_requirement p.before ++ type_requirement x ∷ rest =
+      ap (map type_requirement) p.cut ∙ map-append type_requirement p.before (x ∷ p.after) in
+      subst (λ z. IsFirstUnmet r xs recorded z f) (sym cut)
+      (first_right r xs recorded (map type_requirement p.before) (type_requirement x ∷ rest) f p.met (inl (p.unmet, p.short)))
 
-module _ (r : ResolveView) (xs : List CoreExport) (recorded : ExportRecord) (exports : Entries) (keys : List KeyView) (key : KeyView) where
-  other_lacking : (f g : ValidateFault) → IsFirstLacking r xs recorded exports keys key g → (IsOfKey g → f ≢ g) → (rest : List Requirement)
-      → ¬ IsFirstUnmet r xs recorded (key_requirements exports keys ++ rest) f
-  other_lacking f g h other rest unmet =
-      let tail = key_requirements exports h.after ++ rest in
-      let cut = ap (λ z. z ++ rest) (keys_cut exports keys h.before h.after key h.need h.cut h.required)
-      ∙ append_assoc (key_requirements exports h.before) (h.need ∷ key_requirements exports h.after) rest in
-      let here = skip_met r xs recorded f (key_requirements exports h.before) (h.need ∷ tail) h.met (subst (λ z. IsFirstUnmet r xs recorded z f) cut unmet) in
-      let alike = short_alike (item_under exports key) h.need xs f g h.required (short_of_first r xs recorded f h.need tail h.unmet here) h.short in
-      other alike.1 alike.0
+  pub unexported_unmet : (functions : List (List ℕ × FuncTypeValue)) (f : ValidateFault) (x : List ℕ × FuncTypeValue)
+      → IsFunctionLackAt r xs recorded functions x f → IsUnmetFault r xs recorded (map type_requirement functions) f
+  unexported_unmet functions Memory x h = tt
+  unexported_unmet functions f x h = function_unmet functions f x h
 
-  pub key_other : (f g : ValidateFault) → IsLackAt r xs recorded exports keys key g → g ≢ Memory → (IsOfKey g → f ≢ g) → (rest : List Requirement)
-      → ¬ IsFirstUnmet r xs recorded (key_requirements exports keys ++ rest) f
-  key_other f Memory h real other = absurd (real refl)
-  key_other f g h real other = other_lacking f g h other
+-- a module that is refused for a key, or for a required function
+module _ (r : ResolveView) (xs : List CoreExport) (recorded : ExportRecord) where
+  pub key_refused : (exports : Entries) (keys : List KeyView) (key : KeyView) (f : ValidateFault) (x : RefusedModule) → x.fault ≡ f
+      → IsLackAt r xs recorded exports keys key f → IfOk x.place (IsPlaceOrNone (IsKeyPlace r xs recorded exports keys) f)
+      → IsUnmetFault r xs recorded (key_requirements exports keys) x.fault × IsRefusedAt (IsKeyPlace r xs recorded exports keys) x
+  key_refused exports keys key f x is lack placed = (
+    subst (IsUnmetFault r xs recorded (key_requirements exports keys)) (sym is) (lack_unmet r xs recorded exports keys f key lack),
+    subst (λ z. IfOk x.place (IsPlaceOrNone (IsKeyPlace r xs recorded exports keys) z)) (sym is) placed,
+  )
 
-  pub key_reached : (g : ValidateFault) → IsLackAt r xs recorded exports keys key g → g ≢ Memory
-      → ((need : Requirement) → key_requirement exports key ≡ Some need → IsMet r xs recorded need) → ⊥
-  key_reached Memory h real met = real refl
-  key_reached g h real met = h.unmet (met h.need h.required)
+  pub function_refused : (functions : List (List ℕ × FuncTypeValue)) (own : List ℕ × FuncTypeValue) (f : ValidateFault) (x : RefusedModule) → x.fault ≡ f
+      → IsFunctionLackAt r xs recorded functions own f → IfOk x.place (IsPlaceOrNone (IsFunctionPlace r xs recorded functions) f)
+      → IsUnmetFault r xs recorded (map type_requirement functions) x.fault × IsRefusedAt (IsFunctionPlace r xs recorded functions) x
+  function_refused functions own f x is lack placed = (
+    subst (IsUnmetFault r xs recorded (map type_requirement functions)) (sym is) (unexported_unmet r xs recorded functions f own lack),
+    subst (λ z. IfOk x.place (IsPlaceOrNone (IsFunctionPlace r xs recorded functions) z)) (sym is) placed,
+  )
+
+  pub functions_failed : (functions : List (List ℕ × FuncTypeValue)) (x : RefusedModule) → IsMemoryRefusal x
+      → IsUnmetFault r xs recorded (map type_requirement functions) x.fault × IsRefusedAt (IsFunctionPlace r xs recorded functions) x
+  functions_failed functions x h = (
+    subst (IsUnmetFault r xs recorded (map type_requirement functions)) (sym h.0) tt,
+    memory_at (IsFunctionPlace r xs recorded functions) x h,
+  )
 
 -- keys that are equal by the test are equal, so what holds of the keys of entries holds of one that is found
 same_key : (a b : KeyView) → key_eq a b ≡ true → a ≡ b
@@ -258,68 +261,16 @@ named_world r recorded exports key name own need required called is =
     subst (λ z. IsLack r recorded key z (missing_export name)) (some_same (sym required ∙ is)) (ap missing_export called)
 
 pub key_placed : (r : ResolveView) (xs : List CoreExport) (recorded : ExportRecord) (exports : Entries) (keys : List KeyView) (key : KeyView)
-    (f g : ValidateFault) (subject : SubjectView) → IsLackAt r xs recorded exports keys key g → g ≢ Memory → f ≡ g
+    (f : ValidateFault) (subject : SubjectView) → IsLackAt r xs recorded exports keys key f → f ≢ Memory
     → ((need : Requirement) → key_requirement exports key ≡ Some need → IsLack r recorded key need subject)
     → IsKeyPlace r xs recorded exports keys f (record { subject = subject; types = None })
-key_placed r xs recorded exports keys key f Memory subject h real same lack = absurd (real refl)
-key_placed r xs recorded exports keys key f g subject h real same lack =
-    let first : IsFirstLacking r xs recorded exports keys key f = subst (IsFirstLacking r xs recorded exports keys key) (sym same) h in
-    record { key = key; first = first; lack = lack first.need first.required; types = refl }
+key_placed r xs recorded exports keys key Memory subject h real lack = absurd (real refl)
+key_placed r xs recorded exports keys key f subject h real lack = record { key = key; first = h; lack = lack h.need h.required; types = refl }
 
 -- the types of a place
 pub difference_is : (a b : FuncType) (wanted found : FuncTypeValue) → func_type_value a ≡ wanted → func_type_value b ≡ found
     → Some (difference_of (func_type_value a) (func_type_value b)) ≡ Some (difference_of wanted found)
 difference_is a b wanted found p q = λ i. Some (difference_of (p i) (q i))
-
--- what two faults say of a required function
-clash : {A : Type 0} (b : Bool) → b ≡ true → b ≡ false → A
-clash b there none = let bad : true ≡ false = sym there ∙ none in absurd (let never : ⊥ = cc bad in never)
-
-none_there : {X : Type 0} (o : Option X) → o ≡ None → IsSome o → ⊥
-none_there o none there = clash (is_some o) there (ap is_some none)
-
-apart_retyped : (f : ValidateFault) → f ≢ AdapterExportType → (xs : List CoreExport) (name : List ℕ) (ty : FuncTypeValue)
-    → IsShortfall xs (typed_function name ty) AdapterExportType → ¬ IsShortfall xs (typed_function name ty) f
-apart_retyped AdapterExportType other xs name ty h k = other refl
-apart_retyped TypedReference other xs name ty h k = clash (names_types ty) k h.0
-apart_retyped (AdapterModuleDidNotExport e) other xs name ty h k = none_there (exported_type xs name) k.1 h.1
-apart_retyped f other xs name ty h k = k
-
-apart_typed : (f : ValidateFault) → f ≢ TypedReference → (xs : List CoreExport) (name : List ℕ) (ty : FuncTypeValue)
-    → IsShortfall xs (typed_function name ty) TypedReference → ¬ IsShortfall xs (typed_function name ty) f
-apart_typed AdapterExportType other xs name ty h k = clash (names_types ty) h k.0
-apart_typed TypedReference other xs name ty h k = other refl
-apart_typed (AdapterModuleDidNotExport e) other xs name ty h k = clash (names_types ty) h k.0
-apart_typed f other xs name ty h k = k
-
-apart_missing : (e : NotExported) (f : ValidateFault) → ¬ IsNotExported f (name_not_exported e) → (xs : List CoreExport) (name : List ℕ) (ty : FuncTypeValue)
-    → IsShortfall xs (typed_function name ty) (AdapterModuleDidNotExport e) → ¬ IsShortfall xs (typed_function name ty) f
-apart_missing e AdapterExportType other xs name ty h k = none_there (exported_type xs name) h.1 k.1
-apart_missing e TypedReference other xs name ty h k = clash (names_types ty) k h.0
-apart_missing e (AdapterModuleDidNotExport d) other xs name ty h k = other (d, refl, k.2 ∙ sym h.2)
-apart_missing e f other xs name ty h k = k
-
-pub said_apart : (g f : ValidateFault) → IsSaidApart g f → (xs : List CoreExport) (name : List ℕ) (ty : FuncTypeValue)
-    → IsShortfall xs (typed_function name ty) g → ¬ IsShortfall xs (typed_function name ty) f
-said_apart AdapterExportType f apart = apart_retyped f apart
-said_apart TypedReference f apart = apart_typed f apart
-said_apart (AdapterModuleDidNotExport e) f apart = apart_missing e f apart
-said_apart g f apart = λ xs name ty h k. h
-
-same_name : (d e : NotExported) → AdapterModuleDidNotExport d ≡ AdapterModuleDidNotExport e → name_not_exported d ≡ name_not_exported e
-same_name d e same = let one : d ≡ e = cc same in ap name_not_exported one
-
-pub not_exported_test : (f : ValidateFault) (e : NotExported) (name own : List ℕ) (b : Bool) → f ≡ AdapterModuleDidNotExport e → own ≡ name_not_exported e
-    → b ≡ bytes_eq own name → IsTrue b ↔ IsNotExported f name
-not_exported_test f e name own b is called test = (
-  (λ t. (e, is, sym called ∙ (bytes_eq-Decides own name).0 (sym test ∙ t))),
-  (λ h. test ∙ (bytes_eq-Decides own name).1 (called ∙ (same_name e h.0 (sym is ∙ h.1) ∙ h.2))),
-)
-
-pub missing_apart : (g f : ValidateFault) (e : NotExported) (own : List ℕ) (b : Bool) → g ≡ AdapterModuleDidNotExport e → own ≡ name_not_exported e
-    → IsTrue b ↔ IsNotExported f own → b ≡ false → IsSaidApart g f
-missing_apart g f e own b is called law differs =
-    subst (λ z. IsSaidApart z f) (sym is) (λ h. clash b (law.1 (subst (IsNotExported f) (sym called) h)) differs)
 
 -- functions that are gone through as long as they are exported as they are required
 pub record FunctionsPassed (r : ResolveView) (xs : List CoreExport) (recorded : ExportRecord) (all rest : List (List ℕ × FuncTypeValue)) : Type 0 where
@@ -347,23 +298,9 @@ module _ (r : ResolveView) (xs : List CoreExport) (recorded : ExportRecord) (all
       let whole : all ≡ p.before = p.cut ∙ (ap (λ z. p.before ++ z) is ∙ append-nil p.before) in
       subst (λ z. AreMet r xs recorded (map type_requirement z)) (sym whole) p.met
 
-  -- of a required function that is refused, another fault says something else
-  functions_cut : (before after : List (List ℕ × FuncTypeValue)) (x : List ℕ × FuncTypeValue) → all ≡ before ++ x ∷ after
+  pub functions_cut : (before after : List (List ℕ × FuncTypeValue)) (x : List ℕ × FuncTypeValue) → all ≡ before ++ x ∷ after
       → map type_requirement all ≡ map type_requirement before ++ type_requirement x ∷ map type_requirement after
   functions_cut before after x cut = ap (map type_requirement) cut ∙ map-append type_requirement before (x ∷ after)
-
-  unexported_short : (x : List ℕ × FuncTypeValue) (f g : ValidateFault) → IsFirstUnexported r xs recorded all x g
-      → IsFirstUnmet r xs recorded (map type_requirement all) f → IsShortfall xs (type_requirement x) f
-  unexported_short x f g h unmet =
-      let rest = map type_requirement h.after in
-      short_of_first r xs recorded f (type_requirement x) rest h.unmet
-      (skip_met r xs recorded f (map type_requirement h.before) (type_requirement x ∷ rest) h.met
-      (subst (λ z. IsFirstUnmet r xs recorded z f) (functions_cut h.before h.after x h.cut) unmet))
-
-  pub function_other : (x : List ℕ × FuncTypeValue) (f g : ValidateFault) → IsFunctionLackAt r xs recorded all x g → g ≢ Memory → IsSaidApart g f
-      → ¬ IsFirstUnmet r xs recorded (map type_requirement all) f
-  function_other x f Memory h real apart = absurd (real refl)
-  function_other x f g h real apart = λ unmet. said_apart g f apart xs x.0 x.1 h.short (unexported_short x f g h unmet)
 
   lack_here : (left rest : List (List ℕ × FuncTypeValue)) (name : List ℕ) (ty : FuncTypeValue) (f : ValidateFault) → FunctionsPassed r xs recorded all left
       → left ≡ (name, ty) ∷ rest → IsFirstUnmet r xs recorded (typed_function name ty ∷ []) f → IsFirstUnexported r xs recorded all (name, ty) f
@@ -387,15 +324,11 @@ module _ (r : ResolveView) (xs : List CoreExport) (recorded : ExportRecord) (all
       → IsFunctionLackAt r xs recorded all (name, ty) f
   functions_lack left rest own name ty f p is called h = lack_by left rest name ty f p (is ∙ ap (λ z. (z, ty) ∷ rest) (sym called)) h
 
-  pub function_first : (x : List ℕ × FuncTypeValue) (f g : ValidateFault) → IsFunctionLackAt r xs recorded all x g → g ≢ Memory → IsSaidAs g f
-      → IsFirstUnexported r xs recorded all x f
-  function_first x f Memory h real said = absurd (real refl)
-  function_first x f g h real said =
-      record { before = h.before; after = h.after; cut = h.cut; met = h.met; unmet = h.unmet; short = said xs (type_requirement x) h.short }
-
   pub function_here : (index : List (Bor (List ℕ) × Bor FuncType)) (name : List ℕ) (ty : FuncType) (f : ValidateFault) (p : Place) → IsExportIndexOf index xs
-      → IsFirstUnexported r xs recorded all (name, func_type_value ty) f → IsUnexported index name ty p → IsFunctionPlace r xs recorded all f (place_view p)
-  function_here index name ty f p same first h = record { required = (name, func_type_value ty); first = first; lack = h xs same }
+      → IsFunctionLackAt r xs recorded all (name, func_type_value ty) f → f ≢ Memory → IsUnexported index name ty p
+      → IsFunctionPlace r xs recorded all f (place_view p)
+  function_here index name ty Memory p same first real h = absurd (real refl)
+  function_here index name ty f p same first real h = record { required = (name, func_type_value ty); first = first; lack = h xs same }
 
 -- what is said of a required function, by the type with which one of its name is exported
 module _ (xs : List CoreExport) (name : List ℕ) (ty : FuncTypeValue) (p : PlaceView) where
@@ -477,105 +410,100 @@ two_memories recorded x p few =
     let sum : memory_count recorded ≡ memory_count p.before + memory_count (x ∷ p.after) = ap memory_count p.cut ∙ count_sum p.before (x ∷ p.after) in
     absurd (omega (arith, few, sum, p.one, more))
 
--- which faults are of memories and callbacks
-memory_short : (xs : List CoreExport) (f : ValidateFault) → IsShortfall xs one_memory f → f ≡ SeveralMemoryExports
-memory_short xs SeveralMemoryExports h = refl
-memory_short xs f h = absurd h
+-- a module that is refused for its second memory, or for a callback that is missing
+pub memories_refused : (es : List (String Global × Export)) (name : Bor (List ℕ)) (x : RefusedModule) → IsSecondNamed es name
+    → x.fault ≡ SeveralMemoryExports → IfOk x.place (IsMemoryPlaced name.now) → IsRefusedForMemories es x
+memories_refused es name x h is placed = (is, (h.0, h.2), at x.place placed) where
+  at : (r : Result (Option Place) AllocError) → IfOk r (IsMemoryPlaced name.now) → IfOk r (IsPlaceOrNone (IsMemoryPlace (map export_entry es)) x.fault)
+  at (Ok None) k = absurd k
+  at (Ok (Some p)) k = record { is_several = is; export = h.0; second = h.2; subject = k.0 ∙ ap an_export (sym h.1); types = k.1 }
+  at (Err e) k = tt
 
-callback_short : (xs : List CoreExport) (f : ValidateFault) → IsShortfall xs callbacks f → f ≡ MissingCallback
-callback_short xs MissingCallback h = refl
-callback_short xs f h = absurd h
+pub callbacks_refused : (es : List (String Global × Export)) (name : Bor (List ℕ)) (x : RefusedModule) → IsUncalled es name
+    → x.fault ≡ MissingCallback → IfOk x.place (IsCallbackPlaced name.now) → IsRefusedForCallbacks es x
+callbacks_refused es name x h is placed = inr (is, (h.0, h.2), λ one. at one x.place placed) where
+  at : memory_count (map export_entry es) ≤ 1 → (r : Result (Option Place) AllocError) → IfOk r (IsCallbackPlaced name.now)
+      → IfOk r (IsPlaceOrNone (IsCallbackPlace (map export_entry es)) x.fault)
+  at one (Ok None) k = absurd k
+  at one (Ok (Some p)) k = record {
+    is_callback = is;
+    one_memory = one;
+    export = h.0;
+    first = h.2;
+    subject = k.0 ∙ ap (λ z. missing_export (callback_name z)) (sym h.1);
+    types = k.1;
+  }
+  at one (Err e) k = tt
 
--- what is missing of all that is required
-module _ (n : Names) (q : RequiredExports) (xs : List CoreExport) (es : List (String Global × Export)) (f : ValidateFault) where
+-- what is missing, among all that is required
+module _ (n : Names) (q : RequiredExports) (xs : List CoreExport) (es : List (String Global × Export)) (x : RefusedModule) where
   abbrev of_keys : List Requirement
   of_keys = key_requirements (map world_entry n.world.now.exports.entries) (map key_view q.keys.now.keys)
 
   abbrev of_functions : List Requirement
   of_functions = map type_requirement (map required_entry q.functions.now.entries)
 
-  pub memory_missing : {F : Type 0} (name : Bor (List ℕ)) (result : Result (Option Place) F) → IsSecondNamed es name
-      → IfOk result (IsMemoryExplained name.now f) → IfOk result (IsMissingExplained n q xs es f)
-  memory_missing name (Ok None) h k = λ unmet.
-      k (memory_short xs f (short_of_first n.resolve.now xs (map export_entry es) f one_memory (callbacks ∷ (of_keys ++ of_functions))
-      (two_memories (map export_entry es) h.0 h.2) unmet))
-  memory_missing name (Ok (Some p)) h k =
-      inl (record { is_several = k.0; export = h.0; second = h.2; subject = k.1 ∙ ap an_export (sym h.1); types = k.2 })
-  memory_missing name (Err e) h k = tt
+  abbrev IsUnmetHere : Type 0
+  IsUnmetHere = IsUnmetFault n.resolve.now xs (map export_entry es) (one_memory ∷ callbacks ∷ (of_keys ++ of_functions)) x.fault
 
-  pub callback_missing : {F : Type 0} (name : Bor (List ℕ)) (result : Result (Option Place) F) → memory_count (map export_entry es) ≤ 1 → IsUncalled es name
-      → IfOk result (IsCallbackExplained name.now f) → IfOk result (IsMissingExplained n q xs es f)
-  callback_missing name (Ok None) one h k = λ unmet.
-      k (callback_short xs f (short_of_first n.resolve.now xs (map export_entry es) f callbacks (of_keys ++ of_functions)
-      (not_all (λ (y : List ℕ × ExportView). IsTrue (is_called_back (map export_entry es) y)) (map export_entry es) h.0 h.2)
-      (skip_met n.resolve.now xs (map export_entry es) f (one_memory ∷ []) (callbacks ∷ (of_keys ++ of_functions)) (one, tt) unmet)))
-  callback_missing name (Ok (Some p)) one h k =
-      inr (inl (record {
-        is_callback = k.0;
-        one_memory = one;
-        export = h.0;
-        first = h.2;
-        subject = k.1 ∙ ap (λ z. missing_export (callback_name z)) (sym h.1);
-        types = k.2;
-      }))
-  callback_missing name (Err e) one h k = tt
+  abbrev AreAlone : Type 0
+  AreAlone = AreMet n.resolve.now xs (map export_entry es) (one_memory ∷ callbacks ∷ [])
 
-  pub key_missing : {F : Type 0} (result : Result (Option Place) F)
-      → AreMet n.resolve.now xs (map export_entry es) (one_memory ∷ callbacks ∷ [])
-      → IfOk result (λ answer. MatchOption answer
-      ((rest : List Requirement) → ¬ IsFirstUnmet n.resolve.now xs (map export_entry es)
-      (key_requirements (map world_entry n.world.now.exports.entries) (map key_view q.keys.now.keys) ++ rest) f)
-      (λ (p : Place). IsKeyPlace n.resolve.now xs (map export_entry es) (map world_entry n.world.now.exports.entries)
-      (map key_view q.keys.now.keys) f (place_view p)))
-      → IfOk result (IsMissingExplained n q xs es f)
-  key_missing (Ok None) alone h = λ unmet.
-      h of_functions (skip_met n.resolve.now xs (map export_entry es) f (one_memory ∷ callbacks ∷ []) (of_keys ++ of_functions) alone unmet)
-  key_missing (Ok (Some p)) alone h = inr (inr (alone, inl h))
-  key_missing (Err e) alone h = tt
+  abbrev IsMissingHere : ValidateFault → PlaceView → Type 0
+  IsMissingHere f p =
+      IsMissingPlace n.resolve.now xs (map export_entry es) (map world_entry n.world.now.exports.entries) (map key_view q.keys.now.keys)
+      (map required_entry q.functions.now.entries) f p
 
-  pub function_lacking : {F : Type 0} (result : Result (Option Place) F)
-      → AreMet n.resolve.now xs (map export_entry es) (one_memory ∷ callbacks ∷ [])
-      → AreMet n.resolve.now xs (map export_entry es) (key_requirements (map world_entry n.world.now.exports.entries) (map key_view q.keys.now.keys))
-      → IfOk result (λ answer. MatchOption answer
-      (¬ IsFirstUnmet n.resolve.now xs (map export_entry es) (map type_requirement (map required_entry q.functions.now.entries)) f)
-      (λ (p : Place). IsFunctionPlace n.resolve.now xs (map export_entry es) (map required_entry q.functions.now.entries) f (place_view p)))
-      → IfOk result (IsMissingExplained n q xs es f)
-  function_lacking (Ok None) alone keys h = λ unmet.
-      h (skip_met n.resolve.now xs (map export_entry es) f of_keys of_functions keys
-      (skip_met n.resolve.now xs (map export_entry es) f (one_memory ∷ callbacks ∷ []) (of_keys ++ of_functions) alone unmet))
-  function_lacking (Ok (Some p)) alone keys h = inr (inr (alone, inr (keys, h)))
-  function_lacking (Err e) alone keys h = tt
+  unmet_as : (f : ValidateFault) → x.fault ≡ f
+      → IsUnmetFault n.resolve.now xs (map export_entry es) (one_memory ∷ callbacks ∷ (of_keys ++ of_functions)) f → IsUnmetHere
+  unmet_as f is h = subst (IsUnmetFault n.resolve.now xs (map export_entry es) (one_memory ∷ callbacks ∷ (of_keys ++ of_functions))) (sym is) h
 
--- by the context that the exports are recorded by
-pub missing_from : {F : Type 0} (c : ExportContext) (q : RequiredExports) (m : Module) (es : List (String Global × Export)) (passed : List RawExport)
-    (f : ValidateFault) (result : Result (Option Place) F) → passed ≡ m.exports.items → AreExportsAdded c m passed es
-    → IfOk result (IsMissingExplained c.names q (exports_in m m.exports.items) es f) → IfOk result (IsMissingFrom c q m f)
-missing_from c q m es passed f (Ok None) same recorded h =
-    (map export_entry es, subst (λ z. AreRecordedBy c (exports_in m z) (map export_entry es)) same recorded, h)
-missing_from c q m es passed f (Ok (Some p)) same recorded h =
-    (map export_entry es, subst (λ z. AreRecordedBy c (exports_in m z) (map export_entry es)) same recorded, h)
-missing_from c q m es passed f (Err e) same recorded h = tt
+  pub failed_unmet : IsMemoryRefusal x → IsUnmetHere
+  failed_unmet h = unmet_as Memory h.0 tt
 
-pub missing_explained : {F : Type 0} (i : CodeInput) (m : Module) (c : ExportContext) (f : ValidateFault)
-    → HasRecordedImports (validation_input_of i) (module_value m) → IsNameScopeOf i.encoder.now (name_scope_of c.names)
-    → c.standard.keys ≡ map key_view i.required.keys.now.keys → (result : Result (Option Place) F)
-    → IfOk result (IsMissingFrom c i.required m f) → IfOk result (IsModuleExplained (validation_input_of i) (module_value m) f)
-missing_explained i m c f imports names keys (Ok None) h =
-    inr (
-      imports.0,
-      imports.1,
-      name_scope_of c.names,
-      names,
-      inl (h.0, subst (λ z. AreExports (name_scope_of c.names) z (exports_in m m.exports.items) h.0) keys h.1, h.2),
-    )
-missing_explained i m c f imports names keys (Ok (Some p)) h =
-    inr (inr (
-      imports.0,
-      imports.1,
-      name_scope_of c.names,
-      names,
-      h.0,
-      subst (λ z. AreExports (name_scope_of c.names) z (exports_in m m.exports.items) h.0) keys h.1,
-      h.2,
-    ))
-missing_explained i m c f imports names keys (Err e) h = tt
+  pub memories_unmet : IsRefusedForMemories es x → IsUnmetHere
+  memories_unmet h = unmet_as SeveralMemoryExports h.0 (inl (two_memories (map export_entry es) h.1.0 h.1.1, tt))
+
+  pub memories_place : IsRefusedForMemories es x → IsRefusedAt IsMissingHere x
+  memories_place h = refused_as (IsMemoryPlace (map export_entry es)) IsMissingHere x (λ f p k. inl k) h.2
+
+  pub callbacks_unmet : memory_count (map export_entry es) ≤ 1 → IsRefusedForCallbacks es x → IsUnmetHere
+  callbacks_unmet one (inl h) = failed_unmet h
+  callbacks_unmet one (inr h) =
+      unmet_as MissingCallback h.0 (inr (
+        one,
+        inl (not_all (λ (y : List ℕ × ExportView). IsTrue (is_called_back (map export_entry es) y)) (map export_entry es) h.1.0 h.1.1, tt),
+      ))
+
+  pub callbacks_place : memory_count (map export_entry es) ≤ 1 → IsRefusedForCallbacks es x → IsRefusedAt IsMissingHere x
+  callbacks_place one (inl h) = memory_at IsMissingHere x h
+  callbacks_place one (inr h) = refused_as (IsCallbackPlace (map export_entry es)) IsMissingHere x (λ f p k. inr (inl k)) (h.2 one)
+
+  pub keys_unmet : AreAlone
+      → IsUnmetFault n.resolve.now xs (map export_entry es) of_keys x.fault
+      × IsRefusedAt (IsKeyPlace n.resolve.now xs (map export_entry es) (map world_entry n.world.now.exports.entries) (map key_view q.keys.now.keys)) x
+      → IsUnmetHere
+  keys_unmet alone h =
+      unmet_right n.resolve.now xs (map export_entry es) (one_memory ∷ callbacks ∷ []) (of_keys ++ of_functions) x.fault alone
+      (unmet_left n.resolve.now xs (map export_entry es) of_keys of_functions x.fault h.0)
+
+  pub keys_place : AreAlone
+      → IsUnmetFault n.resolve.now xs (map export_entry es) of_keys x.fault
+      × IsRefusedAt (IsKeyPlace n.resolve.now xs (map export_entry es) (map world_entry n.world.now.exports.entries) (map key_view q.keys.now.keys)) x
+      → IsRefusedAt IsMissingHere x
+  keys_place alone h =
+      refused_as (IsKeyPlace n.resolve.now xs (map export_entry es) (map world_entry n.world.now.exports.entries) (map key_view q.keys.now.keys))
+      IsMissingHere x (λ f p k. inr (inr (alone, inl k))) h.1
+
+  pub functions_unmet : AreAlone → AreMet n.resolve.now xs (map export_entry es) of_keys
+      → IsUnmetFault n.resolve.now xs (map export_entry es) of_functions x.fault → IsUnmetHere
+  functions_unmet alone keys h =
+      unmet_right n.resolve.now xs (map export_entry es) (one_memory ∷ callbacks ∷ []) (of_keys ++ of_functions) x.fault alone
+      (unmet_right n.resolve.now xs (map export_entry es) of_keys of_functions x.fault keys h)
+
+  pub functions_place : AreAlone → AreMet n.resolve.now xs (map export_entry es) of_keys
+      → IsRefusedAt (IsFunctionPlace n.resolve.now xs (map export_entry es) (map required_entry q.functions.now.entries)) x
+      → IsRefusedAt IsMissingHere x
+  functions_place alone keys h =
+      refused_as (IsFunctionPlace n.resolve.now xs (map export_entry es) (map required_entry q.functions.now.entries)) IsMissingHere x
+      (λ f p k. inr (inr (alone, inr (keys, k)))) h

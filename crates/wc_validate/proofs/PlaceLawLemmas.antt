@@ -1,9 +1,5 @@
 -- What has a place in a module has a cause.
-use Rattle.std.proofs.Common.{◌≡◌, ◌+◌, ℕ, zero, suc, List, [], ◌∷◌, ◌++◌, map, take, IsTrue, Option, Some, None, inl, inr, sym, ap, subst, ◌∙◌, append_assoc, append-nil}
-use Rattle.std.specs.List.{cons_option, filter_map, slice_get}
-use Rattle.std.proofs.lemmas.List.{map-append}
-use Rattle.wc_read.specs.Exports.{ExportValue}
-use Rattle.wc_read.specs.Imports.{ImportValue}
+use Rattle.std.proofs.Common.{ℕ, List, [], ◌∷◌, map, IsTrue, inl, inr, sym, subst}
 use Rattle.wc_read.specs.Modules.{ModuleValue, SpellsModule}
 use Rattle.wc_read.specs.Types.{FuncTypeValue}
 use Rattle.wc_resolve.specs.Views.{KeyView}
@@ -14,23 +10,17 @@ use Rattle.wc_names.specs.ExportViews.{ExportView}
 use Rattle.wc_names.specs.Imports.{NameScope}
 use Rattle.wc_validate.specs.declared.fault.ValidateFault.{ValidateFault}
 use Rattle.wc_validate.specs.declared.fault.ValidateFault.TheVariants.{Memory, Read, NotAModule}
-use Rattle.wc_validate.specs.Imports.Entries.{Entry}
-use Rattle.wc_validate.specs.Imports.Record.{ImportScope, AreEntries, IsFaultOfImport, IsImportFault}
+use Rattle.wc_validate.specs.Imports.Record.{ImportScope, IsImportFault}
 use Rattle.wc_validate.specs.Exports.Map.{ExportRecord}
-use Rattle.wc_validate.specs.Exports.Record.{AreExports, HasMismatch, IsMismatched, core_exports, typed_export}
+use Rattle.wc_validate.specs.Exports.Record.{AreExports, core_exports}
 use Rattle.wc_validate.specs.Laws.{PlacesAreCauses}
-use Rattle.wc_validate.specs.Explain.{IsExportPlace, IsFirstLacking, IsFirstUnexported, IsImportPlace, IsMissingPlace, IsModulePlace, IsOfImport, PlaceView}
+use Rattle.wc_validate.specs.Explain.{IsExportPlace, IsImportPlace, IsMissingPlace, IsModulePlace, IsOfImport, PlaceView}
 use Rattle.wc_validate.specs.Requirements.{IsFirstUnmet, IsShortfall, IsUnmetFault, Requirement, callbacks, interface_functions, is_called_back, key_requirements, one_memory, requirements, type_requirement, typed_function, world_function}
 use Rattle.wc_validate.specs.Validate.{IsValidateCause, IsCauseOfExports, IsCauseOfImports, IsImportScopeFor, IsModuleCause, IsNameScopeOf, ValidationInput}
-use Rattle.wc_validate.proofs.ExplainLemmas.{fault_of_import}
-use Rattle.wc_validate.proofs.MissingLemmas.{keys_cut, not_all, two_memories}
+use Rattle.wc_validate.proofs.ExplainLemmas.{fault_of_import, first_mismatch}
+use Rattle.wc_validate.proofs.ImportRecordLemmas.{refused_after}
+use Rattle.wc_validate.proofs.MissingLemmas.{key_unmet, function_unmet, not_all, two_memories}
 use Rattle.wc_validate.proofs.RequirementLemmas.{first_left, first_right}
-
-some_same : {X : Type 0} {x y : X} → Some x ≡ Some y → x ≡ y
-some_same e = cc e
-
-none_same : {X : Type 0} {y : X} → None ≡ Some y → ⊥
-none_same e = cc e
 
 -- the faults of a module that is read
 abbrev IsOfModule : ValidateFault → Type 0
@@ -39,21 +29,6 @@ IsOfModule NotAModule = ⊥
 IsOfModule f = Unit {0}
 
 -- imports
-refused_after : (s : ImportScope) (b : List Entry) (is : List ImportValue) (n : ℕ) (i : ImportValue) (xs : List Entry) (f : ValidateFault)
-    → slice_get is n ≡ Some i → AreEntries s b (take n is) xs → IsFaultOfImport s (b ++ xs) i f → IsImportFault s b is f
-refused_after s b [] n i xs f there h k = absurd (none_same there)
-refused_after s b (j ∷ js) zero i xs f there h k =
-    inl (subst (λ z. IsFaultOfImport s b z f) (sym (some_same there))
-    (subst (λ z. IsFaultOfImport s z i f) (ap (λ z. b ++ z) h ∙ append-nil b) k))
-refused_after s b (j ∷ js) (suc n) i [] f there h k = absurd h
-refused_after s b (j ∷ js) (suc n) i (x ∷ xs) f there h k =
-    inr (
-      x,
-      h.0,
-      h.1,
-      refused_after s (b ++ x ∷ []) js n i xs f there h.2 (subst (λ z. IsFaultOfImport s z i f) (sym (append_assoc b (x ∷ []) xs)) k),
-    )
-
 imports_cause : (j : ValidationInput) (m : ModuleValue) (f : ValidateFault) (s : ImportScope) → IsImportScopeFor j.encoder j.renames j.library m.types s
     → IsImportFault s [] m.imports f → IsCauseOfImports j m f
 imports_cause j m Memory s scope h = tt
@@ -64,43 +39,9 @@ import_refusal (Read g) h = h
 import_refusal NotAModule h = h
 import_refusal f h = tt
 
--- exports
-past_export : (e : NameScope) (keys : List KeyView) (o : Option CoreExport) (xs ys : List CoreExport) (before : ExportRecord)
-    → AreExports e keys (cons_option o xs) before → ((rest : ExportRecord) → AreExports e keys xs rest → HasMismatch e keys ys)
-    → HasMismatch e keys (cons_option o ys)
-past_export e keys None xs ys before h k = k before h
-past_export e keys (Some x) xs ys before h k = inr (h.0, h.2, k h.1 h.3)
-
-mismatch_after : (e : NameScope) (keys : List KeyView) (m : ModuleValue) (es : List ExportValue) (n : ℕ) (v : ExportValue) (x : CoreExport)
-    (before : ExportRecord) → slice_get es n ≡ Some v → typed_export m v ≡ Some x → AreExports e keys (core_exports m (take n es)) before
-    → IsMismatched e keys x → HasMismatch e keys (core_exports m es)
-unfolding core_exports
-mismatch_after e keys m [] n v x before there typed h k = absurd (none_same there)
-mismatch_after e keys m (w ∷ ws) zero v x before there typed h k =
-    subst (λ o. HasMismatch e keys (cons_option o (filter_map (typed_export m) ws))) (sym (ap (typed_export m) (some_same there) ∙ typed)) (inl k)
-mismatch_after e keys m (w ∷ ws) (suc n) v x before there typed h k =
-    past_export e keys (typed_export m w) (filter_map (typed_export m) (take n ws)) (filter_map (typed_export m) ws) before h
-    (λ rest more. mismatch_after e keys m ws n v x rest there typed more k)
-
 -- what is required
 module _ (r : ResolveView) (xs : List CoreExport) (recorded : ExportRecord) (exports : Entries) (keys : List KeyView)
     (functions : List (List ℕ × FuncTypeValue)) (f : ValidateFault) where
-  key_unmet : (key : KeyView) → IsFirstLacking r xs recorded exports keys key f → IsFirstUnmet r xs recorded (key_requirements exports keys) f
-  key_unmet key p =
-      let rest = key_requirements exports p.after in
-      let cut = keys_cut exports keys p.before p.after key p.need p.cut p.required in
-      subst (λ z. IsFirstUnmet r xs recorded z f) (sym cut)
-      (first_right r xs recorded (key_requirements exports p.before) (p.need ∷ rest) f p.met (inl (p.unmet, p.short)))
-
-  function_unmet : (x : List ℕ × FuncTypeValue) → IsFirstUnexported r xs recorded functions x f
-      → IsFirstUnmet r xs recorded (map type_requirement functions) f
-  function_unmet x p =
-      let rest = map type_requirement p.after in
-      let cut : map type_requirement functions ≡ map type_requirement p.before ++ type_requirement x ∷ rest =
-      ap (map type_requirement) p.cut ∙ map-append type_requirement p.before (x ∷ p.after) in
-      subst (λ z. IsFirstUnmet r xs recorded z f) (sym cut)
-      (first_right r xs recorded (map type_requirement p.before) (type_requirement x ∷ rest) f p.met (inl (p.unmet, p.short)))
-
   missing_unmet : (p : PlaceView) → IsMissingPlace r xs recorded exports keys functions f p
       → IsFirstUnmet r xs recorded (requirements exports keys functions) f
   missing_unmet p (inl h) =
@@ -118,7 +59,7 @@ module _ (r : ResolveView) (xs : List CoreExport) (recorded : ExportRecord) (exp
         alone.0,
         inr (
           alone.1.0,
-          first_left r xs recorded (key_requirements exports keys) (map type_requirement functions) f (key_unmet h.key h.first),
+          first_left r xs recorded (key_requirements exports keys) (map type_requirement functions) f (key_unmet r xs recorded exports keys f h.key h.first),
         ),
       )
   missing_unmet p (inr (inr (alone, inr h))) =
@@ -126,7 +67,7 @@ module _ (r : ResolveView) (xs : List CoreExport) (recorded : ExportRecord) (exp
         alone.0,
         inr (
           alone.1.0,
-          first_right r xs recorded (key_requirements exports keys) (map type_requirement functions) f h.0 (function_unmet h.1.required h.1.first),
+          first_right r xs recorded (key_requirements exports keys) (map type_requirement functions) f h.0 (function_unmet r xs recorded functions f h.1.required h.1.first),
         ),
       )
 
@@ -170,7 +111,7 @@ module _ (j : ValidationInput) (m : ModuleValue) (f : ValidateFault) (p : PlaceV
   export_cause e names h =
       let x = h.first in
       subst (IsCauseOfExports j m) (sym h.is_mismatch)
-      (e, names, inl (mismatch_after e j.keys m m.exports h.index x.value h.core_export x.before x.there x.typed x.recorded x.mismatched))
+      (e, names, inl (first_mismatch e j.keys m m.exports h.index h.core_export x))
 
   module_cause : IsModulePlace j m f p → IsModuleCause j m f × IsOfModule f
   module_cause (inl h) = (

@@ -1,5 +1,5 @@
 -- Requirements, checked one after another.
-use Rattle.std.proofs.Common.{◌≡◌, ◌≢◌, ℕ, suc, ◌<◌, ◌≤◌, ◌+◌, All, length, zero, Bool, true, false, not, ◌||◌, cond, List, [], ◌∷◌, ◌++◌, map, Option, Some, None, Result, Ok, Err, OnOk, IfErr, String, inl, inr, refl, subst, sym, ap, ◌∙◌, arith}
+use Rattle.std.proofs.Common.{◌≡◌, ◌≢◌, ℕ, suc, ◌<◌, ◌≤◌, ◌+◌, All, length, zero, true, false, not, ◌||◌, List, [], ◌∷◌, ◌++◌, map, Option, Some, None, Result, Ok, Err, OnOk, String, inl, inr, refl, subst, sym, ap, ◌∙◌, arith}
 use Rattle.std.specs.List.{cons_option}
 use Rattle.std.specs.Map.{lookup}
 use Rattle.std.specs.Str.{bytes_eq}
@@ -22,8 +22,8 @@ use Rattle.wc_names.specs.Exports.{CoreExport}
 use Rattle.wc_validate.specs.declared.fault.ValidateFault.{ValidateFault}
 use Rattle.wc_validate.specs.declared.fault.ValidateFault.TheVariants.{AdapterExportType, Memory, AdapterModuleDidNotExport as missing, TypedReference}
 use Rattle.wc_validate.specs.declared.fault.AdapterModuleDidNotExport.{AdapterModuleDidNotExport}
-use Rattle.wc_validate.specs.Exports.Map.{ExportRecord, export_entry, is_memory}
-use Rattle.wc_validate.specs.Requirements.{AreMet, IsFirstUnmet, IsMet, IsShortfall, IsUnmetFault, Requirement, callback_name, exported_type, interface_functions, is_called_back, is_callback_for, item_requirement, key_requirement, key_requirements, memory_count, needs_callback, typed_function, world_function}
+use Rattle.wc_validate.specs.Exports.Map.{ExportRecord, export_entry}
+use Rattle.wc_validate.specs.Requirements.{AreMet, IsFirstUnmet, IsMet, IsShortfall, IsUnmetFault, Requirement, callback_name, exported_type, interface_functions, is_called_back, is_callback_for, item_requirement, key_requirement, key_requirements, needs_callback, typed_function, world_function}
 use Rattle.wc_validate.proofs.PutLemmas.{is_called}
 use Rattle.wc_validate.proofs.ScopeLemmas.{holds_of_found}
 use Rattle.wc_validate.specs.Texts.{name_not_exported}
@@ -58,27 +58,6 @@ module _ (r : ResolveView) (xs : List CoreExport) (recorded : ExportRecord) wher
   unmet_one need Memory unmet short = tt
   unmet_one need f unmet short = inl (unmet, short)
 
-  -- how far requirements are checked
-  pub record NeedsLeft (all rest : List Requirement) : Type 0 where
-    pub met : AreMet r xs recorded rest → AreMet r xs recorded all
-    pub unmet : (f : ValidateFault) → IsFirstUnmet r xs recorded rest f → IsFirstUnmet r xs recorded all f
-
-  pub needs_start : (all rest : List Requirement) → rest ≡ all → NeedsLeft all rest
-  needs_start all rest is = subst (λ z. NeedsLeft all z) (sym is) (record { met = λ h. h; unmet = λ f h. h })
-
-  pub needs_next : (all left ns rest : List Requirement) → NeedsLeft all left → left ≡ ns ++ rest → AreMet r xs recorded ns → NeedsLeft all rest
-  needs_next all left ns rest p is met =
-      let here : NeedsLeft all (ns ++ rest) = subst (NeedsLeft all) is p in
-      record { met = λ h. here.met (met_append ns rest met h); unmet = λ f h. here.unmet f (first_right ns rest f met h) }
-
-  pub needs_fault : (all left ns rest : List Requirement) (f : ValidateFault) → NeedsLeft all left → left ≡ ns ++ rest → IsUnmetFault r xs recorded ns f
-      → IsUnmetFault r xs recorded all f
-  needs_fault all left ns rest Memory p is h = tt
-  needs_fault all left ns rest f p is h = (subst (NeedsLeft all) is p).unmet f (first_left ns rest f h)
-
-  pub needs_end : (all left : List Requirement) → NeedsLeft all left → left ≡ [] → AreMet r xs recorded all
-  needs_end all left p is = (subst (NeedsLeft all) is p).met tt
-
 -- a required function, by what is found under its name
 module _ (r : ResolveView) (xs : List CoreExport) (recorded : ExportRecord) (name : List ℕ) (ty : FuncTypeValue) where
   pub function_same : (own : FuncTypeValue) → names_types ty ≡ false → exported_type xs name ≡ Some own → ty ≡ own
@@ -96,38 +75,6 @@ module _ (r : ResolveView) (xs : List CoreExport) (recorded : ExportRecord) (nam
   pub function_absent : (e : AdapterModuleDidNotExport) → names_types ty ≡ false → exported_type xs name ≡ None → name_not_exported e ≡ name
       → IsUnmetFault r xs recorded (typed_function name ty ∷ []) (missing e)
   function_absent e plain none named = inl (λ met. (let both : None ≡ Some ty = sym none ∙ met.1 in let bad : ⊥ = cc both in bad), (plain, none, named))
-
--- how many memories are left, after one was found or not
-abbrev pub MemoriesLeft : Bool → ExportRecord → ExportRecord → Type 0
-MemoriesLeft found all rest = memory_count all ≡ cond found (memory_count rest + 1) (memory_count rest)
-
-pub memories_start : (all rest : ExportRecord) → rest ≡ all → MemoriesLeft false all rest
-memories_start all rest is = ap memory_count (sym is)
-
-passed_memory : (found : Bool) (n : ℕ) (rest : ExportRecord) (x : List ℕ × ExportView) → is_memory x.1 ≡ false
-    → n ≡ cond found (memory_count (x ∷ rest) + 1) (memory_count (x ∷ rest)) → n ≡ cond found (memory_count rest + 1) (memory_count rest)
-passed_memory found n rest x none h =
-    h ∙ ap (λ b. cond found (cond b (memory_count rest + 1) (memory_count rest) + 1) (cond b (memory_count rest + 1) (memory_count rest))) none
-
-pub memories_pass : (found : Bool) (all left rest : ExportRecord) (x : List ℕ × ExportView) → MemoriesLeft found all left → left ≡ x ∷ rest
-    → is_memory x.1 ≡ false → MemoriesLeft found all rest
-memories_pass found all left rest x p is none = passed_memory found (memory_count all) rest x none (subst (MemoriesLeft found all) is p)
-
-more_memory : (rest : ExportRecord) (x : List ℕ × ExportView) → is_memory x.1 ≡ true → memory_count (x ∷ rest) ≡ memory_count rest + 1
-more_memory rest x one = ap (λ b. cond b (memory_count rest + 1) (memory_count rest)) one
-
-pub memories_first : (all left rest : ExportRecord) (x : List ℕ × ExportView) → MemoriesLeft false all left → left ≡ x ∷ rest → is_memory x.1 ≡ true
-    → MemoriesLeft true all rest
-memories_first all left rest x p is one = subst (MemoriesLeft false all) is p ∙ more_memory rest x one
-
-pub memories_second : (all left rest : ExportRecord) (x : List ℕ × ExportView) → MemoriesLeft true all left → left ≡ x ∷ rest → is_memory x.1 ≡ true
-    → 1 < memory_count all
-memories_second all left rest x p is one =
-    let e : memory_count all ≡ memory_count (x ∷ rest) + 1 = subst (MemoriesLeft true all) is p in omega (arith, e, more_memory rest x one)
-
-pub memories_end : (found : Bool) (all left : ExportRecord) → MemoriesLeft found all left → left ≡ [] → 1 < memory_count all → ⊥
-memories_end true all left p is many = let e : memory_count all ≡ 0 + 1 = subst (MemoriesLeft true all) is p in absurd (omega (arith, e, many))
-memories_end false all left p is many = let e : memory_count all ≡ 0 = subst (MemoriesLeft false all) is p in absurd (omega (arith, e, many))
 
 -- whether an export has its callback
 pub called_back_unneeded : (recorded : ExportRecord) (e : List ℕ × ExportView) → needs_callback e.1 ≡ false → true ≡ is_called_back recorded e
@@ -182,11 +129,6 @@ keys_next exports left rest key is = ap (key_requirements exports) is ∙ consed
   consed (Some need) = refl
 
 -- of two parts of requirements
-pub passed_unmet : {T : Type 0} (r : ResolveView) (xs : List CoreExport) (recorded : ExportRecord) (ms ns : List Requirement) (p : Result T ValidateFault)
-    → AreMet r xs recorded ms → IfErr p (IsUnmetFault r xs recorded ns) → IfErr p (IsUnmetFault r xs recorded (ms ++ ns))
-passed_unmet r xs recorded ms ns (Ok x) met h = tt
-passed_unmet r xs recorded ms ns (Err f) met h = unmet_right r xs recorded ms ns f met h
-
 pub passed_met : {T F : Type 0} (r : ResolveView) (xs : List CoreExport) (recorded : ExportRecord) (ms ns : List Requirement) (p : Result T F)
     → AreMet r xs recorded ms → OnOk p (AreMet r xs recorded ns) → OnOk p (AreMet r xs recorded (ms ++ ns))
 passed_met r xs recorded ms ns (Ok x) met h = met_append r xs recorded ms ns met h

@@ -56,7 +56,9 @@ use Rattle.wc_validate.specs.Exports.Record.{AreExports, AreRecordedBy, AreRefus
 use Rattle.wc_validate.specs.Requirements.{IsFirstUnmet, IsShortfall, IsUnmetFault, Requirement, callbacks, interface_functions, one_memory, requirements, typed_function, world_function}
 use Rattle.wc_validate.specs.Private.ValidationInputs.{HasRecordedExports, HasRefusedExports}
 use Rattle.wc_validate.specs.Private.Requirements.{AreMetBy, IsUnmetBy}
-use Rattle.wc_validate.specs.Validate.{IsValidateCause, IsExportsRecord, IsImportsCause, IsImportsRecord, IsModuleCause, IsRecordOf, IsImportScopeFor, IsNameScopeOf, ValidationInput, module_record}
+use Rattle.wc_validate.specs.declared.refused.RefusedModule.{RefusedModule}
+use Rattle.wc_validate.specs.Refused.{IsMemoryRefusal}
+use Rattle.wc_validate.specs.Validate.{IsCauseOfExports, IsCauseOfImports, IsValidateCause, IsExportsRecord, IsImportsCause, IsImportsRecord, IsModuleCause, IsRecordOf, IsImportScopeFor, IsNameScopeOf, ValidationInput, module_record}
 
 -- what names are looked up in, for an encoder
 names_are : (es : List (String Global × Adapter)) → map adapter_name es ≡ map (λ (a : List ℕ × AdapterView). a.0) (map adapter_entry es)
@@ -107,6 +109,13 @@ module _ (e : EncoderView) (c : ImportContext) (renames : Option (List RenameVie
 pub recorded_memory : (s : ImportScope) (is : List ImportValue) (r : Recorder) → AreRecorded s is r
     → memory_in (map instance_entry r.instances.entries) ≡ r.memory
 recorded_memory s is r h = ap memory_in h.2.instances ∙ h.2.memory_recorded
+
+-- a failed allocation
+pub memory_of_imports : (j : ValidationInput) (m : ModuleValue) (x : RefusedModule) → IsMemoryRefusal x → IsCauseOfImports j m x.fault
+memory_of_imports j m x h = subst (IsCauseOfImports j m) (sym h.0) tt
+
+pub memory_of_exports : (j : ValidationInput) (m : ModuleValue) (x : RefusedModule) → IsMemoryRefusal x → IsCauseOfExports j m x.fault
+memory_of_exports j m x h = subst (IsCauseOfExports j m) (sym h.0) tt
 
 -- what is no fault of imports
 fault_not : (s : ImportScope) (before : List Entry) (is : List ImportValue) (f : ValidateFault)
@@ -179,17 +188,16 @@ cause_at j bytes m (Read f) spelled h = absurd (module_read j m f h)
 cause_at j bytes m NotAModule spelled h = absurd (module_component j m h)
 cause_at j bytes m f spelled h = (m, spelled, h)
 
-pub record_of : (r : Result ValidatedModule ValidateFault) (j : ValidationInput) (bytes : List ℕ) (m : ModuleValue) → SpellsModule bytes m
+pub record_of : (r : Result ValidatedModule RefusedModule) (j : ValidationInput) (bytes : List ℕ) (m : ModuleValue) → SpellsModule bytes m
     → IfOk r (λ v. IsImportsRecord j.encoder j.renames j.library m.types m.imports v.imports)
     → IfOk r (λ v. IsExportsRecord j.encoder j.keys j.required m v.exports) → IfOk r (λ v. IsRecordOf j bytes (module_record v))
 record_of (Ok v) j bytes m spelled imports exports = record { value = m; spelled = spelled; imports = imports; exports = exports }
 record_of (Err f) j bytes m spelled imports exports = tt
 
-pub cause_of : (r : Result ValidatedModule ValidateFault) (j : ValidationInput) (bytes : List ℕ) (m : ModuleValue) → SpellsModule bytes m
-    → IfErr r (IsModuleCause j m)
-    → IfErr r (IsValidateCause j bytes)
+pub cause_of : (r : Result ValidatedModule RefusedModule) (j : ValidationInput) (bytes : List ℕ) (m : ModuleValue) → SpellsModule bytes m
+    → IfErr r (λ (x : RefusedModule). IsModuleCause j m x.fault) → IfErr r (λ (x : RefusedModule). IsValidateCause j bytes x.fault)
 cause_of (Ok v) j bytes m spelled h = tt
-cause_of (Err f) j bytes m spelled h = cause_at j bytes m f spelled h
+cause_of (Err x) j bytes m spelled h = cause_at j bytes m x.fault spelled h
 
 -- why bytes are not read
 pub read_cause : {T : Type 0} (j : ValidationInput) (bytes : List ℕ) (r : Result T ReadFault) (f : ReadFault) → r ≡ Err f

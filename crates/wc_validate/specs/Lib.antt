@@ -1,5 +1,6 @@
 -- What contracts of this crate cite.
 pub mod Place
+pub mod Refused
 pub mod Texts
 pub mod Classifications
 pub mod Fault

@@ -1,151 +1,136 @@
 //! The places of faults of core modules: the first import or export at which a fault's cause is.
 
-ghost use Rattle.std.specs.Prelude.{◌≡◌, ◌↔◌, IfOk, IsTrue, option_copied};
-ghost use Rattle.wc_read.specs.Modules.{IsModule, module_value};
-ghost use Rattle.wc_validate.specs.Exports.Contexts.{IsExportContext};
+ghost use Rattle.std.specs.Prelude.{◌≡◌, ◌≢◌, ◌↔◌, IfOk, IsTrue, None, Ok, false, option_copied};
 ghost use Rattle.wc_validate.specs.Explain.{IsExplained};
-ghost use Rattle.wc_validate.specs.Private.Explain.{HasRecordedImports, IsMissingFrom, IsModuleExplained};
-ghost use Rattle.wc_validate.specs.Private.Imports.Contexts.{HasTypedImports};
-ghost use Rattle.wc_validate.specs.Private.ValidationInputs.{validation_input_of};
-ghost use Rattle.wc_validate.specs.Private.WorldInterfaces.{AreInterfacesFor};
+ghost use Rattle.wc_validate.specs.Private.Explain.{IsAnswerExplained, IsAnswerFor, IsExplainedBy, IsKeptIf, IsNotExported, IsOtherFault, IsSameFault};
 ghost use Rattle.wc_validate.specs.Validate.{adapter_input_of, main_input};
 
-mod exports;
-mod functions;
-mod imports;
-mod keys;
-mod missing;
-mod refused;
+pub(crate) mod exports;
+pub(crate) mod functions;
+pub(crate) mod imports;
+pub(crate) mod keys;
+pub(crate) mod missing;
 
 use crate::ValidateFault;
-use crate::explain::exports::{export_place, first_mismatched};
-use crate::explain::imports::{first_refused, import_place};
-use crate::explain::missing::{RecordedModule, missing_place};
-use crate::exports::classify::ExportContext;
-use crate::exports::record::record_exports;
-use crate::name_scope::Interfaces;
 use crate::place::Place;
+use crate::refused::{RefusedModule, is_memory};
 use crate::requirements::RequiredExports;
-use crate::validate::{
-    ValidationInput, export_context, import_context, interfaces_for, main_validation_input,
-};
+use crate::validate::{adapter_validation_input, validate_bytes, validate_main};
 use std::alloc::{AllocError, Global};
 use wc_dedupe::ModuleImportMap;
 use wc_encoder::{ComponentEncoder, LibraryInfo};
 use wc_maps::{Map, Set};
-use wc_read::{FuncType, Module, ReadFault, read_module};
+use wc_read::FuncType;
 use wc_resolve::WorldKey;
 
-/// Whether a fault is that an allocation failed.
-pub(crate) fn is_memory(fault: &ValidateFault) -> bool
-    ensures { IsTrue result ↔ (fault.now ≡ ValidateFault.Memory) }
+/// Whether a fault is that a function of a name is not exported.
+fn is_not_exported(fault: &ValidateFault, name: &str) -> bool
+    ensures { IsTrue result ↔ IsNotExported fault.now name.now }
 {
-    matches!(fault, ValidateFault::Memory)
+    match fault {
+        ValidateFault::AdapterModuleDidNotExport(own) => own.name() == name,
+        _ => false,
+    }
 }
 
-/// The place of what is missing among the exports of a module, none of which is refused.
-fn explain_missing(
-    alloc: Global,
-    context: &ExportContext<'_>,
-    module: &Module<'_>,
-    required: RequiredExports<'_>,
-    fault: &ValidateFault,
-) -> Result<Option<Place>, AllocError>
-    requires valid { IsModule (module_value «module».now) }
-    requires context { IsExportContext context.now }
-    ensures { IfOk result (IsMissingFrom context.now required.entry «module».now fault.now) }
+/// Whether two faults are the same, of those that are about an import or an export.
+fn is_same_fault(fault: &ValidateFault, found: &ValidateFault) -> bool
+    ensures same { IsTrue result → IsSameFault found.now fault.now }
+    ensures other { result ≡ false → IsOtherFault found.now fault.now }
 {
-    context.names.resolve.well_formedness();
-    match record_exports(alloc, context, module, &module.exports) {
-        Ok(recorded) => {
-            let exports = RecordedModule {
-                module,
-                recorded: &recorded,
-            };
-            missing_place(alloc, exports, &context.names, required, fault)
+    match found {
+        ValidateFault::NotAFunction => matches!(fault, ValidateFault::NotAFunction),
+        ValidateFault::SignatureMismatch => matches!(fault, ValidateFault::SignatureMismatch),
+        ValidateFault::NoRootImport => matches!(fault, ValidateFault::NoRootImport),
+        ValidateFault::RootNotFunction => matches!(fault, ValidateFault::RootNotFunction),
+        ValidateFault::BadSyntax => matches!(fault, ValidateFault::BadSyntax),
+        ValidateFault::UnknownInterface => matches!(fault, ValidateFault::UnknownInterface),
+        ValidateFault::UnknownIntrinsic => matches!(fault, ValidateFault::UnknownIntrinsic),
+        ValidateFault::MissingFunction => matches!(fault, ValidateFault::MissingFunction),
+        ValidateFault::NoSuchExport => matches!(fault, ValidateFault::NoSuchExport),
+        ValidateFault::WholeDiffers => matches!(fault, ValidateFault::WholeDiffers),
+        ValidateFault::Mixed => matches!(fault, ValidateFault::Mixed),
+        ValidateFault::SeveralMemoryImports => {
+            matches!(fault, ValidateFault::SeveralMemoryImports)
         }
-        // No export is refused, so an allocation failed.
-        Err(_) => Err(AllocError),
+        ValidateFault::DuplicateImport => matches!(fault, ValidateFault::DuplicateImport),
+        ValidateFault::AdapterTypesDiffer => matches!(fault, ValidateFault::AdapterTypesDiffer),
+        ValidateFault::SeveralMemoryExports => {
+            matches!(fault, ValidateFault::SeveralMemoryExports)
+        }
+        ValidateFault::MissingCallback => matches!(fault, ValidateFault::MissingCallback),
+        ValidateFault::MissingInterfaceExport => {
+            matches!(fault, ValidateFault::MissingInterfaceExport)
+        }
+        ValidateFault::MissingWorldExport => matches!(fault, ValidateFault::MissingWorldExport),
+        ValidateFault::AdapterModuleDidNotExport(missing) => {
+            is_not_exported(fault, missing.name())
+        }
+        ValidateFault::AdapterExportType => matches!(fault, ValidateFault::AdapterExportType),
+        ValidateFault::TypedReference => matches!(fault, ValidateFault::TypedReference),
+        ValidateFault::Memory | ValidateFault::Read(_) | ValidateFault::NotAModule => false,
     }
 }
 
-/// The place of a fault of the exports of a module whose imports are recorded.
-fn explain_exports(
-    alloc: Global,
-    validation_input: ValidationInput<'_>,
-    module: &Module<'_>,
+/// What is said of a fault that has no place.
+fn none_for(found: &ValidateFault) -> Result<Option<Place>, AllocError>
+    ensures { IfOk result (λ o. (found.now ≢ ValidateFault.Memory) × (o ≡ None)) }
+{
+    if is_memory(found) {
+        return Err(AllocError);
+    }
+    Ok(None)
+}
+
+/// A value, if it is kept.
+fn kept_if<T: Drop>(value: T, keep: bool) -> Option<T>
+    ensures { IsKeptIf value keep result }
+{
+    if keep { Some(value) } else { None }
+}
+
+/// What is answered of a fault, where another one has this place.
+fn answer_for(
+    place: Option<Place>,
+    found: &ValidateFault,
     fault: &ValidateFault,
 ) -> Result<Option<Place>, AllocError>
-    requires valid { IsModule (module_value «module».now) }
-    requires imports { HasRecordedImports (validation_input_of validation_input)
-        (module_value «module».now) }
-    ensures { IfOk result (IsModuleExplained (validation_input_of validation_input.entry)
-        (module_value «module».now) fault.now) }
+    ensures { IsAnswerFor place found.now fault.now result }
 {
-    let context = export_context(
-        alloc,
-        validation_input.encoder,
-        validation_input.required.keys,
-    )?;
-    match first_mismatched(alloc, &context, module, &module.exports) {
-        Some(refused) => export_place(alloc, module, &module.exports, refused, fault),
-        None => explain_missing(alloc, &context, module, validation_input.required, fault),
+    match place {
+        None => none_for(found),
+        Some(own) => Ok(kept_if(own, is_same_fault(fault, found))),
     }
 }
 
-/// The place of a fault of a module that is read, among these interfaces of the encoder's world.
-fn explain_among(
-    alloc: Global,
-    validation_input: ValidationInput<'_>,
-    interfaces: &Interfaces<'_>,
-    module: &Module<'_>,
-    fault: &ValidateFault,
-) -> Result<Option<Place>, AllocError>
-    requires typed { HasTypedImports «module».now }
-    requires valid { IsModule (module_value «module».now) }
-    requires interfaces { AreInterfacesFor validation_input.encoder.now interfaces.now }
-    ensures { IfOk result (IsModuleExplained (validation_input_of validation_input.entry)
-        (module_value «module».now) fault.now) }
+/// What a refusal is about, where its fault is this one.
+fn place_for(refused: RefusedModule, fault: &ValidateFault) -> Result<Option<Place>, AllocError>
+    ensures { IsExplainedBy refused fault.now result }
 {
-    let context = import_context(alloc, validation_input, interfaces, module)?;
-    match first_refused(alloc, &context, &module.imports) {
-        Err(refused) => import_place(alloc, &context, &module.imports, refused, fault),
-        Ok(_) => explain_exports(alloc, validation_input, module, fault),
+    let (found, place) = (refused.fault, refused.place);
+    match place {
+        Ok(place) => answer_for(place, &found, fault),
+        Err(error) => Err(error),
     }
 }
 
-/// The place of a fault of a module that is read.
-fn explain_read(
-    alloc: Global,
-    validation_input: ValidationInput<'_>,
-    module: &Module<'_>,
-    fault: &ValidateFault,
-) -> Result<Option<Place>, AllocError>
-    requires typed { HasTypedImports «module».now }
-    requires valid { IsModule (module_value «module».now) }
-    ensures { IfOk result (IsModuleExplained (validation_input_of validation_input.entry)
-        (module_value «module».now) fault.now) }
+/// That a module which is valid has no place of a fault.
+fn valid_has_none<T: Drop>(_value: T) -> Result<Option<Place>, AllocError>
+    ensures { result ≡ Ok None }
 {
-    let interfaces = interfaces_for(alloc, validation_input.encoder, module.imports.len())?;
-    explain_among(alloc, validation_input, &interfaces, module, fault)
+    Ok(None)
 }
 
-/// The place of a fault of the module that bytes spell.
-fn explain_bytes(
-    alloc: Global,
-    validation_input: ValidationInput<'_>,
-    bytes: &[u8],
+/// What the refusal of a module is about, if it is refused with this fault.
+fn explained<T: Drop>(
+    answer: Result<T, RefusedModule>,
     fault: &ValidateFault,
 ) -> Result<Option<Place>, AllocError>
-    ensures { IfOk result (IsExplained (validation_input_of validation_input.entry) bytes.now
-        fault.now) }
+    ensures { IsAnswerExplained answer fault.now result }
 {
-    match read_module(alloc, bytes) {
-        Ok(module) => explain_read(alloc, validation_input, &module, fault),
-        Err(refusal) => match refusal {
-            ReadFault::Memory => Err(AllocError),
-            _ => Ok(None),
-        },
+    match answer {
+        Ok(value) => valid_has_none(value),
+        Err(refused) => place_for(refused, fault),
     }
 }
 
@@ -178,9 +163,10 @@ pub fn explain_module(
     ensures { IfOk result (IsExplained (main_input encoder.now
         (option_copied import_map.entry)) bytes.now fault.now) }
 {
-    let functions = Map::with_hasher(alloc, *encoder.adapters().hasher());
-    let validation_input = main_validation_input(encoder, import_map, &functions);
-    explain_bytes(alloc, validation_input, bytes, fault)
+    explained(
+        validate_main(alloc, encoder, bytes, import_map, true),
+        fault,
+    )
 }
 
 /// The place of a fault that [`validate_adapter_module`](crate::validate_adapter_module) answered for the same
@@ -208,12 +194,6 @@ pub fn explain_adapter_module<'a>(
         keys: exports,
         functions: required_by_import,
     };
-    let validation_input = ValidationInput {
-        encoder,
-        interfaces: None,
-        library: library_info,
-        renames: None,
-        required,
-    };
-    explain_bytes(alloc, validation_input, bytes, fault)
+    let validation_input = adapter_validation_input(encoder, library_info, required, true);
+    explained(validate_bytes(alloc, validation_input, bytes), fault)
 }

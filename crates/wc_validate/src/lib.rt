@@ -36,6 +36,7 @@ mod name_fault;
 mod name_scope;
 mod place;
 mod prefixes;
+mod refused;
 mod requirements;
 mod signatures;
 mod validate;
@@ -49,5 +50,9 @@ pub use imports::instances::ImportInstance;
 pub use imports::iter::Imports;
 pub use imports::map::ImportMap;
 pub use place::{Place, Subject, TypeDifference};
-pub use validate::{ValidatedModule, validate_adapter_module, validate_module};
+pub use refused::RefusedModule;
+pub use validate::{
+    ValidatedModule, validate_adapter_module, validate_adapter_module_explained, validate_module,
+    validate_module_explained,
+};
 pub use world_interfaces::WorldInterfaces;

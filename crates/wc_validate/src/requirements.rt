@@ -1,22 +1,28 @@
 //! What has to be among the exports of a core module.
 
-ghost use Rattle.std.specs.Prelude.{◌≡◌, ◌↔◌, ◌<◌, All, IfErr, IfOk, IsTrue, OnOk, map};
+ghost use Rattle.std.specs.Prelude.{◌≡◌, ◌≤◌, All, IfErr, IfOk, MatchOption, OnOk, map};
 ghost use Rattle.wc_read.specs.Modules.{HaveTypes, module_value};
 ghost use Rattle.wc_resolve.specs.Ranges.{IsItemIn};
 ghost use Rattle.wc_resolve.specs.Views.{world_entry};
 ghost use Rattle.wc_names.specs.ExportViews.{export_view};
 ghost use Rattle.wc_validate.specs.Exports.Map.{export_entry, is_memory};
 ghost use Rattle.wc_validate.specs.Requirements.{is_called_back, is_callback_for, memory_count, needs_callback};
-ghost use Rattle.wc_validate.specs.Private.Requirements.{AreMetBy, HasItemsInRange, IsUnmetBy, requirement_of_key, requirements_of_keys, AreCalledBack, FailsAlone, FailsByNames, MeetsAlone, MeetsByNames};
+ghost use Rattle.wc_validate.specs.Private.Explain.{IsMissingIn, IsRefusedForCallbacks, IsRefusedForMemories, IsSecondNamed, IsUncalled, RefusesKeys};
+ghost use Rattle.wc_validate.specs.Private.Requirements.{AreMetBy, HasItemsInRange, HasKeysNamed, IsUnmetBy, requirement_of_key, requirements_of_keys, AreCalledBack, FailsByNames, MeetsByNames};
+ghost use Rattle.wc_validate.specs.Refused.{IsRefusedAt};
 ghost use Rattle.wc_validate.specs.NameScope.{name_scope_of};
 ghost use Rattle.wc_validate.specs.Exports.Record.{AreExportsIn};
 
 pub(crate) mod exported_functions;
 
 use crate::ValidateFault;
+use crate::explain::functions::check_functions;
+use crate::explain::keys::{first_lacking, key_refusal};
+use crate::explain::missing::{callback_refusal, memory_refusal};
 use crate::name_scope::Names;
+use crate::refused::RefusedModule;
 use crate::requirements::exported_functions::{
-    FunctionNames, check_functions, is_interface_recorded, is_recorded, names_of_functions,
+    FunctionNames, is_interface_recorded, is_recorded, names_of_functions,
 };
 use std::alloc::{AllocError, Global};
 use wc_maps::{Map, Set};
@@ -32,28 +38,55 @@ pub(crate) struct RequiredExports<'a> {
     pub(crate) functions: &'a Map<String, FuncType>,
 }
 
+/// A module, and what is recorded of its exports.
+#[derive(Clone, Copy)]
+pub(crate) struct RecordedModule<'m> {
+    pub(crate) module: &'m Module<'m>,
+    pub(crate) recorded: &'m Map<String, Export>,
+}
+
 /// Whether an export is a memory.
-pub(crate) fn is_memory(export: &Export) -> bool
+fn is_memory(export: &Export) -> bool
     ensures { result ≡ is_memory (export_view export.now) }
 {
     matches!(export, Export::Memory(_))
 }
 
-/// Whether two memories are recorded.
-fn has_several_memories(names: &Map<String, Export>) -> bool
-    ensures { IsTrue result ↔ (1 < memory_count (map export_entry names.now.entries)) }
+/// The name of the second memory that is recorded, if there are two.
+fn second_memory<'n>(names: &'n Map<String, Export>) -> Option<&'n str>
+    ensures { MatchOption result (memory_count (map export_entry names.now.entries) ≤ 1)
+        (IsSecondNamed names.now.entries) }
 {
     let mut found = false;
-    for (_name, export) in names.iter() {
+    for (name, export) in names.iter() {
         if !is_memory(export) {
             continue;
         }
         if found {
-            return true;
+            return Some(name.as_str());
         }
         found = true;
     }
-    false
+    None
+}
+
+/// Checks that at most one memory is recorded.
+///
+/// # Errors
+///
+/// `SeveralMemoryExports`: two memories are recorded. It is about the second.
+fn check_memories(
+    alloc: Global,
+    names: &Map<String, Export>,
+    places: bool,
+) -> Result<(), RefusedModule>
+    ensures met { OnOk result (memory_count (map export_entry names.now.entries) ≤ 1) }
+    ensures refused { IfErr result (IsRefusedForMemories names.now.entries) }
+{
+    match second_memory(names) {
+        Some(name) => Err(memory_refusal(alloc, name, places)),
+        None => Ok(()),
+    }
 }
 
 /// Whether a function is lifted with a callback.
@@ -81,7 +114,7 @@ fn is_callback_for(export: &Export, callback: &Export) -> bool
 }
 
 /// Whether an export has its callback among those recorded, if it needs one.
-pub(crate) fn is_called_back(
+fn is_called_back(
     alloc: Global,
     names: &Map<String, Export>,
     name: &str,
@@ -101,36 +134,41 @@ pub(crate) fn is_called_back(
     }
 }
 
-/// Whether all recorded exports have the callbacks that they need.
-fn are_called_back(alloc: Global, names: &Map<String, Export>) -> Result<bool, AllocError>
-    ensures { IfOk result (λ b. IsTrue b ↔ AreCalledBack names.now.entries) }
+/// The name of the first recorded export whose callback is missing, if one is.
+fn uncalled<'n>(
+    alloc: Global,
+    names: &'n Map<String, Export>,
+) -> Result<Option<&'n str>, AllocError>
+    ensures { IfOk result (λ name. MatchOption name (AreCalledBack names.now.entries)
+        (IsUncalled names.now.entries)) }
 {
     for (name, export) in names.iter() {
         if !is_called_back(alloc, names, name.as_str(), export)? {
-            return Ok(false);
+            return Ok(Some(name.as_str()));
         }
     }
-    Ok(true)
+    Ok(None)
 }
 
-/// Checks that at most one memory is recorded, and that callbacks are there.
+/// Checks that callbacks are recorded.
 ///
 /// # Errors
 ///
-/// - `SeveralMemoryExports`: two memories are recorded.
-/// - `MissingCallback`: an export needs a callback that is not recorded.
+/// - `MissingCallback`: an export needs a callback that is not recorded. It is about the callback of the first.
 /// - `Memory`: an allocation failed.
-fn check_record(alloc: Global, names: &Map<String, Export>) -> Result<(), ValidateFault>
-    ensures met { MeetsAlone names.now.entries result }
-    ensures fault { FailsAlone names.now.entries result }
+fn check_callbacks(
+    alloc: Global,
+    names: &Map<String, Export>,
+    places: bool,
+) -> Result<(), RefusedModule>
+    ensures met { OnOk result (AreCalledBack names.now.entries) }
+    ensures refused { IfErr result (IsRefusedForCallbacks names.now.entries) }
 {
-    if has_several_memories(names) {
-        return Err(ValidateFault::SeveralMemoryExports);
+    let found = uncalled(alloc, names)?;
+    match found {
+        Some(name) => Err(callback_refusal(alloc, name, places)),
+        None => Ok(()),
     }
-    if !are_called_back(alloc, names)? {
-        return Err(ValidateFault::MissingCallback);
-    }
-    Ok(())
 }
 
 /// Checks that what a key of an export set is for is recorded.
@@ -177,24 +215,25 @@ pub(crate) fn check_key(
 ///
 /// # Errors
 ///
-/// Those of the first key for which something is missing.
+/// Those of the first key for which something is missing. They are about the first function that is missing for it.
 fn check_keys(
     alloc: Global,
     functions: &FunctionNames,
-    resolve: &Resolve,
-    exports: &Map<WorldKey, WorldItem>,
+    names: &Names<'_>,
     keys: &Set<WorldKey>,
-) -> Result<(), ValidateFault>
-    requires { All (λ x. IsItemIn resolve.now x.1) (map world_entry exports.now.entries) }
-    ensures met { MeetsByNames resolve.now functions.now.keys
-        (requirements_of_keys exports.now.entries keys.now.keys) result }
-    ensures fault { FailsByNames resolve.now functions.now.keys
-        (requirements_of_keys exports.now.entries keys.now.keys) result }
+    places: bool,
+) -> Result<(), RefusedModule>
+    requires world { HasItemsInRange (name_scope_of names.now) }
+    requires named { HasKeysNamed (name_scope_of names.now) }
+    ensures met { MeetsByNames names.now.resolve.now functions.now.keys
+        (requirements_of_keys names.now.world.now.exports.entries keys.now.keys) result }
+    ensures refused { RefusesKeys names.now functions.now.keys keys.now.keys result }
 {
-    for key in keys.iter() {
-        check_key(alloc, functions, resolve, exports, key)?;
+    let exports = &names.world.exports;
+    match first_lacking(alloc, functions, names.resolve, exports, keys) {
+        Ok(()) => Ok(()),
+        Err(lacking) => Err(key_refusal(alloc, functions, names, lacking, places)),
     }
-    Ok(())
 }
 
 /// Checks that what has to be exported is.
@@ -210,30 +249,29 @@ fn check_keys(
 /// - `AdapterModuleDidNotExport`, `AdapterExportType`: a required function is not exported, or with another type; of
 ///   the first such function.
 /// - `Memory`: an allocation failed.
-pub(crate) fn check_exports<'m>(
+///
+/// Each has its place where `places` are asked for.
+pub(crate) fn check_exports(
     alloc: Global,
-    recorded: &Map<String, Export>,
+    exports: RecordedModule<'_>,
     names: &Names<'_>,
-    module: &'m Module<'m>,
     required: RequiredExports<'_>,
-) -> Result<(), ValidateFault>
-    requires items { AreExportsIn «module».now «module».now.exports.items }
-    requires typed { HaveTypes (module_value «module».now) }
+    places: bool,
+) -> Result<(), RefusedModule>
+    requires items { AreExportsIn exports.«module».now exports.«module».now.exports.items }
+    requires typed { HaveTypes (module_value exports.«module».now) }
     requires world { HasItemsInRange (name_scope_of names.now) }
-    ensures met { OnOk result (AreMetBy names.now required.entry «module».now
-        recorded.now.entries) }
-    ensures fault { IfErr result (IsUnmetBy names.now required.entry «module».now
-        recorded.now.entries) }
+    requires named { HasKeysNamed (name_scope_of names.now) }
+    ensures met { OnOk result (AreMetBy names.now required.entry exports.entry.«module».now
+        exports.entry.recorded.now.entries) }
+    ensures fault { IfErr result (λ x. IsUnmetBy names.now required.entry exports.entry.«module».now
+        exports.entry.recorded.now.entries x.fault) }
+    ensures place { IfErr result (IsRefusedAt
+        (IsMissingIn names.now required.entry exports.entry)) }
 {
-    check_record(alloc, recorded)?;
-    let functions = names_of_functions(alloc, recorded)?;
-    let world_exports = &names.world.exports;
-    check_keys(
-        alloc,
-        &functions,
-        names.resolve,
-        world_exports,
-        required.keys,
-    )?;
-    check_functions(alloc, module, &module.exports, required.functions)
+    check_memories(alloc, exports.recorded, places)?;
+    check_callbacks(alloc, exports.recorded, places)?;
+    let functions = names_of_functions(alloc, exports.recorded)?;
+    check_keys(alloc, &functions, names, required.keys, places)?;
+    check_functions(alloc, exports.module, required.functions, places)
 }

@@ -5,12 +5,18 @@ ghost use Rattle.wc_read.specs.Modules.{IsModule, module_value};
 ghost use Rattle.wc_resolve.specs.Views.{key_view};
 ghost use Rattle.wc_validate.specs.Private.Imports.Contexts.{HasLibrary, HasTypedImports};
 ghost use Rattle.wc_validate.specs.Exports.Contexts.{IsExportContext};
+ghost use Rattle.wc_validate.specs.Exports.Record.{AreExportsAdded};
 ghost use Rattle.wc_validate.specs.NameScope.{AreInterfacesOf, name_scope_of};
 ghost use Rattle.wc_validate.specs.Private.WorldInterfaces.{AreInterfacesFor, AreInterfacesThere};
+ghost use Rattle.wc_validate.specs.Explain.{IsModulePlace, IsPlace, IsPlaceOfImport};
+ghost use Rattle.wc_validate.specs.Private.Explain.{ArePlacedAmongExports, IsPlaceIn, IsRefusedForExport};
+ghost use Rattle.wc_validate.specs.Refused.{IsRefusedAt};
 ghost use Rattle.wc_validate.specs.Validate.{HasNoCause, IsValidateCause, IsCauseOfExports, IsCauseOfImports, IsModuleCause, IsNameScopeOf, IsRecordOf, IsRecordOfExports, IsRecordOfImports, adapter_input_of, library_of, main_input, module_record};
-ghost use Rattle.wc_validate.specs.Private.ValidationInputs.{main_input_requiring, validation_input_of, AreExportsRecorded, AreExportsRefused};
+ghost use Rattle.wc_validate.specs.Private.ValidationInputs.{main_input_requiring, validation_input_of, AreExportsRecorded, AreExportsRefused, IsWithoutPlace};
 
 use crate::ValidateFault;
+use crate::explain::exports::export_refusal;
+use crate::explain::imports::import_refusal;
 use crate::exports::classify::ExportContext;
 use crate::exports::map::ExportMap;
 use crate::exports::record::record_exports;
@@ -19,12 +25,13 @@ use crate::imports::map::ImportMap;
 use crate::imports::record::{ImportContext, record_imports};
 use crate::laws::records_exclude_faults;
 use crate::name_scope::{Interfaces, Names};
-use crate::requirements::{RequiredExports, check_exports};
+use crate::refused::RefusedModule;
+use crate::requirements::{RecordedModule, RequiredExports, check_exports};
 use std::alloc::{AllocError, Global};
 use wc_dedupe::ModuleImportMap;
 use wc_encoder::{ComponentEncoder, LibraryInfo};
 use wc_maps::{Map, Seed, Set};
-use wc_names::{Legacy, NameIndexes, Standard};
+use wc_names::{Export, Legacy, NameIndexes, Standard};
 use wc_read::{FuncType, Module, read_module};
 use wc_resolve::WorldKey;
 
@@ -66,8 +73,8 @@ fn names_of(encoder: &ComponentEncoder) -> Names<'_>
 }
 
 /// The input of a validation: an encoder, with the interfaces of its world, where they were made for several modules;
-/// what the module is passed, if it is a library; the original names of its imports, if some were renamed; and what it
-/// has to export.
+/// what the module is passed, if it is a library; the original names of its imports, if some were renamed; what it
+/// has to export; and whether a refusal has to have its place.
 #[derive(Clone, Copy)]
 pub(crate) struct ValidationInput<'a> {
     pub(crate) encoder: &'a ComponentEncoder,
@@ -75,6 +82,7 @@ pub(crate) struct ValidationInput<'a> {
     pub(crate) library: Option<&'a LibraryInfo>,
     pub(crate) renames: Option<&'a ModuleImportMap>,
     pub(crate) required: RequiredExports<'a>,
+    pub(crate) places: bool,
 }
 
 /// The interfaces of an encoder's world, indexed if more than a few are looked up.
@@ -126,18 +134,26 @@ fn imports_among(
     validation_input: ValidationInput<'_>,
     interfaces: &Interfaces<'_>,
     module: &Module<'_>,
-) -> Result<ImportMap, ValidateFault>
+) -> Result<ImportMap, RefusedModule>
     requires typed { HasTypedImports «module».now }
     requires interfaces { AreInterfacesFor validation_input.encoder.now interfaces.now }
     ensures recorded { IfOk result (IsRecordOfImports (validation_input_of validation_input.entry)
         (module_value «module».now)) }
     ensures fault { IfErr result
-        (IsCauseOfImports (validation_input_of validation_input.entry) (module_value
-        «module».now)) }
+        (λ x. IsCauseOfImports (validation_input_of validation_input.entry)
+        (module_value «module».now) x.fault) }
+    ensures place { IfErr result (IsRefusedAt
+        (IsPlaceOfImport (validation_input_of validation_input.entry)
+        (module_value «module».now))) }
 {
     let context = import_context(alloc, validation_input, interfaces, module)?;
-    let recorder = record_imports(alloc, &context, &module.imports)?;
-    Ok(ImportMap::from_recorder(alloc, recorder)?)
+    match record_imports(alloc, &context, &module.imports) {
+        Ok(recorder) => Ok(ImportMap::from_recorder(alloc, recorder)?),
+        Err(refused) => {
+            let places = validation_input.places;
+            Err(import_refusal(alloc, &context, &module.imports, refused, places))
+        }
+    }
 }
 
 /// The imports of a module, recorded.
@@ -145,15 +161,18 @@ fn module_imports(
     alloc: Global,
     validation_input: ValidationInput<'_>,
     module: &Module<'_>,
-) -> Result<ImportMap, ValidateFault>
+) -> Result<ImportMap, RefusedModule>
     requires typed { HasTypedImports «module».now }
     requires interfaces { AreInterfacesThere validation_input.encoder.now
         validation_input.interfaces }
     ensures recorded { IfOk result (IsRecordOfImports (validation_input_of validation_input.entry)
         (module_value «module».now)) }
     ensures fault { IfErr result
-        (IsCauseOfImports (validation_input_of validation_input.entry) (module_value
-        «module».now)) }
+        (λ x. IsCauseOfImports (validation_input_of validation_input.entry)
+        (module_value «module».now) x.fault) }
+    ensures place { IfErr result (IsRefusedAt
+        (IsPlaceOfImport (validation_input_of validation_input.entry)
+        (module_value «module».now))) }
 {
     if let Some(interfaces) = validation_input.interfaces {
         return imports_among(alloc, validation_input, interfaces, module);
@@ -188,13 +207,33 @@ pub(crate) fn export_context<'a>(
     })
 }
 
+/// The exports of a module, as they are recorded, by what their names are looked up in.
+fn recorded_exports(
+    alloc: Global,
+    context: &ExportContext<'_>,
+    module: &Module<'_>,
+    places: bool,
+) -> Result<Map<String, Export>, RefusedModule>
+    requires valid { IsModule (module_value «module».now) }
+    requires context { IsExportContext context.now }
+    ensures recorded { IfOk result (λ names. AreExportsAdded context.now «module».now
+        «module».now.exports.items names.entries) }
+    ensures refused { IfErr result (IsRefusedForExport context.now «module».now) }
+{
+    match record_exports(alloc, context, module, &module.exports) {
+        Ok(names) => Ok(names),
+        Err(refused) => Err(export_refusal(alloc, module, &module.exports, refused, places)),
+    }
+}
+
 /// The exports of a module, recorded, where all that is required is among them; by what their names are looked up in.
 fn exports_by(
     alloc: Global,
     context: &ExportContext<'_>,
     module: &Module<'_>,
     required: RequiredExports<'_>,
-) -> Result<ExportMap, ValidateFault>
+    places: bool,
+) -> Result<ExportMap, RefusedModule>
     requires valid { IsModule (module_value «module».now) }
     requires context { IsExportContext context.now }
     requires keys { context.now.standard.keys ≡ map key_view required.keys.now.keys }
@@ -202,10 +241,16 @@ fn exports_by(
         (module_value «module».now) result }
     ensures fault { AreExportsRefused context.now required.entry
         (module_value «module».now) result }
+    ensures place { IfErr result (IsRefusedAt
+        (IsPlaceIn context.now required.entry «module».now)) }
 {
     context.names.resolve.well_formedness();
-    let names = record_exports(alloc, context, module, &module.exports)?;
-    check_exports(alloc, &names, &context.names, module, required)?;
+    let names = recorded_exports(alloc, context, module, places)?;
+    let exports = RecordedModule {
+        module,
+        recorded: &names,
+    };
+    check_exports(alloc, exports, &context.names, required, places)?;
     Ok(ExportMap::from_names(alloc, names)?)
 }
 
@@ -214,20 +259,23 @@ fn module_exports(
     alloc: Global,
     validation_input: ValidationInput<'_>,
     module: &Module<'_>,
-) -> Result<ExportMap, ValidateFault>
+) -> Result<ExportMap, RefusedModule>
     requires { IsModule (module_value «module».now) }
     ensures recorded { IfOk result (IsRecordOfExports (validation_input_of validation_input.entry)
         (module_value «module».now)) }
     ensures fault { IfErr result
-        (IsCauseOfExports (validation_input_of validation_input.entry) (module_value
-        «module».now)) }
+        (λ x. IsCauseOfExports (validation_input_of validation_input.entry)
+        (module_value «module».now) x.fault) }
+    ensures place { ArePlacedAmongExports (validation_input_of validation_input.entry)
+        (module_value «module».now) result }
 {
     let context = export_context(
         alloc,
         validation_input.encoder,
         validation_input.required.keys,
     )?;
-    exports_by(alloc, &context, module, validation_input.required)
+    let (required, places) = (validation_input.required, validation_input.places);
+    exports_by(alloc, &context, module, required, places)
 }
 
 /// The record of a module that is read.
@@ -235,7 +283,7 @@ fn validate_read(
     alloc: Global,
     validation_input: ValidationInput<'_>,
     module: &Module<'_>,
-) -> Result<ValidatedModule, ValidateFault>
+) -> Result<ValidatedModule, RefusedModule>
     requires typed { HasTypedImports «module».now }
     requires valid { IsModule (module_value «module».now) }
     requires interfaces { AreInterfacesThere validation_input.encoder.now
@@ -247,7 +295,11 @@ fn validate_read(
         (λ v. IsRecordOfExports (validation_input_of validation_input.entry)
         (module_value «module».now) v.exports) }
     ensures fault { IfErr result
-        (IsModuleCause (validation_input_of validation_input.entry) (module_value «module».now)) }
+        (λ x. IsModuleCause (validation_input_of validation_input.entry)
+        (module_value «module».now) x.fault) }
+    ensures place { IfErr result (IsRefusedAt
+        (IsModulePlace (validation_input_of validation_input.entry)
+        (module_value «module».now))) }
 {
     let imports = module_imports(alloc, validation_input, module)?;
     let exports = module_exports(alloc, validation_input, module)?;
@@ -259,13 +311,15 @@ pub(crate) fn validate_bytes(
     alloc: Global,
     validation_input: ValidationInput<'_>,
     bytes: &[u8],
-) -> Result<ValidatedModule, ValidateFault>
+) -> Result<ValidatedModule, RefusedModule>
     requires { AreInterfacesThere validation_input.encoder.now validation_input.interfaces }
     ensures recorded { IfOk result
         (λ v. IsRecordOf (validation_input_of validation_input.entry) bytes.now
         (module_record v)) }
     ensures fault { IfErr result
-        (IsValidateCause (validation_input_of validation_input.entry) bytes.now) }
+        (λ x. IsValidateCause (validation_input_of validation_input.entry) bytes.now x.fault) }
+    ensures place { IfErr result (IsRefusedAt
+        (IsPlace (validation_input_of validation_input.entry) bytes.now)) }
     ensures no_cause { OnOk result
         (HasNoCause (validation_input_of validation_input.entry) bytes.now) }
 {
@@ -275,10 +329,11 @@ pub(crate) fn validate_bytes(
 }
 
 /// The input for the main module of an encoder, where other modules import these functions from it.
-pub(crate) fn main_validation_input<'a>(
+fn main_validation_input<'a>(
     encoder: &'a ComponentEncoder,
     import_map: Option<&'a ModuleImportMap>,
     functions: &'a Map<String, FuncType>,
+    places: bool,
 ) -> ValidationInput<'a>
     ensures input { validation_input_of result ≡ main_input_requiring encoder.now
         (option_copied import_map.entry) functions.now.entries }
@@ -292,26 +347,61 @@ pub(crate) fn main_validation_input<'a>(
         library: None,
         renames: import_map,
         required,
+        places,
     }
 }
 
-/// The record of the main module of an encoder, where other modules import these functions from it.
-fn validate_main<'a>(
-    alloc: Global,
+/// The input for an adapter or a library of an encoder.
+pub(crate) fn adapter_validation_input<'a>(
     encoder: &'a ComponentEncoder,
-    bytes: &[u8],
-    import_map: Option<&'a ModuleImportMap>,
-    functions: &'a Map<String, FuncType>,
-) -> Result<ValidatedModule, ValidateFault>
-    ensures recorded { IfOk result (λ v. IsRecordOf (main_input_requiring encoder.now
-        (option_copied import_map.entry) functions.now.entries) bytes.now (module_record v)) }
-    ensures fault { IfErr result (IsValidateCause (main_input_requiring encoder.now
-        (option_copied import_map.entry) functions.now.entries) bytes.now) }
-    ensures no_cause { OnOk result (HasNoCause (main_input_requiring encoder.now
-        (option_copied import_map.entry) functions.now.entries) bytes.now) }
+    library_info: Option<&'a LibraryInfo>,
+    required: RequiredExports<'a>,
+    places: bool,
+) -> ValidationInput<'a>
+    ensures input { validation_input_of result ≡ adapter_input_of encoder.now library_info.entry
+        required.entry.keys.now.keys required.entry.functions.now.entries }
+    ensures interfaces { option_copied result.interfaces ≡ None }
 {
-    let validation_input = main_validation_input(encoder, import_map, functions);
+    ValidationInput {
+        encoder,
+        interfaces: None,
+        library: library_info,
+        renames: None,
+        required,
+        places,
+    }
+}
+
+/// The record of the main module of an encoder.
+pub(crate) fn validate_main(
+    alloc: Global,
+    encoder: &ComponentEncoder,
+    bytes: &[u8],
+    import_map: Option<&ModuleImportMap>,
+    places: bool,
+) -> Result<ValidatedModule, RefusedModule>
+    ensures recorded { IfOk result (λ v. IsRecordOf (main_input encoder.now
+        (option_copied import_map.entry)) bytes.now (module_record v)) }
+    ensures fault { IfErr result (λ x. IsValidateCause (main_input encoder.now
+        (option_copied import_map.entry)) bytes.now x.fault) }
+    ensures place { IfErr result (IsRefusedAt (IsPlace (main_input encoder.now
+        (option_copied import_map.entry)) bytes.now)) }
+    ensures no_cause { OnOk result (HasNoCause (main_input encoder.now
+        (option_copied import_map.entry)) bytes.now) }
+{
+    let functions = Map::with_hasher(alloc, *encoder.adapters().hasher());
+    let validation_input = main_validation_input(encoder, import_map, &functions, places);
     validate_bytes(alloc, validation_input, bytes)
+}
+
+/// What is answered, without the place of a refusal.
+pub(crate) fn without_place<T: Drop>(answer: Result<T, RefusedModule>) -> Result<T, ValidateFault>
+    ensures { IsWithoutPlace answer result }
+{
+    match answer {
+        Ok(value) => Ok(value),
+        Err(refused) => Err(refused.fault),
+    }
 }
 
 /// Validates the main module of an encoder. Each import is classified as what it names, or as what its original name
@@ -360,8 +450,32 @@ pub fn validate_module(
     ensures no_cause { OnOk result (HasNoCause (main_input encoder.now
         (option_copied import_map.entry)) bytes.now) }
 {
-    let functions = Map::with_hasher(alloc, *encoder.adapters().hasher());
-    validate_main(alloc, encoder, bytes, import_map, &functions)
+    without_place(validate_main(alloc, encoder, bytes, import_map, false))
+}
+
+/// As [`validate_module`]; but a module that is refused says what its fault is about, as
+/// [`explain_module`](crate::explain_module) does.
+///
+/// # Errors
+///
+/// Those of [`validate_module`].
+pub fn validate_module_explained(
+    alloc: Global,
+    encoder: &ComponentEncoder,
+    bytes: &[u8],
+    import_map: Option<&ModuleImportMap>,
+) -> Result<ValidatedModule, RefusedModule>
+    ensures recorded { IfOk result (λ v. IsRecordOf (main_input encoder.now
+        (option_copied import_map.entry)) bytes.now (module_record v)) }
+    ensures fault { IfErr result (λ x. IsValidateCause (main_input encoder.now
+        (option_copied import_map.entry)) bytes.now x.fault) }
+    ensures place { IfErr result (IsRefusedAt (IsPlace (main_input encoder.now
+        (option_copied import_map.entry)) bytes.now)) }
+    // Without a fault there is no cause.
+    ensures no_cause { OnOk result (HasNoCause (main_input encoder.now
+        (option_copied import_map.entry)) bytes.now) }
+{
+    validate_main(alloc, encoder, bytes, import_map, true)
 }
 
 /// Validates an adapter or a library for an encoder. Each import is recorded as what the library is passed for it, or
@@ -405,12 +519,38 @@ pub fn validate_adapter_module<'a>(
         keys: exports,
         functions: required_by_import,
     };
-    let validation_input = ValidationInput {
-        encoder,
-        interfaces: None,
-        library: library_info,
-        renames: None,
-        required,
+    let validation_input = adapter_validation_input(encoder, library_info, required, false);
+    without_place(validate_bytes(alloc, validation_input, bytes))
+}
+
+/// As [`validate_adapter_module`]; but a module that is refused says what its fault is about, as
+/// [`explain_adapter_module`](crate::explain_adapter_module) does.
+///
+/// # Errors
+///
+/// Those of [`validate_adapter_module`].
+pub fn validate_adapter_module_explained<'a>(
+    alloc: Global,
+    encoder: &'a ComponentEncoder,
+    bytes: &[u8],
+    required_by_import: &'a Map<String, FuncType>,
+    exports: &'a Set<WorldKey>,
+    library_info: Option<&'a LibraryInfo>,
+) -> Result<ValidatedModule, RefusedModule>
+    ensures recorded { IfOk result (λ v. IsRecordOf (adapter_input_of encoder.now library_info.entry
+        exports.now.keys required_by_import.now.entries) bytes.now (module_record v)) }
+    ensures fault { IfErr result (λ x. IsValidateCause (adapter_input_of encoder.now
+        library_info.entry exports.now.keys required_by_import.now.entries) bytes.now x.fault) }
+    ensures place { IfErr result (IsRefusedAt (IsPlace (adapter_input_of encoder.now
+        library_info.entry exports.now.keys required_by_import.now.entries) bytes.now)) }
+    // Without a fault there is no cause.
+    ensures no_cause { OnOk result (HasNoCause (adapter_input_of encoder.now library_info.entry
+        exports.now.keys required_by_import.now.entries) bytes.now) }
+{
+    let required = RequiredExports {
+        keys: exports,
+        functions: required_by_import,
     };
+    let validation_input = adapter_validation_input(encoder, library_info, required, true);
     validate_bytes(alloc, validation_input, bytes)
 }

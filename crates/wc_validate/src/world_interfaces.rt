@@ -1,12 +1,19 @@
 //! The interfaces of an encoder's world, made once for several modules.
 
 ghost use Rattle.std.specs.Prelude.{◌≡◌, IfErr, IfOk, OnOk};
+ghost use Rattle.wc_validate.specs.Explain.{IsPlace};
+ghost use Rattle.wc_validate.specs.Private.ValidationInputs.{validation_input_of};
+ghost use Rattle.wc_validate.specs.Private.WorldInterfaces.{AreInterfacesThere};
+ghost use Rattle.wc_validate.specs.Refused.{IsRefusedAt};
 ghost use Rattle.wc_validate.specs.Validate.{HasNoCause, IsRecordOf, IsValidateCause, adapter_input_of, module_record};
 
 use crate::ValidateFault;
 use crate::name_scope::{FEW_LOOKUPS, Interfaces};
+use crate::refused::RefusedModule;
 use crate::requirements::RequiredExports;
-use crate::validate::{ValidatedModule, ValidationInput, interfaces_for, validate_bytes};
+use crate::validate::{
+    ValidatedModule, ValidationInput, interfaces_for, validate_bytes, without_place,
+};
 use std::alloc::{AllocError, Global};
 use std::marker::Model;
 use wc_encoder::{ComponentEncoder, LibraryInfo};
@@ -63,6 +70,27 @@ impl<'a> WorldInterfaces<'a> {
         })
     }
 
+    /// The input for an adapter or a library, among the interfaces.
+    fn validation_input<'b>(
+        &'b self,
+        library_info: Option<&'b LibraryInfo>,
+        required: RequiredExports<'b>,
+        places: bool,
+    ) -> ValidationInput<'b>
+        ensures input { validation_input_of result ≡ adapter_input_of self.now library_info.entry
+            required.entry.keys.now.keys required.entry.functions.now.entries }
+        ensures interfaces { AreInterfacesThere result.encoder.now result.interfaces }
+    {
+        ValidationInput {
+            encoder: self.encoder,
+            interfaces: self.interfaces.as_ref(),
+            library: library_info,
+            renames: None,
+            required,
+            places,
+        }
+    }
+
     /// Validates an adapter or a library for the encoder, as
     /// [`validate_adapter_module`](crate::validate_adapter_module) does.
     ///
@@ -90,13 +118,40 @@ impl<'a> WorldInterfaces<'a> {
             keys: exports,
             functions: required_by_import,
         };
-        let validation_input = ValidationInput {
-            encoder: self.encoder,
-            interfaces: self.interfaces.as_ref(),
-            library: library_info,
-            renames: None,
-            required,
+        let validation_input = self.validation_input(library_info, required, false);
+        without_place(validate_bytes(alloc, validation_input, bytes))
+    }
+
+    /// As [`WorldInterfaces::validate_adapter_module`]; but a module that is refused says what its fault is about, as
+    /// [`explain_adapter_module`](crate::explain_adapter_module) does.
+    ///
+    /// # Errors
+    ///
+    /// Those of [`validate_adapter_module`](crate::validate_adapter_module).
+    pub fn validate_adapter_module_explained<'b>(
+        &'b self,
+        alloc: Global,
+        bytes: &[u8],
+        required_by_import: &'b Map<String, FuncType>,
+        exports: &'b Set<WorldKey>,
+        library_info: Option<&'b LibraryInfo>,
+    ) -> Result<ValidatedModule, RefusedModule>
+        ensures recorded { IfOk result (λ v. IsRecordOf (adapter_input_of self.now
+            library_info.entry exports.now.keys required_by_import.now.entries)
+            bytes.now (module_record v)) }
+        ensures fault { IfErr result (λ x. IsValidateCause (adapter_input_of self.now
+            library_info.entry exports.now.keys required_by_import.now.entries) bytes.now x.fault) }
+        ensures place { IfErr result (IsRefusedAt (IsPlace (adapter_input_of self.now
+            library_info.entry exports.now.keys required_by_import.now.entries) bytes.now)) }
+        // Without a fault there is no cause.
+        ensures no_cause { OnOk result (HasNoCause (adapter_input_of self.now
+            library_info.entry exports.now.keys required_by_import.now.entries) bytes.now) }
+    {
+        let required = RequiredExports {
+            keys: exports,
+            functions: required_by_import,
         };
+        let validation_input = self.validation_input(library_info, required, true);
         validate_bytes(alloc, validation_input, bytes)
     }
 }

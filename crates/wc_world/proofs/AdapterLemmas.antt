@@ -1,9 +1,9 @@
 -- Adapters and libraries gone through, and those that are needed.
-use Rattle.std.proofs.Common.{◌≡◌, ◌≢◌, ◌⊎◌, ℕ, List, [], ◌∷◌, ◌++◌, Bool, true, false, cond, map, filter, All, String, string_bytes, string_eq, true≢false, refl, sym, ap, ◌∙◌, subst, append_assoc, append-nil, inl, inr}
+use Rattle.std.proofs.Common.{◌≡◌, ◌≢◌, ◌⊎◌, ℕ, List, [], ◌∷◌, ◌++◌, Bool, true, false, cond, map, filter, All, Option, Some, String, string_bytes, string_eq, true≢false, refl, sym, ap, ◌∙◌, subst, append_assoc, append-nil, inl, inr}
 use Rattle.std.specs.Prelude.{if◌then◌else◌}
 use Rattle.std.specs.Borrow.{Bor}
 use Rattle.std.specs.List.{AllByRecursion, AllZip, IsDistinct}
-use Rattle.std.specs.Map.{keys_of}
+use Rattle.std.specs.Map.{keys_of, lookup}
 use Rattle.std.specs.declared.alloc.Global.{Global}
 use Rattle.std.specs.Str.{bytes_eq}
 use Rattle.std.proofs.lemmas.List.{map-append}
@@ -14,21 +14,25 @@ use Rattle.wc_read.specs.Types.{FuncTypeValue}
 use Rattle.wc_resolve.specs.Kinds.{ResolveView}
 use Rattle.wc_resolve.proofs.KeyLemmas.{texts_law}
 use Rattle.wc_adapters.specs.declared.adapters.Adapter.{Adapter}
-use Rattle.wc_adapters.specs.Adapters.{adapter_entry as input_entry}
+use Rattle.wc_adapters.specs.Adapters.{AdapterView, adapter_entry as input_entry}
 use Rattle.wc_encoder.specs.EncoderParts.{EncoderView, world_exports}
 use Rattle.wc_adapters.specs.Entries.{Entries}
 use Rattle.wc_validate.specs.Imports.Map.{required_in}
-use Rattle.wc_validate.specs.Validate.{IsValidateCause, IsRecordOf, ModuleRecord, main_input}
-use Rattle.wc_validate.specs.declared.fault.ValidateFault.{ValidateFault}
+use Rattle.wc_validate.specs.Validate.{IsRecordOf, ModuleRecord, main_input}
+use Rattle.wc_validate.specs.declared.refused.RefusedModule.{RefusedModule}
 use Rattle.wc_world.specs.Trimming.{HasOtherName, NamedAdapter, is_adapter_needed, is_needed, needed_adapters}
-use Rattle.wc_world.specs.Causes.{IsComponentWorldCause, IsFaultOf, IsFirst, IsFirstFault, IsFirstStop, IsNeededStop, IsMemory, IsMemoryOf, IsReachedMemory, IsValidAdapter}
+use Rattle.wc_world.specs.Causes.{IsComponentWorldCause, IsFaultOf, IsFirst, IsFirstFault, IsFirstStop, IsMemory, IsMemoryOf, IsReachedMemory, IsValidAdapter}
+use Rattle.wc_world.specs.Private.Refused.{IsFirstRefusal, IsMainRefusal, IsModuleRefusal, IsNeededStopAt}
+use Rattle.wc_world.specs.Refused.{IsMemoryRefusal, IsRefusedAt}
 use Rattle.wc_world.specs.Views.{NamedWorldAdapter}
-use Rattle.wc_world.specs.World.{AreAdaptersAmong, IsAdapterOf}
+use Rattle.wc_world.specs.World.{AreAdaptersAmong, IsAdapterOf, IsMainRecord}
 use Rattle.wc_world.specs.WorldViews.{adapter_entry}
 use Rattle.wc_world.specs.declared.adapter.WorldAdapter.{WorldAdapter}
 use Rattle.wc_world.specs.declared.fault.WorldFault.{WorldFault}
 use Rattle.wc_world.specs.declared.fault.WorldFault.TheVariants.{Main, Memory}
+use Rattle.wc_world.specs.declared.refused.RefusedWorld.{RefusedWorld}
 use Rattle.wc_world.proofs.FaultLemmas.{refused_or_memory}
+use Rattle.wc_world.proofs.RefusedLemmas.{adapter_placed, memory_placed}
 
 zip_push : {A B : Type 0} (R : A → B → Type 0) (xs : List A) (ys : List B) (x : A) (y : B) → AllZip R xs ys → R x y → AllZip R (xs ++ x ∷ []) (ys ++ y ∷ [])
 zip_push R [] [] x y h r = (r, tt)
@@ -107,6 +111,17 @@ others_before (p ∷ front) rest x h = (
   others_before front rest x h.1,
 )
 
+-- the first of a name is the one that is found
+passed_over : (b : Bool) (a : AdapterView) (rest : Option AdapterView) → (b ≡ true → ⊥) → cond b (Some a) rest ≡ rest
+passed_over true a rest never = absurd (never refl)
+passed_over false a rest never = refl
+
+found_at : (name : List ℕ) (front back : List NamedAdapter) (a : AdapterView) → AllByRecursion (HasOtherName name) front → lookup (bytes_eq name) (front ++ (name, a) ∷ back) ≡ Some a
+found_at name [] back a others = ap (λ b. cond b (Some a) (lookup (bytes_eq name) back)) ((bytes_eq-Decides name name).1 refl)
+found_at name (p ∷ front) back a others =
+    passed_over (bytes_eq name p.0) p.1 (lookup (bytes_eq name) (front ++ (name, a) ∷ back)) (λ same. others.0 (sym ((bytes_eq-Decides name p.0).0 same)))
+    ∙ found_at name front back a others.1
+
 -- adapters that are gone through, and those that are left
 pub record AdaptersWalk (e : EncoderView) (main : ModuleRecord) (left : List RawInput) (ys : List NamedWorldAdapter) : Type 0 where
   pub front : List RawInput
@@ -140,9 +155,11 @@ module _ (e : EncoderView) (main : ModuleRecord) (left : List RawInput) where
   walk_end ys none w =
       subst (λ z. AreAdaptersAmong e main z ys) (ap (map input_entry) (sym (append-nil w.front) ∙ ap (λ z. w.front ++ z) (sym none)) ∙ w.split) w.is_adapter
 
-  pub walk_fault : (rest : List RawInput) (x : RawInput) (ys : List NamedWorldAdapter) (f : WorldFault) → left ≡ x ∷ rest → IsNeededStop e main (input_entry x) f → AdaptersWalk e main left ys → IsFirstStop e main f
-  walk_fault rest x ys f is h w =
+  pub walk_refusal : (rest : List RawInput) (x : RawInput) (ys : List NamedWorldAdapter) (r : RefusedWorld) → left ≡ x ∷ rest → IsNeededStopAt e main (input_entry x) r → AdaptersWalk e main left ys → IsFirstRefusal e main r
+  walk_refusal rest x ys r is h w =
       let cut : e.adapters ≡ map input_entry w.front ++ input_entry x ∷ map input_entry rest = sym w.split ∙ (ap (λ z. map input_entry (w.front ++ z)) is ∙ map-append input_entry w.front (x ∷ rest)) in
+      let others = others_before w.front rest x (subst (λ z. IsDistinct string_eq (keys_of (w.front ++ z))) is w.distinct) in
+      let there : lookup (bytes_eq (string_bytes x.0)) e.adapters ≡ Some (input_entry x).1 = ap (lookup (bytes_eq (string_bytes x.0))) cut ∙ found_at (string_bytes x.0) (map input_entry w.front) (map input_entry rest) (input_entry x).1 others in
       record {
         front = filter (is_adapter_needed e main) (map input_entry w.front);
         adapter = input_entry x;
@@ -150,7 +167,7 @@ module _ (e : EncoderView) (main : ModuleRecord) (left : List RawInput) where
         cut = ap (filter (is_adapter_needed e main)) cut
             ∙ kept_cut (is_adapter_needed e main) (map input_entry w.front) (input_entry x) (map input_entry rest) h.0;
         are_valid = All-from_recursion (IsValidAdapter e main) (filter (is_adapter_needed e main) (map input_entry w.front)) (all_valid e main (filter (is_adapter_needed e main) (map input_entry w.front)) ys w.is_adapter);
-        here = h.1;
+        here = ((there, h.0), h.1);
       }
 
 -- what is required of an adapter decides whether it is needed
@@ -177,20 +194,29 @@ first_cases e main xs P Q h =
       | inr q ↦ inr (record { front = h.front; adapter = h.adapter; back = h.back; cut = h.cut; are_valid = h.are_valid; here = q })
     ]
 
-pub first_or_memory : (e : EncoderView) (main : ModuleRecord) (f : WorldFault) → IsRecordOf (main_input e e.module_import_map) e.module_bytes main → (f ≡ Memory) ⊎ IsFirstStop e main f → IsMemory e f ⊎ IsComponentWorldCause e f
-first_or_memory e main f h (inl memory) = inl (subst (IsMemory e) (sym memory) tt)
-first_or_memory e main f h (inr stop) =
-    elim (first_cases e main (needed_adapters e main) (λ x. IsFaultOf e main x f) (λ x. IsMemoryOf e main x f) stop) [
-      | inl first ↦ inr (adapters_cause e main f h first)
-      | inr first ↦ inl (adapters_memory e main f h first)
+first_stop : (e : EncoderView) (main : ModuleRecord) (x : RefusedWorld) → IsFirstRefusal e main x → IsFirstStop e main x.fault
+first_stop e main x h = record { front = h.front; adapter = h.adapter; back = h.back; cut = h.cut; are_valid = h.are_valid; here = h.here.1.0 }
+
+pub first_or_memory : (e : EncoderView) (main : ModuleRecord) (x : RefusedWorld) → IsRecordOf (main_input e e.module_import_map) e.module_bytes main → IsMemoryRefusal x ⊎ IsFirstRefusal e main x
+    → IsMemory e x.fault ⊎ IsComponentWorldCause e x.fault
+first_or_memory e main x h (inl memory) = inl (subst (IsMemory e) (sym memory.0) tt)
+first_or_memory e main x h (inr first) =
+    elim (first_cases e main (needed_adapters e main) (λ a. IsFaultOf e main a x.fault) (λ a. IsMemoryOf e main a x.fault) (first_stop e main x first)) [
+      | inl first ↦ inr (adapters_cause e main x.fault h first)
+      | inr first ↦ inl (adapters_memory e main x.fault h first)
     ]
 
+-- and its place
+pub first_placed : (e : EncoderView) (main : ModuleRecord) (x : RefusedWorld) → IsMainRecord e main → IsMemoryRefusal x ⊎ IsFirstRefusal e main x → IsRefusedAt e x
+first_placed e main x h (inl memory) = memory_placed e x memory
+first_placed e main x h (inr first) = adapter_placed e main h first.adapter first.here.0 x.fault x.place first.here.1.0 first.here.1.1
+
 -- the main module is refused
-pub main_refused : (e : EncoderView) (f : ValidateFault) → IsValidateCause (main_input e e.module_import_map) e.module_bytes f → IsMemory e (Main f) ⊎ IsComponentWorldCause e (Main f)
-main_refused e f h = refused_or_memory (main_input e e.module_import_map) e.module_bytes f h
+pub main_refused : (e : EncoderView) (m : RefusedModule) (x : RefusedWorld) → IsModuleRefusal (main_input e e.module_import_map) e.module_bytes m → IsMainRefusal m x → IsMemory e x.fault ⊎ IsComponentWorldCause e x.fault
+main_refused e m x h is = subst (λ f. IsMemory e f ⊎ IsComponentWorldCause e f) (sym is.0) (refused_or_memory (main_input e e.module_import_map) e.module_bytes m.fault h.0)
 
 -- of an adapter that the walk has come to, under the name that was read
-pub first_by_walk : (e : EncoderView) (main : ModuleRecord) (left rest : List RawInput) (x : RawInput) (ys : List NamedWorldAdapter) (f : WorldFault) (name : List ℕ) → left ≡ x ∷ rest → name ≡ string_bytes x.0
-    → (f ≡ Memory) ⊎ IsNeededStop e main (name, (input_entry x).1) f → AdaptersWalk e main left ys → (f ≡ Memory) ⊎ IsFirstStop e main f
-first_by_walk e main left rest x ys f name is same (inl memory) w = inl memory
-first_by_walk e main left rest x ys f name is same (inr fault) w = inr (walk_fault e main left rest x ys f is (subst (λ n. IsNeededStop e main (n, (input_entry x).1) f) same fault) w)
+pub first_by_walk : (e : EncoderView) (main : ModuleRecord) (left rest : List RawInput) (x : RawInput) (ys : List NamedWorldAdapter) (r : RefusedWorld) (name : List ℕ) → left ≡ x ∷ rest → name ≡ string_bytes x.0
+    → IsMemoryRefusal r ⊎ IsNeededStopAt e main (name, (input_entry x).1) r → AdaptersWalk e main left ys → IsMemoryRefusal r ⊎ IsFirstRefusal e main r
+first_by_walk e main left rest x ys r name is same (inl memory) w = inl memory
+first_by_walk e main left rest x ys r name is same (inr stop) w = inr (walk_refusal e main left rest x ys r is (subst (λ n. IsNeededStopAt e main (n, (input_entry x).1) r) same stop) w)

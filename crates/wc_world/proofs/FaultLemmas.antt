@@ -1,8 +1,9 @@
 -- Faults of adapters, by what refused them.
-use Rattle.std.proofs.Common.{◌≡◌, ◌≢◌, ◌≤◌, ◌⊎◌, ℕ, min, arith, List, [], Option, Some, None, Result, Ok, Err, IfErr, IfOk, String, string_bytes, true, refl, sym, ap, ◌∙◌, subst, inl, inr}
+use Rattle.std.proofs.Common.{◌≡◌, ◌≢◌, ◌≤◌, ◌⊎◌, ℕ, min, arith, List, [], MatchOption, Option, Some, None, Result, Ok, Err, IfErr, IfOk, String, string_bytes, true, refl, sym, ap, ◌∙◌, subst, inl, inr}
 use Rattle.std.specs.Borrow.{Bor}
 use Rattle.std.specs.Option.{option_copied, option_map, option_map_or}
 use Rattle.std.specs.Result.{IsErrAnd}
+use Rattle.std.specs.declared.alloc.AllocError.{AllocError}
 use Rattle.std.specs.declared.alloc.Global.{Global}
 use Rattle.wc_read.specs.declared.types.MemoryType.{MemoryType}
 use Rattle.wc_read.specs.Limits.{page_size_log2_of}
@@ -13,36 +14,40 @@ use Rattle.wc_gc.specs.Parts.{SettingsView, settings}
 use Rattle.wc_gc.specs.TrimmedText.{IsTrimmed}
 use Rattle.wc_gc.specs.Trim.{IsTrimFault}
 use Rattle.wc_write.specs.Values.{AreBytes}
+use Rattle.wc_gc.specs.TrimPlace.{IsExplained as IsTrimExplained, IsPlace as IsPlaceOfTrim}
 use Rattle.wc_gc.specs.declared.fault.GcFault.{GcFault}
 use Rattle.wc_gc.specs.declared.fault.GcFault.TheVariants as trim
+use Rattle.wc_gc.specs.declared.trim_place.TrimPlace.{TrimPlace}
 use Rattle.wc_validate.specs.Imports.Map.{memory_in}
 use Rattle.wc_validate.specs.Explain.{IsExplained}
+use Rattle.wc_validate.specs.Refused.{HasNoPlace as HasNoPlaceInModule}
 use Rattle.wc_validate.specs.Validate.{IsValidateCause, IsRecordOf, ValidationInput, ModuleRecord, adapter_input}
 use Rattle.wc_validate.specs.declared.fault.ValidateFault.{ValidateFault}
 use Rattle.wc_validate.specs.declared.fault.ValidateFault.TheVariants as validate
 use Rattle.wc_validate.specs.declared.place.Place.{Place}
+use Rattle.wc_validate.specs.declared.refused.RefusedModule.{RefusedModule}
 use Rattle.wc_world.specs.Trimming.{validation_input_of, main_page_size, main_realloc, page_size, required_names, trim_page_size_log2}
-use Rattle.wc_world.specs.Causes.{IsMinimizedReached, IsNamed, IsRefused, IsTrimReached}
-use Rattle.wc_world.specs.Private.Adapters.{IsInputFault, IsInputTrimmedOrLibrary, IsInputRecord, IsInputTrimmedText, IsNeeded, main_of, named_adapter, required_of}
+use Rattle.wc_world.specs.Causes.{IsMinimizedReached, IsRefused, IsStopOf, IsTrimReached}
+use Rattle.wc_world.specs.Places.{IsInAdapter, IsMinimizedPlace, IsTrimPlace, IsTrimUnplaced, IsValidationPlace}
+use Rattle.wc_world.specs.Private.Adapters.{IsInputTrimmedOrLibrary, IsInputRecord, IsInputTrimmedText, IsNeeded, main_of, named_adapter, required_of}
 use Rattle.wc_world.specs.Private.Places.{input_of}
+use Rattle.wc_world.specs.Private.Refused.{IsInputRefusal, IsModuleRefusal, IsNamedRefusal, IsPlacedBy}
 use Rattle.wc_world.specs.Restricted.{RefusedAsCollision}
 use Rattle.wc_world.specs.Views.{WorldAdapterView}
 use Rattle.wc_world.specs.World.{IsTrimmedOrLibrary, settings_of, adapter_trim_input}
 use Rattle.wc_world.specs.declared.adapters.AdapterInput.{AdapterInput}
 use Rattle.wc_world.specs.declared.fault.WorldFault.{WorldFault}
-use Rattle.wc_world.specs.declared.fault.WorldFault.TheVariants.{Memory, Adapter, Trim, Minimized, PageSize}
+use Rattle.wc_world.specs.declared.fault.WorldFault.TheVariants.{Adapter, Trim, Minimized, PageSize}
+use Rattle.wc_world.specs.declared.places.ModulePlace.TheVariants as place
+use Rattle.wc_world.specs.declared.refused.RefusedWorld.{RefusedWorld}
 use Rattle.wc_world.proofs.NeededLemmas.{needed_some}
+use Rattle.wc_world.proofs.RefusedLemmas.{named_refusal, placed}
 use Rattle.wc_world.proofs.RestrictedLemmas.{trimmed_for}
 
 -- a fault that is passed on
 pub passed_on : {T E : Type 0} (P : E → Type 0) (r : Result T E) (f : E) → IsErrAnd r (λ e. e ≡ f) → P f → IfErr r P
 passed_on P (Ok x) f h p = tt
 passed_on P (Err e) f h p = subst P (sym h) p
-
--- a fault that carries another one
-pub named_fault : (make : String Global → WorldFault) (name : List ℕ) (P : WorldFault → Type 0) (f : WorldFault) → P Memory → ((s : String Global) → string_bytes s ≡ name → P (make s)) → IsNamed make name f → P f
-named_fault make name P f at_memory at_name (inl is) = subst P (sym is) at_memory
-named_fault make name P f at_memory at_name (inr (s, named, is)) = subst P (sym is) (at_name s named)
 
 pub refused_or_memory : (j : ValidationInput) (bytes : List ℕ) (f : ValidateFault) → IsValidateCause j bytes f → (f ≡ validate.Memory) ⊎ IsRefused j bytes f
 refused_or_memory j bytes validate.Memory h = inl refl
@@ -64,6 +69,11 @@ pub ok_mapped : {T E : Type 0} (P Q : T → Type 0) (r : Result T E) → ((v : T
 ok_mapped P Q (Ok v) f h = f v h
 ok_mapped P Q (Err e) f h = tt
 
+-- an adapter is refused with this fault
+stop_at : (g : AdapterInput) (f : WorldFault) (x : RefusedWorld) → x.fault ≡ f → IsStopOf g.encoder.now (main_of g) (named_adapter g) f → IsPlacedBy g.encoder.now (main_of g) (named_adapter g) f x.place → IsInputRefusal g x
+stop_at g f x is stop here =
+    inr (subst (IsStopOf g.encoder.now (main_of g) (named_adapter g)) (sym is) stop, subst (λ z. IsPlacedBy g.encoder.now (main_of g) (named_adapter g) z x.place) (sym is) here)
+
 -- what a module is validated for in an adapter's place
 module _ (g : AdapterInput) (needed : IsNeeded g) (library : Option LibraryView) (own : library ≡ (named_adapter g).1.library_info) where
   validation_input : ValidationInput
@@ -79,43 +89,48 @@ module _ (g : AdapterInput) (needed : IsNeeded g) (library : Option LibraryView)
   unfolding validation_input
   recorded_input bytes other r is h = subst (λ b. IsInputRecord g b r) is (subst (λ j. IsRecordOf j bytes r) own_input h)
 
-  refused_input : (bytes other : List ℕ) (f : ValidateFault) → bytes ≡ other → IsValidateCause (adapter_input g.encoder.now library (named_adapter g).1.required_exports (required_of g)) bytes f → (f ≡ validate.Memory) ⊎ IsRefused validation_input other f
-  refused_input bytes other f is h =
-      refused_or_memory validation_input other f (subst (λ b. IsValidateCause validation_input b f) is (subst (λ j. IsValidateCause j bytes f) own_input h))
+  refused_input : (bytes other : List ℕ) (m : RefusedModule) → bytes ≡ other → IsModuleRefusal (adapter_input g.encoder.now library (named_adapter g).1.required_exports (required_of g)) bytes m → IsModuleRefusal validation_input other m
+  refused_input bytes other m is h = subst (λ b. IsModuleRefusal validation_input b m) is (subst (λ j. IsModuleRefusal j bytes m) own_input h)
 
   pub explained_input : (bytes : List ℕ) (f : ValidateFault) (o : Option Place) → IsExplained (adapter_input g.encoder.now library (named_adapter g).1.required_exports (required_of g)) bytes f o → IsExplained (input_of g) bytes f o
   unfolding validation_input
   explained_input bytes f o h = subst (λ j. IsExplained j bytes f o) own_input h
 
   -- a module that is refused as the encoder has it, and one that is refused once it is trimmed
-  pub adapter_refused : (bytes : List ℕ) (v : ValidateFault) (f : WorldFault) → bytes ≡ g.adapter.now.wasm.items → IsValidateCause (adapter_input g.encoder.now library (named_adapter g).1.required_exports (required_of g)) bytes v
-      → IsNamed (λ s. Adapter s v) g.name.now f → IsInputFault g f
+  pub adapter_refused : (bytes : List ℕ) (m : RefusedModule) (x : RefusedWorld) → bytes ≡ g.adapter.now.wasm.items → IsModuleRefusal (adapter_input g.encoder.now library (named_adapter g).1.required_exports (required_of g)) bytes m
+      → IsNamedRefusal (λ s. Adapter s m.fault) place.Validation g.name.now m.place x → IsInputRefusal g x
   unfolding validation_input
-  adapter_refused bytes v f is h named =
-      named_fault (λ s. Adapter s v) g.name.now (IsInputFault g) f (inl refl)
-      (λ s same. elim (refused_input bytes g.adapter.now.wasm.items v is h) [ inl memory ↦ inr (inr (same, memory)) | inr refused ↦ inr (inl (same, refused)) ]) named
+  adapter_refused bytes m x is h named =
+      let at = refused_input bytes g.adapter.now.wasm.items m is h in
+      named_refusal (λ s. Adapter s m.fault) place.Validation g.name.now m.place (IsInputRefusal g) x (λ memory. inl memory)
+      (λ s same made found. stop_at g (Adapter s m.fault) x made
+      (elim (refused_or_memory validation_input g.adapter.now.wasm.items m.fault at.0) [ inl memory ↦ inr (same, memory) | inr refused ↦ inl (same, refused) ])
+      (placed (IsInAdapter g.name.now) place.Validation (HasNoPlaceInModule m.fault) _ (IsValidationPlace validation_input g.adapter.now.wasm.items m.fault) (λ p here. here) m.place x.place at.1 found)) named
 
-  pub minimized_refused : (bytes : List ℕ) (v : ValidateFault) (f : WorldFault) (first : ModuleRecord) → RefusedAsCollision g.encoder.now → IsInputTrimmedText g first bytes
-      → IsValidateCause (adapter_input g.encoder.now library (named_adapter g).1.required_exports (required_of g)) bytes v → IsNamed (λ s. Minimized s v) g.name.now f → IsInputFault g f
+  pub minimized_refused : (bytes : List ℕ) (m : RefusedModule) (x : RefusedWorld) (first : ModuleRecord) → RefusedAsCollision g.encoder.now → IsInputTrimmedText g first bytes
+      → IsModuleRefusal (adapter_input g.encoder.now library (named_adapter g).1.required_exports (required_of g)) bytes m → IsNamedRefusal (λ s. Minimized s m.fault) place.Validation g.name.now m.place x → IsInputRefusal g x
   unfolding validation_input
-  minimized_refused bytes v f first law trim h named =
+  minimized_refused bytes m x first law trim h named =
       let reached : IsMinimizedReached g.encoder.now (main_of g) (named_adapter g) = record {
         valid = record { first = first; trims = trim.no_library; original = trim.original };
         text = bytes;
         trimmed = trim.trimmed;
       } in
-      named_fault (λ s. Minimized s v) g.name.now (IsInputFault g) f (inl refl)
-      (λ s same. elim (refused_input bytes bytes v refl h) [
-        | inl memory ↦ inr (inr (same, memory, reached))
-        | inr refused ↦ inr (inl (
+      let at = refused_input bytes bytes m refl h in
+      named_refusal (λ s. Minimized s m.fault) place.Validation g.name.now m.place (IsInputRefusal g) x (λ memory. inl memory)
+      (λ s same made found. stop_at g (Minimized s m.fault) x made
+      (elim (refused_or_memory validation_input bytes m.fault at.0) [
+        | inl memory ↦ inr (same, memory, reached)
+        | inr refused ↦ inl (
           same,
           record {
             reached = reached;
             refused = refused;
-            collides = law validation_input (settings_of g.encoder.now (main_of g) first) (adapter_trim_input (main_of g) (named_adapter g) first) bytes first v trim refused.0 refused.1;
+            collides = law validation_input (settings_of g.encoder.now (main_of g) first) (adapter_trim_input (main_of g) (named_adapter g) first) bytes first m.fault trim refused.0 refused.1;
           },
-        ))
-      ]) named
+        )
+      ])
+      (placed (IsInAdapter g.name.now) place.Validation (HasNoPlaceInModule m.fault) _ (λ p. IsMinimizedPlace g.encoder.now m.fault p (main_of g) (named_adapter g)) (λ p here. (reached, here)) m.place x.place at.1 found)) named
 
 -- to what it is trimmed
 module _ (g : AdapterInput) (needed : IsNeeded g) (first : ModuleRecord) (realloc : Option (Bor (List ℕ))) (page_size_log2 : ℕ) (bytes : List ℕ) (names : List (String Global))
@@ -150,14 +165,24 @@ module _ (g : AdapterInput) (needed : IsNeeded g) (first : ModuleRecord) (reallo
   untrimmed_input : (f : GcFault) → IsTrimFault (settings realloc page_size_log2) (trim_input bytes names) f → IsTrimFault (settings_of g.encoder.now (main_of g) first) (adapter_trim_input (main_of g) (named_adapter g) first) f
   untrimmed_input f h = in_own_words (λ s w. IsTrimFault s w f) h
 
-  pub trim_refused : (v : GcFault) (f : WorldFault) → (named_adapter g).1.library_info ≡ None → IsInputRecord g g.adapter.now.wasm.items first → IsTrimFault (settings realloc page_size_log2) (trim_input bytes names) v → IsNamed (λ s. Trim s v) g.name.now f → IsInputFault g f
-  trim_refused v f none original h named =
+  -- what is said of where it stops
+  trim_found : (v : GcFault) (r : Result (Option TrimPlace) AllocError) (valid : IsTrimReached g.encoder.now (main_of g) (named_adapter g)) → valid.first ≡ first → IfOk r (IsTrimExplained (trim_input bytes names) v)
+      → IfOk r (λ o. MatchOption o (IsTrimUnplaced g.encoder.now v (main_of g) (named_adapter g)) (λ (p : TrimPlace). IsTrimPlace g.encoder.now v (place.Trim p) (main_of g) (named_adapter g)))
+  trim_found v (Err e) valid is h = tt
+  trim_found v (Ok None) valid is h = inr (valid, subst (λ w. (p : TrimPlace) → ¬ IsPlaceOfTrim w v p) (own_trim_input ∙ ap (adapter_trim_input (main_of g) (named_adapter g)) (sym is)) h)
+  trim_found v (Ok (Some p)) valid is h = (valid, subst (λ w. IsPlaceOfTrim w v p) (own_trim_input ∙ ap (adapter_trim_input (main_of g) (named_adapter g)) (sym is)) h)
+
+  pub trim_refused : (v : GcFault) (r : Result (Option TrimPlace) AllocError) (x : RefusedWorld) → (named_adapter g).1.library_info ≡ None → IsInputRecord g g.adapter.now.wasm.items first → IsTrimFault (settings realloc page_size_log2) (trim_input bytes names) v
+      → IfOk r (IsTrimExplained (trim_input bytes names) v) → IsNamedRefusal (λ s. Trim s v) place.Trim g.name.now r x → IsInputRefusal g x
+  trim_refused v r x none original h explained named =
       let valid : IsTrimReached g.encoder.now (main_of g) (named_adapter g) = record { first = first; trims = none; original = original } in
-      named_fault (λ s. Trim s v) g.name.now (IsInputFault g) f (inl refl)
-      (λ s same. elim (untrimmed_or_memory (settings_of g.encoder.now (main_of g) first) (adapter_trim_input (main_of g) (named_adapter g) first) v (untrimmed_input v h)) [
-        | inl memory ↦ inr (inr (same, memory, valid))
-        | inr stopped ↦ inr (inl (same, record { valid = valid; stopped = stopped.1; no_memory = stopped.0 }))
-      ]) named
+      named_refusal (λ s. Trim s v) place.Trim g.name.now r (IsInputRefusal g) x (λ memory. inl memory)
+      (λ s same made found. stop_at g (Trim s v) x made
+      (elim (untrimmed_or_memory (settings_of g.encoder.now (main_of g) first) (adapter_trim_input (main_of g) (named_adapter g) first) v (untrimmed_input v h)) [
+        | inl memory ↦ inr (same, memory, valid)
+        | inr stopped ↦ inl (same, record { valid = valid; stopped = stopped.1; no_memory = stopped.0 })
+      ])
+      (placed (IsInAdapter g.name.now) place.Trim (IsTrimUnplaced g.encoder.now v (main_of g) (named_adapter g)) _ (λ p. IsTrimPlace g.encoder.now v p (main_of g) (named_adapter g)) (λ p here. here) r x.place (trim_found v r valid refl explained) found)) named
 
   -- a name is required of it
   pub some_names : (named_adapter g).1.library_info ≡ None → IsInputRecord g g.adapter.now.wasm.items first → names ≢ []
@@ -166,10 +191,10 @@ module _ (g : AdapterInput) (needed : IsNeeded g) (first : ModuleRecord) (reallo
       (sym (is_names ∙ ap (λ r. required_names r first.exports) needed.required) ∙ ap names_of is)
 
 -- its pages are others
-pub page_fault : (g : AdapterInput) (info : ModuleRecord) (s : String Global) (memory : MemoryType) (own mains : ℕ) → string_bytes s ≡ g.name.now → memory_in info.imports ≡ Some memory → own ≡ page_size memory → mains ≡ main_page_size g.main.now.exports → own ≢ mains
-    → (a : WorldAdapterView) → a.info ≡ info → IsInputTrimmedOrLibrary g a → IsInputFault g (PageSize s own mains)
-page_fault g info s memory own mains named imported is_own is_main differ a is is_adapter =
-    inr (inl (named, record { adapter = a; memory = memory; is_adapter = is_adapter; imported = subst (λ (z : ModuleRecord). memory_in z.imports ≡ Some memory) (sym is) imported; is_own = is_own; is_main = is_main; differ = differ }))
+pub page_refusal : (g : AdapterInput) (info : ModuleRecord) (s : String Global) (memory : MemoryType) (own mains : ℕ) → string_bytes s ≡ g.name.now → memory_in info.imports ≡ Some memory → own ≡ page_size memory → mains ≡ main_page_size g.main.now.exports → own ≢ mains
+    → (a : WorldAdapterView) → a.info ≡ info → IsInputTrimmedOrLibrary g a → IsInputRefusal g (record { fault = PageSize s own mains; place = Ok None })
+page_refusal g info s memory own mains named imported is_own is_main differ a is is_adapter =
+    inr (inl (named, record { adapter = a; memory = memory; is_adapter = is_adapter; imported = subst (λ (z : ModuleRecord). memory_in z.imports ≡ Some memory) (sym is) imported; is_own = is_own; is_main = is_main; differ = differ }), tt)
 
 -- a library is what the encoder has
 pub borrowed_library : (g : AdapterInput) (library : LibraryInfo) (a : WorldAdapterView) → g.adapter.now.library_info ≡ Some library → a.wasm ≡ g.adapter.now.wasm.items → a.is_borrowed ≡ true → IsInputRecord g g.adapter.now.wasm.items a.info → IsInputTrimmedOrLibrary g a

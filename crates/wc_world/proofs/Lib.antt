@@ -16,6 +16,7 @@ pub mod PairListLemmas
 pub mod LoweringKeyLemmas
 pub mod ImportEntryLemmas
 pub mod NeededLemmas
+pub mod RefusedLemmas
 pub mod FaultLemmas
 pub mod AdapterLemmas
 pub mod PlaceLemmas

@@ -22,9 +22,10 @@ use Rattle.wc_validate.specs.declared.fault.ValidateFault.{ValidateFault}
 use Rattle.wc_validate.specs.declared.fault.ValidateFault.TheVariants as validate
 use Rattle.wc_validate.specs.declared.place.Place.{Place}
 use Rattle.wc_world.specs.Trimming.{NamedAdapter, is_adapter_needed, required_names}
-use Rattle.wc_world.specs.Places.{IsNeededUnder, IsNotTrimmed, IsValidationPlace, IsWorldExplained}
+use Rattle.wc_world.specs.Places.{IsNeededUnder, IsNotTrimmed, IsTrimUnreached, IsValidationPlace, IsWorldExplained}
 use Rattle.wc_world.specs.Private.Adapters.{IsInputFault, IsInputRecord, IsInputTrimmedText, IsNeeded, main_of, named_adapter, required_of}
-use Rattle.wc_world.specs.Private.Places.{IsInputMinimized, IsMinimizedAnswer, IsNamedAnswer, IsTrimAnswer, IsTrimRefusal, IsValidationAnswer, input_of}
+use Rattle.wc_world.specs.Private.Places.{IsInputMinimized, IsMinimizedAnswer, IsNamedAnswer, IsRefusal, IsTrimAnswer, IsTrimRefusal, IsValidationAnswer, input_of}
+use Rattle.wc_world.specs.Private.Refused.{IsInputRefusal}
 use Rattle.wc_world.specs.World.{adapter_trim_input}
 use Rattle.wc_world.specs.declared.adapters.AdapterInput.{AdapterInput}
 use Rattle.wc_world.specs.declared.fault.WorldFault.{WorldFault}
@@ -34,6 +35,8 @@ use Rattle.wc_world.specs.declared.places.AdapterFault.TheVariants as stage
 use Rattle.wc_world.specs.declared.places.ModulePlace.{ModulePlace}
 use Rattle.wc_world.specs.declared.places.ModulePlace.TheVariants as place
 use Rattle.wc_world.specs.declared.places.WorldPlace.{WorldPlace}
+use Rattle.wc_world.specs.declared.refused.RefusedWorld.{RefusedWorld}
+use Rattle.wc_world.proofs.RefusedLemmas.{input_fault}
 
 -- a place in it
 pub main_answer : (e : EncoderView) (f : ValidateFault) (renames : Option (List RenameView)) (bytes : List ℕ) (o : Option Place) → renames ≡ e.module_import_map → bytes ≡ e.module_bytes
@@ -50,16 +53,33 @@ pub no_library : (o : Option LibraryInfo) → is_some o ≡ false → o ≡ None
 no_library None is = refl
 no_library (Some l) is = absurd (let bad : ⊥ = cc is in bad)
 
+-- it is refused as the encoder has it
+not_valid_fault : (g : AdapterInput) (f : WorldFault) → IsInputFault g f → IsRefusal f → IsTrimUnreached g.encoder.now (main_of g) (named_adapter g)
+not_valid_fault g f (inl is) refusal = absurd (subst IsRefusal is refusal)
+not_valid_fault g (Adapter name v) (inr (inl h)) refusal = inr (v, h.1)
+not_valid_fault g (Adapter name v) (inr (inr h)) refusal = absurd (refusal h.1)
+not_valid_fault g Memory (inr h) refusal = absurd refusal
+not_valid_fault g (Main v) (inr h) refusal = absurd refusal
+not_valid_fault g (Trim name v) (inr h) refusal = absurd refusal
+not_valid_fault g (Minimized name v) (inr h) refusal = absurd refusal
+not_valid_fault g (PageSize name own mains) (inr h) refusal = absurd refusal
+
+pub not_valid : (g : AdapterInput) (x : RefusedWorld) → IsInputRefusal g x → IsRefusal x.fault → IsTrimUnreached g.encoder.now (main_of g) (named_adapter g)
+not_valid g x h refusal = not_valid_fault g x.fault (input_fault g x h) refusal
+
 -- it can't be trimmed
-pub not_trimmed : (g : AdapterInput) (f : WorldFault) → IsInputFault g f → IsTrimRefusal f → IsNotTrimmed g.encoder.now (main_of g) (named_adapter g)
-not_trimmed g f (inl is) refusal = absurd (subst IsTrimRefusal is refusal)
-not_trimmed g (Trim name v) (inr (inl h)) refusal = inr (v, h.1)
-not_trimmed g (Trim name v) (inr (inr h)) refusal = absurd (refusal h.1)
-not_trimmed g Memory (inr h) refusal = absurd refusal
-not_trimmed g (Main v) (inr h) refusal = absurd refusal
-not_trimmed g (Adapter name v) (inr h) refusal = absurd refusal
-not_trimmed g (Minimized name v) (inr h) refusal = absurd refusal
-not_trimmed g (PageSize name own mains) (inr h) refusal = absurd refusal
+not_trimmed_fault : (g : AdapterInput) (f : WorldFault) → IsInputFault g f → IsTrimRefusal f → IsNotTrimmed g.encoder.now (main_of g) (named_adapter g)
+not_trimmed_fault g f (inl is) refusal = absurd (subst IsTrimRefusal is refusal)
+not_trimmed_fault g (Trim name v) (inr (inl h)) refusal = inr (v, h.1)
+not_trimmed_fault g (Trim name v) (inr (inr h)) refusal = absurd (refusal h.1)
+not_trimmed_fault g Memory (inr h) refusal = absurd refusal
+not_trimmed_fault g (Main v) (inr h) refusal = absurd refusal
+not_trimmed_fault g (Adapter name v) (inr h) refusal = absurd refusal
+not_trimmed_fault g (Minimized name v) (inr h) refusal = absurd refusal
+not_trimmed_fault g (PageSize name own mains) (inr h) refusal = absurd refusal
+
+pub not_trimmed : (g : AdapterInput) (x : RefusedWorld) → IsInputRefusal g x → IsTrimRefusal x.fault → IsNotTrimmed g.encoder.now (main_of g) (named_adapter g)
+not_trimmed g x h refusal = not_trimmed_fault g x.fault (input_fault g x h) refusal
 
 -- it is trimmed
 pub minimized_input : (g : AdapterInput) (first : ModuleRecord) (text : List ℕ) → IsInputTrimmedText g first text → IsInputMinimized g text

@@ -1,7 +1,6 @@
 -- Why a component has no world, in the order of the steps: the main module; then the adapters in order, each before it
 -- is trimmed, as it is trimmed, after that, and by its pages. And at which of these steps an allocation failed.
-use Rattle.std.specs.Prelude.{◌≡◌, ◌≢◌, ◌⊎◌, ℕ, List, ◌∷◌, ◌++◌, All, Some, None, true, String, string_bytes}
-use Rattle.std.specs.declared.alloc.Global.{Global}
+use Rattle.std.specs.Prelude.{◌≡◌, ◌≢◌, ◌⊎◌, ℕ, List, ◌∷◌, ◌++◌, All, Some, None, string_bytes}
 use Rattle.wc_read.specs.declared.types.MemoryType.{MemoryType}
 use Rattle.wc_encoder.specs.EncoderParts.{EncoderView}
 use Rattle.wc_gc.specs.TrimmedText.{IsTrimmed}
@@ -12,16 +11,12 @@ use Rattle.wc_validate.specs.Imports.Map.{memory_in}
 use Rattle.wc_validate.specs.Validate.{IsValidateCause, IsRecordOf, ValidationInput, ModuleRecord, main_input}
 use Rattle.wc_validate.specs.declared.fault.ValidateFault.{ValidateFault}
 use Rattle.wc_validate.specs.declared.fault.ValidateFault.TheVariants.{Memory as module_memory}
-use Rattle.wc_world.specs.Trimming.{NamedAdapter, is_adapter_needed, validation_input_of, needed_adapters, main_page_size, page_size}
+use Rattle.wc_world.specs.Trimming.{NamedAdapter, validation_input_of, needed_adapters, main_page_size, page_size}
 use Rattle.wc_world.specs.Restricted.{IsCollision}
 use Rattle.wc_world.specs.Views.{NamedWorldAdapter, WorldAdapterView}
 use Rattle.wc_world.specs.World.{IsAdapterOf, IsTrimmedOrLibrary, settings_of, adapter_trim_input}
 use Rattle.wc_world.specs.declared.fault.WorldFault.{WorldFault}
 use Rattle.wc_world.specs.declared.fault.WorldFault.TheVariants.{Memory, Main, Adapter, Trim, Minimized, PageSize}
-
--- a fault is made of a name; or else an allocation failed
-abbrev pub IsNamed : (String Global → WorldFault) → List ℕ → WorldFault → Type 0
-IsNamed make name f = (f ≡ Memory) ⊎ ((s : String Global) × (string_bytes s ≡ name) × (f ≡ make s))
 
 -- a module is refused by a fault other than Memory
 abbrev pub IsRefused : ValidationInput → List ℕ → ValidateFault → Type 0
@@ -82,10 +77,6 @@ IsMemoryOf e main x (PageSize name own mains) = ⊥
 -- the cause of a fault of one adapter, or an allocation failed at a step of it
 abbrev pub IsStopOf : EncoderView → ModuleRecord → NamedAdapter → WorldFault → Type 0
 IsStopOf e main x f = IsFaultOf e main x f ⊎ IsMemoryOf e main x f
-
--- the cause of a fault of an adapter that is needed, or an allocation failed at a step of it
-abbrev pub IsNeededStop : EncoderView → ModuleRecord → NamedAdapter → WorldFault → Type 0
-IsNeededStop e main x f = (is_adapter_needed e main x ≡ true) × IsStopOf e main x f
 
 -- nothing is wrong with an adapter
 abbrev pub IsValidAdapter : EncoderView → ModuleRecord → NamedAdapter → Type 0

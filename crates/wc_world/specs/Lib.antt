@@ -9,6 +9,7 @@ pub mod Live
 pub mod World
 pub mod Causes
 pub mod Places
+pub mod Refused
 pub mod Required
 pub mod Restricted
 pub mod FunctionsLowered

@@ -4,17 +4,18 @@ ghost use Rattle.std.specs.Prelude.{◌≡◌, ◌⊎◌, IfErr, IfOk, None, OnO
 ghost use Rattle.wc_adapters.specs.Adapters.{adapter_view as input_view};
 ghost use Rattle.wc_gc.specs.LiveItems.{names_of};
 ghost use Rattle.wc_validate.specs.Imports.Map.{required_in};
-ghost use Rattle.wc_validate.specs.Validate.{IsRecordOf, IsValidateCause, ModuleRecord, module_record};
+ghost use Rattle.wc_validate.specs.Validate.{IsRecordOf, ModuleRecord, module_record};
 ghost use Rattle.wc_world.specs.Trimming.{is_adapter_needed, required_names};
-ghost use Rattle.wc_world.specs.Causes.{IsFirstStop, IsNamed, IsNeededStop};
-ghost use Rattle.wc_world.specs.Private.Adapters.{IsAdapterOfInput, IsInputFault, IsInputRecord, IsInputTrimmedOrLibrary, IsInputTrimmedText, IsNeeded, IsTrimmedInput, main_of, named_adapter, required_of, validated_as};
-ghost use Rattle.wc_world.specs.declared.fault.WorldFault.TheVariants.{Memory};
+ghost use Rattle.wc_world.specs.Private.Adapters.{IsAdapterOfInput, IsInputRecord, IsInputTrimmedOrLibrary, IsInputTrimmedText, IsNeeded, IsTrimmedInput, main_of, named_adapter, required_of, validated_as};
+ghost use Rattle.wc_world.specs.Private.Refused.{IsFirstRefusal, IsInputRefusal, IsModuleRefusal, IsNeededStopAt};
+ghost use Rattle.wc_world.specs.Refused.{IsMemoryRefusal};
 ghost use Rattle.wc_world.specs.Views.{WorldAdapterView};
 ghost use Rattle.wc_world.specs.World.{AddsAdapterOnOk, AreAdapters, HasMainPages};
 ghost use Rattle.wc_world.specs.WorldViews.{adapter_view, adapters_view};
 
 use crate::adapter::WorldAdapter;
 use crate::fault::WorldFault;
+use crate::refused::{RefusedWorld, adapter_refusal, minimized_refusal, trim_refusal};
 use crate::restricted::trimmed_is_restricted;
 use crate::trimming::{
     is_needed, main_page_size, main_realloc, page_size, required_names, trim_page_size_log2,
@@ -22,10 +23,10 @@ use crate::trimming::{
 use std::alloc::Global;
 use std::borrow::CowSlice;
 use wc_encoder::{Adapter, ComponentEncoder, LibraryInfo};
-use wc_gc::{GcFault, run};
+use wc_gc::{explain, run};
 use wc_maps::{Map, Set};
 use wc_read::FuncType;
-use wc_validate::{ValidateFault, ValidatedModule, WorldInterfaces};
+use wc_validate::{RefusedModule, ValidatedModule, WorldInterfaces};
 use wc_write::laws::slices_are_bytes;
 
 /// An encoder, the interfaces of its world, and the imports and exports of its main module.
@@ -48,69 +49,40 @@ pub(crate) struct AdapterInput<'a, 'b> {
     pub(crate) adapter: &'a Adapter,
 }
 
-/// The fault for the adapter or the library of a name that is not valid.
-fn adapter_fault(alloc: Global, name: &str, fault: ValidateFault) -> WorldFault
-    ensures { IsNamed (λ s. WorldFault.Adapter s fault) name.now result }
-{
-    match String::from_str(alloc, name) {
-        Ok(name) => WorldFault::Adapter(name, fault),
-        Err(_) => WorldFault::Memory,
-    }
-}
-
-/// The fault for the adapter of a name that can't be trimmed.
-fn trim_fault(alloc: Global, name: &str, fault: GcFault) -> WorldFault
-    ensures { IsNamed (λ s. WorldFault.Trim s fault) name.now result }
-{
-    match String::from_str(alloc, name) {
-        Ok(name) => WorldFault::Trim(name, fault),
-        Err(_) => WorldFault::Memory,
-    }
-}
-
-/// The fault for the adapter of a name that is not valid once it is trimmed.
-fn minimized_fault(alloc: Global, name: &str, fault: ValidateFault) -> WorldFault
-    ensures { IsNamed (λ s. WorldFault.Minimized s fault) name.now result }
-{
-    match String::from_str(alloc, name) {
-        Ok(name) => WorldFault::Minimized(name, fault),
-        Err(_) => WorldFault::Memory,
-    }
-}
-
 /// The imports and exports of bytes, validated as an adapter, or as a library that is instantiated so.
 fn validated(
     alloc: Global,
     input: &AdapterInput<'_, '_>,
     bytes: &[u8],
     library: Option<&LibraryInfo>,
-) -> Result<ValidatedModule, ValidateFault>
+) -> Result<ValidatedModule, RefusedModule>
     requires { input.now.interfaces.now ≡ input.now.encoder.now }
     ensures recorded { IfOk result (λ v. IsRecordOf (validated_as input.now library.entry)
         bytes.now (module_record v)) }
-    ensures fault { IfErr result (IsValidateCause (validated_as input.now library.entry)
+    ensures refusal { IfErr result (IsModuleRefusal (validated_as input.now library.entry)
         bytes.now) }
 {
     let exports = &input.adapter.required_exports;
+    let required = input.required;
     input
         .interfaces
-        .validate_adapter_module(alloc, bytes, input.required, exports, library)
+        .validate_adapter_module_explained(alloc, bytes, required, exports, library)
 }
 
 /// The imports and exports of an adapter or a library, as the encoder has it.
 pub(crate) fn input_record(
     alloc: Global,
     input: &AdapterInput<'_, '_>,
-) -> Result<ValidatedModule, WorldFault>
+) -> Result<ValidatedModule, RefusedWorld>
     requires { IsNeeded input.now }
     ensures recorded { IfOk result (λ v. IsInputRecord input.now
         input.now.adapter.now.wasm.items (module_record v)) }
-    ensures fault { IfErr result (IsInputFault input.now) }
+    ensures refusal { IfErr result (IsInputRefusal input.now) }
 {
     let adapter = input.adapter;
     match validated(alloc, input, &adapter.wasm, adapter.library_info.as_ref()) {
         Ok(record) => Ok(record),
-        Err(fault) => Err(adapter_fault(alloc, input.name, fault)),
+        Err(refused) => Err(adapter_refusal(alloc, input.name, refused)),
     }
 }
 
@@ -120,7 +92,7 @@ fn trim_to(
     input: &AdapterInput<'_, '_>,
     first: &ValidatedModule,
     names: &Set<String>,
-) -> Result<Vec<u8>, WorldFault>
+) -> Result<Vec<u8>, RefusedWorld>
     requires needed { IsNeeded input.now }
     requires trims { input.now.adapter.now.library_info ≡ None }
     requires original { IsInputRecord input.now input.now.adapter.now.wasm.items
@@ -129,7 +101,7 @@ fn trim_to(
         ≡ required_names (required_of input.now) first.now.exports }
     ensures trimmed { IfOk result
         (λ v. IsInputTrimmedText input.now (module_record first.now) v.items) }
-    ensures fault { IfErr result (IsInputFault input.now) }
+    ensures refusal { IfErr result (IsInputRefusal input.now) }
 {
     let realloc = main_realloc(input.encoder, input.main);
     let page_size_log2 = trim_page_size_log2(first.imports.imported_memory());
@@ -137,7 +109,10 @@ fn trim_to(
     slices_are_bytes(wasm);
     match run(alloc, wasm, names, realloc, page_size_log2) {
         Ok(bytes) => Ok(bytes),
-        Err(fault) => Err(trim_fault(alloc, input.name, fault)),
+        Err(fault) => {
+            let place = explain(alloc, wasm, names, &fault);
+            Err(trim_refusal(alloc, input.name, fault, place))
+        }
     }
 }
 
@@ -146,14 +121,14 @@ pub(crate) fn trimmed_bytes(
     alloc: Global,
     input: &AdapterInput<'_, '_>,
     first: &ValidatedModule,
-) -> Result<Vec<u8>, WorldFault>
+) -> Result<Vec<u8>, RefusedWorld>
     requires needed { IsNeeded input.now }
     requires trims { input.now.adapter.now.library_info ≡ None }
     requires original { IsInputRecord input.now input.now.adapter.now.wasm.items
         (module_record first.now) }
     ensures trimmed { IfOk result
         (λ v. IsInputTrimmedText input.now (module_record first.now) v.items) }
-    ensures fault { IfErr result (IsInputFault input.now) }
+    ensures refusal { IfErr result (IsInputRefusal input.now) }
 {
     let names = required_names(alloc, input.required, &first.exports)?;
     trim_to(alloc, input, first, &names)
@@ -164,17 +139,17 @@ fn trimmed_record(
     alloc: Global,
     input: &AdapterInput<'_, '_>,
     bytes: &[u8],
-) -> Result<ValidatedModule, WorldFault>
+) -> Result<ValidatedModule, RefusedWorld>
     requires needed { IsNeeded input.now }
     requires trims { input.now.adapter.now.library_info ≡ None }
     ensures recorded { IfOk result (λ v. IsInputRecord input.now bytes.now (module_record v)) }
-    ensures fault { (first : ModuleRecord) → IsInputTrimmedText input.now first bytes.now
-        → IfErr result (IsInputFault input.now) }
+    ensures refusal { (first : ModuleRecord) → IsInputTrimmedText input.now first bytes.now
+        → IfErr result (IsInputRefusal input.now) }
 {
     trimmed_is_restricted(input.encoder);
     match validated(alloc, input, bytes, None) {
         Ok(record) => Ok(record),
-        Err(fault) => Err(minimized_fault(alloc, input.name, fault)),
+        Err(refused) => Err(minimized_refusal(alloc, input.name, refused)),
     }
 }
 
@@ -183,14 +158,14 @@ fn trim_adapter<'a>(
     alloc: Global,
     input: &AdapterInput<'a, '_>,
     first: &ValidatedModule,
-) -> Result<WorldAdapter<'a>, WorldFault>
+) -> Result<WorldAdapter<'a>, RefusedWorld>
     requires needed { IsNeeded input.now }
     requires trims { input.now.adapter.now.library_info ≡ None }
     requires original { IsInputRecord input.now input.now.adapter.now.wasm.items
         (module_record first.now) }
     ensures is_adapter { IfOk result (λ a. IsTrimmedInput input.now (adapter_view a)) }
     ensures library { IfOk result (λ a. a.library_info ≡ None) }
-    ensures fault { IfErr result (IsInputFault input.now) }
+    ensures refusal { IfErr result (IsInputRefusal input.now) }
 {
     trimmed_is_restricted(input.encoder);
     let bytes = trimmed_bytes(alloc, input, first)?;
@@ -206,12 +181,12 @@ fn trim_adapter<'a>(
 fn trimmed_or_library<'a>(
     alloc: Global,
     input: &AdapterInput<'a, '_>,
-) -> Result<WorldAdapter<'a>, WorldFault>
+) -> Result<WorldAdapter<'a>, RefusedWorld>
     requires { IsNeeded input.now }
     ensures is_adapter { IfOk result (λ a. IsInputTrimmedOrLibrary input.now (adapter_view a)) }
     ensures library { IfOk result (λ a. (adapter_view a).library_info
         ≡ (named_adapter input.now).1.library_info) }
-    ensures fault { IfErr result (IsInputFault input.now) }
+    ensures refusal { IfErr result (IsInputRefusal input.now) }
 {
     let first = input_record(alloc, input)?;
     match &input.adapter.library_info {
@@ -229,10 +204,10 @@ fn check_pages(
     alloc: Global,
     input: &AdapterInput<'_, '_>,
     info: &ValidatedModule,
-) -> Result<(), WorldFault>
+) -> Result<(), RefusedWorld>
     ensures paged { OnOk result (HasMainPages (main_of input.now) (module_record info.now)) }
-    ensures fault { (a : WorldAdapterView) → a.info ≡ module_record info.now
-        → IsInputTrimmedOrLibrary input.now a → IfErr result (IsInputFault input.now) }
+    ensures refusal { (a : WorldAdapterView) → a.info ≡ module_record info.now
+        → IsInputTrimmedOrLibrary input.now a → IfErr result (IsInputRefusal input.now) }
 {
     let Some(memory) = info.imports.imported_memory() else {
         return Ok(());
@@ -242,17 +217,20 @@ fn check_pages(
     if own == main {
         return Ok(());
     }
-    Err(WorldFault::PageSize(String::from_str(alloc, input.name)?, own, main))
+    Err(RefusedWorld {
+        fault: WorldFault::PageSize(String::from_str(alloc, input.name)?, own, main),
+        place: Ok(None),
+    })
 }
 
 /// An adapter or a library as a component has it.
 fn one_adapter<'a>(
     alloc: Global,
     input: &AdapterInput<'a, '_>,
-) -> Result<WorldAdapter<'a>, WorldFault>
+) -> Result<WorldAdapter<'a>, RefusedWorld>
     requires { IsNeeded input.now }
     ensures is_adapter { IfOk result (λ a. IsAdapterOfInput input.now (adapter_view a)) }
-    ensures fault { IfErr result (IsInputFault input.now) }
+    ensures refusal { IfErr result (IsInputRefusal input.now) }
 {
     let adapter = trimmed_or_library(alloc, input)?;
     check_pages(alloc, input, &adapter.info)?;
@@ -279,14 +257,14 @@ fn add_input<'a>(
     alloc: Global,
     input: &AdapterInput<'a, '_>,
     found: &mut Map<&'a str, WorldAdapter<'a>>,
-) -> Result<(), WorldFault>
+) -> Result<(), RefusedWorld>
     requires required { required_of input.now
         ≡ required_in input.now.main.now.imports input.now.name.now }
     requires same { input.now.interfaces.now ≡ input.now.encoder.now }
     ensures is_adapter { AddsAdapterOnOk result input.now.encoder.now (main_of input.now)
         (named_adapter input.now) (adapters_view found.old) (adapters_view found.new) }
-    ensures fault { IfErr result (λ f. (f ≡ Memory) ⊎ IsNeededStop input.now.encoder.now
-        (main_of input.now) (named_adapter input.now) f) }
+    ensures refusal { IfErr result (λ x. IsMemoryRefusal x ⊎ IsNeededStopAt
+        input.now.encoder.now (main_of input.now) (named_adapter input.now) x) }
 {
     if !is_input_needed(input) {
         return Ok(());
@@ -303,13 +281,14 @@ fn add_adapter<'a>(
     name: &'a str,
     adapter: &'a Adapter,
     found: &mut Map<&'a str, WorldAdapter<'a>>,
-) -> Result<(), WorldFault>
+) -> Result<(), RefusedWorld>
     requires { context.interfaces.now ≡ context.encoder.now }
     ensures is_adapter { let c = context.entry in AddsAdapterOnOk result c.encoder.now
         (module_record c.main.now) (name.now, input_view adapter.now)
         (adapters_view found.old) (adapters_view found.new) }
-    ensures fault { let c = context.entry in IfErr result (λ f. (f ≡ Memory) ⊎ IsNeededStop
-        c.encoder.now (module_record c.main.now) (name.now, input_view adapter.now) f) }
+    ensures refusal { let c = context.entry in IfErr result (λ x. IsMemoryRefusal x
+        ⊎ IsNeededStopAt c.encoder.now (module_record c.main.now)
+        (name.now, input_view adapter.now) x) }
 {
     let main = context.main;
     let required = main.imports.required_from_adapter(alloc, name)?;
@@ -328,12 +307,12 @@ fn add_adapter<'a>(
 fn adapters_by<'a>(
     alloc: Global,
     context: MainContext<'a, '_>,
-) -> Result<Map<&'a str, WorldAdapter<'a>>, WorldFault>
+) -> Result<Map<&'a str, WorldAdapter<'a>>, RefusedWorld>
     requires { context.interfaces.now ≡ context.encoder.now }
     ensures is_adapter { let c = context.entry in IfOk result
         (λ found. AreAdapters c.encoder.now (module_record c.main.now) (adapters_view found)) }
-    ensures fault { let c = context.entry in IfErr result
-        (λ f. (f ≡ Memory) ⊎ IsFirstStop c.encoder.now (module_record c.main.now) f) }
+    ensures refusal { let c = context.entry in IfErr result (λ x. IsMemoryRefusal x
+        ⊎ IsFirstRefusal c.encoder.now (module_record c.main.now) x) }
 {
     let adapters = context.encoder.adapters();
     let mut found = Map::with_hasher(alloc, *adapters.hasher());
@@ -348,11 +327,11 @@ pub(crate) fn adapters_of<'a>(
     alloc: Global,
     encoder: &'a ComponentEncoder,
     main: &ValidatedModule,
-) -> Result<Map<&'a str, WorldAdapter<'a>>, WorldFault>
+) -> Result<Map<&'a str, WorldAdapter<'a>>, RefusedWorld>
     ensures is_adapter { IfOk result (λ found. AreAdapters encoder.now (module_record main.now)
         (adapters_view found)) }
-    ensures fault { IfErr result (λ f. (f ≡ Memory)
-        ⊎ IsFirstStop encoder.now (module_record main.now) f) }
+    ensures refusal { IfErr result (λ x. IsMemoryRefusal x
+        ⊎ IsFirstRefusal encoder.now (module_record main.now) x) }
 {
     let interfaces = WorldInterfaces::new(alloc, encoder, encoder.adapters().len())?;
     let context = MainContext {

@@ -122,8 +122,8 @@ fn first_found(
     }
     match input_record(alloc, input) {
         Ok(first) => Ok(Some(first)),
-        Err(fault) => {
-            if is_refusal(&fault) {
+        Err(refused) => {
+            if is_refusal(&refused.fault) {
                 Ok(None)
             } else {
                 Err(AllocError)
@@ -146,8 +146,8 @@ fn trimmed_by(
 {
     match trimmed_bytes(alloc, input, first) {
         Ok(bytes) => Ok(Some(bytes)),
-        Err(fault) => {
-            if is_trim_refusal(&fault) {
+        Err(refused) => {
+            if is_trim_refusal(&refused.fault) {
                 Ok(None)
             } else {
                 Err(AllocError)
@@ -168,11 +168,21 @@ fn trimmed_found(alloc: Global, input: &AdapterInput<'_, '_>) -> Result<Option<V
 }
 
 /// A place of validation.
-fn in_module(place: Option<Place>) -> Option<ModulePlace>
+pub(crate) fn in_module(place: Option<Place>) -> Option<ModulePlace>
     ensures { result ≡ option_map ModulePlace.Validation place }
 {
     match place {
         Some(place) => Some(ModulePlace::Validation(place)),
+        None => None,
+    }
+}
+
+/// A place of trimming.
+pub(crate) fn in_part(place: Option<TrimPlace>) -> Option<ModulePlace>
+    ensures { result ≡ option_map ModulePlace.Trim place }
+{
+    match place {
+        Some(place) => Some(ModulePlace::Trim(place)),
         None => None,
     }
 }
@@ -387,7 +397,7 @@ fn adapter_place(
 }
 
 /// A place in the adapter or the library of a name.
-fn in_adapter(
+pub(crate) fn in_adapter(
     alloc: Global,
     name: &str,
     place: Option<ModulePlace>,
@@ -434,7 +444,8 @@ fn explain_main(
 }
 
 /// The place of a fault that [`ComponentWorld::new`](crate::ComponentWorld::new) answered for the same encoder; its
-/// options decide no fault. The steps for the module that the fault names are repeated:
+/// options decide no fault. [`ComponentWorld::new_explained`](crate::ComponentWorld::new_explained) answers both at once;
+/// here the steps for the module that the fault names are repeated:
 ///
 /// - `Main`: the main module is validated (`wc_validate::explain_module`).
 /// - `Adapter`: the adapter, or the library, of the name is validated, as the encoder has it

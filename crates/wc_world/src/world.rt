@@ -8,6 +8,7 @@ ghost use Rattle.wc_validate.specs.Validate.{module_record};
 ghost use Rattle.wc_world.specs.Causes.{HasNoCause, IsComponentWorldCause, IsMemory};
 ghost use Rattle.wc_world.specs.Live.{AreLive};
 ghost use Rattle.wc_world.specs.Lowering.{lowered};
+ghost use Rattle.wc_world.specs.Refused.{IsRefusedAt};
 ghost use Rattle.wc_world.specs.Slots.{IsSlot1Used, module_uses_slot_1, uses_slot_1};
 ghost use Rattle.wc_world.specs.Used.{AreUsed, used_view};
 ghost use Rattle.wc_world.specs.World.{AreAdapters, IsMainRecord, IsWorldOf};
@@ -21,6 +22,7 @@ use crate::imported::ImportedInterface;
 use crate::laws::worlds_exclude_faults;
 use crate::live::live_type_imports;
 use crate::options::ImportOptions;
+use crate::refused::{RefusedWorld, main_refusal};
 use crate::used::exports_used;
 use std::alloc::{AllocError, Global};
 use wc_encoder::ComponentEncoder;
@@ -28,7 +30,7 @@ use wc_maps::{Map, Set};
 use wc_names::Import;
 use wc_resolve::{InterfaceId, TypeId};
 use wc_validate::laws::records_in_range;
-use wc_validate::{ImportMap, ValidatedModule, validate_module};
+use wc_validate::{ImportMap, ValidatedModule, validate_module_explained};
 
 /// What a component encoder has to know of modules before it encodes them: what the main module and the adapters
 /// import and export, how their imports are met, and which types they need.
@@ -87,19 +89,17 @@ fn adapter_uses_slot_1<'a>(adapters: &Map<&'a str, WorldAdapter<'a>>) -> bool
 }
 
 /// What the main module of an encoder imports and exports.
-fn main_record(alloc: Global, encoder: &ComponentEncoder) -> Result<ValidatedModule, WorldFault>
+fn main_record(alloc: Global, encoder: &ComponentEncoder) -> Result<ValidatedModule, RefusedWorld>
     ensures recorded { IfOk result (λ v. IsMainRecord encoder.now (module_record v)) }
     ensures fault { IfErr result
-        (λ f. IsMemory encoder.now f ⊎ IsComponentWorldCause encoder.now f) }
+        (λ x. IsMemory encoder.now x.fault ⊎ IsComponentWorldCause encoder.now x.fault) }
+    ensures place { IfErr result (IsRefusedAt encoder.now) }
 {
-    match validate_module(
-        alloc,
-        encoder,
-        encoder.module(),
-        encoder.module_import_map(),
-    ) {
+    let bytes = encoder.module();
+    let import_map = encoder.module_import_map();
+    match validate_module_explained(alloc, encoder, bytes, import_map) {
         Ok(info) => Ok(info),
-        Err(fault) => Err(WorldFault::Main(fault)),
+        Err(refused) => Err(main_refusal(refused)),
     }
 }
 
@@ -198,6 +198,31 @@ impl<'a> ComponentWorld<'a> {
             IsWorldOf (O.options_of options.now) encoder.now (world_view w)) }
         ensures fault { IfErr result
             (λ f. IsMemory encoder.now f ⊎ IsComponentWorldCause encoder.now f) }
+        // Without a fault there is no cause.
+        ensures no_cause { OnOk result (HasNoCause encoder.now) }
+    {
+        match ComponentWorld::new_explained(alloc, encoder, options) {
+            Ok(world) => Ok(world),
+            Err(refused) => Err(refused.fault),
+        }
+    }
+
+    /// As [`ComponentWorld::new`]; but a call that fails says what its fault is about, as [`explain`](crate::explain)
+    /// does. No module is validated again for it.
+    ///
+    /// # Errors
+    ///
+    /// As those of `new`. Where there is no memory for the place of a fault, it comes without one.
+    pub fn new_explained<O: ImportOptions>(
+        alloc: Global,
+        encoder: &'a ComponentEncoder,
+        options: &O,
+    ) -> Result<ComponentWorld<'a>, RefusedWorld>
+        ensures world { IfOk result (λ w.
+            IsWorldOf (O.options_of options.now) encoder.now (world_view w)) }
+        ensures fault { IfErr result
+            (λ x. IsMemory encoder.now x.fault ⊎ IsComponentWorldCause encoder.now x.fault) }
+        ensures place { IfErr result (IsRefusedAt encoder.now) }
         // Without a fault there is no cause.
         ensures no_cause { OnOk result (HasNoCause encoder.now) }
     {

@@ -1,6 +1,6 @@
 //! Places of faults of modules.
 
-use std::alloc::Global;
+use std::alloc::{AllocError, Global};
 use wc_dedupe::ModuleImportMap;
 use wc_encoder::{Adapter, ComponentEncoder};
 use wc_lines::lines::Lines;
@@ -8,9 +8,35 @@ use wc_lines::values::put_place;
 use wc_maps::Map;
 use wc_read::FuncType;
 use wc_validate::{
-    ValidateFault, ValidatedModule, WorldInterfaces, explain_adapter_module, explain_module,
-    validate_adapter_module, validate_module,
+    Place, RefusedModule, ValidateFault, ValidatedModule, WorldInterfaces, explain_adapter_module,
+    explain_module, validate_adapter_module, validate_adapter_module_explained, validate_module,
+    validate_module_explained,
 };
+
+/// The lines of a fault, and of what it is about.
+fn fault_lines(
+    alloc: Global,
+    fault: &ValidateFault,
+    place: Result<Option<Place>, AllocError>,
+) -> Lines {
+    let mut lines = Lines::new(alloc);
+    writeln!(lines, "fault {fault}");
+    put_place(&mut lines, place);
+    lines
+}
+
+/// The lines of a module that is refused.
+fn refused_lines(alloc: Global, refused: RefusedModule) -> Lines {
+    let RefusedModule { fault, place } = refused;
+    fault_lines(alloc, &fault, place)
+}
+
+/// Appends lines, unless they are as those that another call answered.
+fn put_unlike(out: &mut Lines, lines: &Lines, others: &Lines) {
+    if lines.text() != others.text() {
+        out.push_lines(lines);
+    }
+}
 
 /// A module, as an encoder's main one, and the names that its imports had.
 #[derive(Clone, Copy)]
@@ -27,19 +53,25 @@ impl MainModule<'_> {
         validate_module(alloc, self.encoder, self.bytes, self.renames)
     }
 
-    /// Puts a fault, and the place that `explain_module` answers of it.
-    fn put_explained(&self, alloc: Global, fault: &ValidateFault, out: &mut Lines) {
-        writeln!(out, "fault {fault}");
+    /// The lines of this fault, and of the place that `explain_module` answers of it.
+    fn explained(&self, alloc: Global, fault: &ValidateFault) -> Lines {
         let place = explain_module(alloc, self.encoder, self.bytes, self.renames, fault);
-        put_place(out, place);
+        fault_lines(alloc, fault, place)
     }
 }
 
-/// Why a module is refused as an encoder's main one, and what that is about.
+/// Why a module is refused as an encoder's main one, and what that is about, as two calls answer it; once, where they agree.
 pub(crate) fn explain_main(alloc: Global, checked: &MainModule<'_>, out: &mut Lines) {
-    match checked.validated(alloc) {
+    let encoder = checked.encoder;
+    encoder.well_formedness();
+    match validate_module_explained(alloc, encoder, checked.bytes, checked.renames) {
         Ok(_) => out.push_str("ok\n"),
-        Err(fault) => checked.put_explained(alloc, &fault, out),
+        Err(refused) => {
+            let explained = checked.explained(alloc, &refused.fault);
+            let lines = refused_lines(alloc, refused);
+            out.push_lines(&lines);
+            put_unlike(out, &explained, &lines);
+        }
     }
 }
 
@@ -83,9 +115,34 @@ impl AdapterModule<'_> {
         )
     }
 
-    /// Puts a fault, and the place that `explain_adapter_module` answers of it.
-    fn put_explained(&self, alloc: Global, fault: &ValidateFault, out: &mut Lines) {
-        writeln!(out, "fault {fault}");
+    /// The record of the module, or why it is refused, and what that is about.
+    fn validated_explained(&self, alloc: Global) -> Result<ValidatedModule, RefusedModule> {
+        self.encoder.well_formedness();
+        validate_adapter_module_explained(
+            alloc,
+            self.encoder,
+            self.bytes,
+            self.required,
+            &self.adapter.required_exports,
+            self.adapter.library_info.as_ref(),
+        )
+    }
+
+    /// The same, by interfaces that are made for one module; `None` where there is no memory for them.
+    fn explained_among(&self, alloc: Global) -> Option<Result<ValidatedModule, RefusedModule>> {
+        self.encoder.well_formedness();
+        let interfaces = WorldInterfaces::new(alloc, self.encoder, 1).ok()?;
+        Some(interfaces.validate_adapter_module_explained(
+            alloc,
+            self.bytes,
+            self.required,
+            &self.adapter.required_exports,
+            self.adapter.library_info.as_ref(),
+        ))
+    }
+
+    /// The lines of this fault, and of the place that `explain_adapter_module` answers of it.
+    fn explained(&self, alloc: Global, fault: &ValidateFault) -> Lines {
         let place = explain_adapter_module(
             alloc,
             self.encoder,
@@ -95,14 +152,30 @@ impl AdapterModule<'_> {
             self.adapter.library_info.as_ref(),
             fault,
         );
-        put_place(out, place);
+        fault_lines(alloc, fault, place)
     }
 }
 
-/// Why a module is refused as one of an encoder's adapters, and what that is about.
+/// Appends what a module is refused for among interfaces, unless that is as another call answered it.
+fn put_among(alloc: Global, checked: &AdapterModule<'_>, others: &Lines, out: &mut Lines) {
+    match checked.explained_among(alloc) {
+        None => out.lack_memory(),
+        Some(Ok(_)) => out.push_str("ok\n"),
+        Some(Err(refused)) => put_unlike(out, &refused_lines(alloc, refused), others),
+    }
+}
+
+/// Why a module is refused as one of an encoder's adapters, and what that is about, as three calls answer it; once, where
+/// they agree.
 pub(crate) fn explain_adapter(alloc: Global, checked: &AdapterModule<'_>, out: &mut Lines) {
-    match checked.validated(alloc) {
+    match checked.validated_explained(alloc) {
         Ok(_) => out.push_str("ok\n"),
-        Err(fault) => checked.put_explained(alloc, &fault, out),
+        Err(refused) => {
+            let explained = checked.explained(alloc, &refused.fault);
+            let lines = refused_lines(alloc, refused);
+            out.push_lines(&lines);
+            put_unlike(out, &explained, &lines);
+            put_among(alloc, checked, &lines, out);
+        }
     }
 }

@@ -80,18 +80,9 @@ IsExportsFault e keys xs f = ⊥
 abbrev pub IsExportRecorded : NameScope → List KeyView → CoreExport → ExportRecord → ExportRecord → Type 0
 IsExportRecorded e keys x old new = (o : Option ExportView) × IsExportEntry e keys x o × (new ≡ old ++ entry_of x.name o)
 
--- why an export was not recorded after others
-abbrev pub IsExportFault : NameScope → List KeyView → CoreExport → ValidateFault → Type 0
-IsExportFault e keys x fault.Memory = Unit {0}
-IsExportFault e keys x fault.SignatureMismatch = IsMismatched e keys x
-IsExportFault e keys x f = ⊥
-
--- an export was recorded by a context, or why that export was not
+-- an export was recorded by a context
 abbrev pub IsRecordedBy : ExportContext → CoreExport → ExportRecord → ExportRecord → Type 0
 IsRecordedBy c x old new = IsExportRecorded (name_scope_of c.names) c.standard.keys x old new
-
-abbrev pub IsRefusedBy : ExportContext → CoreExport → ValidateFault → Type 0
-IsRefusedBy c x f = IsExportFault (name_scope_of c.names) c.standard.keys x f
 
 -- all exports were recorded by a context, or why they were not all
 abbrev pub AreRecordedBy : ExportContext → List CoreExport → ExportRecord → Type 0

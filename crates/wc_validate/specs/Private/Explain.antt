@@ -1,5 +1,5 @@
 -- Where validation stops, as the code has it.
-use Rattle.std.specs.Prelude.{◌≡◌, ◌≢◌, ℕ, List, [], ◌∷◌, ◌++◌, map, Contains, IsTrue, MatchOption, Option, Some, None, IfOk, OnOk, Result, String, string_bytes}
+use Rattle.std.specs.Prelude.{◌≡◌, ◌≢◌, ◌≤◌, ◌⊎◌, ℕ, List, [], map, Contains, IsTrue, MatchOption, Option, Some, None, IfErr, IfOk, IsSomeAnd, OnOk, Result, Err, String, string_bytes, Bool, true, false}
 use Rattle.std.specs.Borrow.{Bor}
 use Rattle.std.specs.Option.{option_map}
 use Rattle.std.specs.declared.alloc.Global.{Global}
@@ -25,16 +25,18 @@ use Rattle.wc_names.specs.Imports.{NameScope, func_type}
 use Rattle.wc_names.specs.Views.{ImportView, adapter_export}
 use Rattle.wc_validate.specs.declared.explain.keys.LackingKey.{LackingKey}
 use Rattle.wc_validate.specs.declared.explain.functions.LackingFunction.{LackingFunction}
-use Rattle.wc_validate.specs.declared.explain.missing.RecordedModule.{RecordedModule}
-use Rattle.wc_validate.specs.declared.explain.refused.Refused.{Refused}
-use Rattle.wc_validate.specs.declared.explain.refused.RefusedExport.{RefusedExport}
+use Rattle.wc_validate.specs.declared.requirements.RecordedModule.{RecordedModule}
+use Rattle.wc_validate.specs.declared.refused.Refused.{Refused}
+use Rattle.wc_validate.specs.declared.refused.RefusedExport.{RefusedExport}
+use Rattle.wc_validate.specs.declared.refused.RefusedModule.{RefusedModule}
+use Rattle.wc_validate.specs.declared.externs.Extern.{Extern}
 use Rattle.wc_validate.specs.declared.name_fault.NameFault.{NameFault}
 use Rattle.wc_validate.specs.declared.name_fault.NameFault.TheVariants as naming
 use Rattle.wc_validate.specs.declared.place.TypeDifference.{TypeDifference}
 use Rattle.wc_validate.specs.declared.exports.classify.ExportContext.{ExportContext}
 use Rattle.wc_validate.specs.declared.fault.AdapterModuleDidNotExport.{AdapterModuleDidNotExport as NotExported}
 use Rattle.wc_validate.specs.declared.fault.ValidateFault.{ValidateFault}
-use Rattle.wc_validate.specs.declared.fault.ValidateFault.TheVariants.{AdapterExportType, AdapterModuleDidNotExport, AdapterTypesDiffer, Memory, MissingCallback, MissingInterfaceExport, MissingWorldExport, SeveralMemoryExports, SignatureMismatch, TypedReference}
+use Rattle.wc_validate.specs.declared.fault.ValidateFault.TheVariants.{AdapterModuleDidNotExport, AdapterTypesDiffer, Memory, MissingCallback, NotAModule, Read, SeveralMemoryExports, SignatureMismatch}
 use Rattle.wc_validate.specs.declared.imports.record.ImportContext.{ImportContext}
 use Rattle.wc_validate.specs.declared.name_scope.Names.{Names}
 use Rattle.wc_validate.specs.declared.place.Place.{Place}
@@ -42,18 +44,22 @@ use Rattle.wc_validate.specs.declared.place.Subject.{Subject}
 use Rattle.wc_validate.specs.declared.requirements.RequiredExports.{RequiredExports}
 use Rattle.wc_validate.specs.Imports.Map.{required_entry}
 use Rattle.wc_validate.specs.Exports.Map.{ExportRecord, export_entry}
-use Rattle.wc_validate.specs.Exports.Record.{AreRecordedBy, exports_in}
+use Rattle.wc_validate.specs.Exports.Contexts.{MeansExportBy}
+use Rattle.wc_validate.specs.Exports.Record.{AreRecordedBy, IsExportsFault, exports_in}
 use Rattle.wc_validate.specs.Imports.Entries.{Entry, Records, single}
 use Rattle.wc_validate.specs.Imports.Record.{AreEntries, ImportScope, IsEntry}
 use Rattle.wc_validate.specs.NameScope.{name_scope_of}
-use Rattle.wc_validate.specs.Explain.{AreTypesOfImport, IsTypedAt, difference_view, IsExportPlace, IsFirstFailing, IsFirstLacking, IsFirstMismatched, IsFirstRefused, IsFirstUnexported, IsFunctionLack, IsFunctionPlace, IsImportPlace, IsKeyPlace, IsLack, IsMissingPlace, IsModulePlace, IsNoPlace, IsOtherMismatch, IsOtherRefused, IsSecondMemory, an_export, missing_export, place_view, subject_view}
-use Rattle.wc_validate.specs.Requirements.{AreMet, IsFirstUnmet, IsMet, IsShortfall, Requirement, callback_name, callbacks, function_names, functions_of, is_called_back, key_requirement, key_requirements, one_memory, type_requirement}
+use Rattle.wc_validate.specs.Explain.{AreTypesOfImport, IsTypedAt, difference_view, IsCallbackPlace, IsExplained, IsExportPlace, IsFirstFailing, IsFirstLacking, IsFirstMismatched, IsFirstRefused, IsFirstUnexported, IsFunctionLack, IsFunctionPlace, IsImportPlace, IsKeyPlace, IsLack, IsMemoryPlace, IsMissingPlace, IsModulePlace, IsPlace, IsSecondMemory, IsUnplaced, PlaceView, an_export, missing_export, place_view, subject_view}
+use Rattle.wc_validate.specs.Refused.{IsMemoryRefusal, IsPlaceOrNone, IsRefusedAt}
+use Rattle.wc_validate.specs.Requirements.{AreMet, IsMet, IsUnmetFault, Requirement, callback_name, function_names, functions_of, is_called_back, key_requirement, memory_count, type_requirement}
 use Rattle.wc_validate.specs.Private.ExportedFunctions.{AreNamesOf, HasFunctionsOf, IsExportIndexOf}
-use Rattle.wc_validate.specs.Private.Requirements.{required_of}
+use Rattle.wc_validate.specs.Private.Exports.Classify.{IsTypedExport}
+use Rattle.wc_validate.specs.Private.Externs.{extern_view}
+use Rattle.wc_validate.specs.Private.Requirements.{requirements_of_functions, requirements_of_keys}
 use Rattle.wc_validate.specs.Texts.{name_not_exported}
 use Rattle.wc_validate.specs.declared.imports.recorder.Recorder.{Recorder}
 use Rattle.wc_validate.specs.Private.Imports.Contexts.{AreRecordedIn, HasLibrary, import_scope}
-use Rattle.wc_validate.specs.Validate.{ValidationInput, IsRecordOfImports}
+use Rattle.wc_validate.specs.Validate.{ValidationInput, IsRecordOfImports, IsValidateCause}
 
 -- why validation stops at the import at an index; and the same by a context, by whichever library the module is
 abbrev pub IsStopAt : ImportScope → List ImportValue → ℕ → ValidateFault → Type 0
@@ -63,12 +69,10 @@ IsStopAt s imports index f = (i : ImportValue) × (before : List Entry) × IsFir
 abbrev pub IsStopIn : ImportContext → List Import → Refused → Type 0
 IsStopIn c is x = (library : Option LibraryView) → HasLibrary c library → IsStopAt (import_scope c library) (import_values is) x.index x.fault
 
--- the place that is answered is that import; nothing is answered only where it has another fault
-abbrev pub IsImportExplained : ImportContext → List Import → ValidateFault → Option Place → Type 0
-IsImportExplained c is f answer =
-    (library : Option LibraryView) → HasLibrary c library
-    → MatchOption answer (IsOtherRefused (import_scope c library) (import_values is) f)
-    (λ (p : Place). IsImportPlace (import_scope c library) (import_values is) f (place_view p))
+-- what is answered of a fault is the first import that is refused; nothing only where an allocation failed
+abbrev pub IsStopPlaced : ImportContext → List Import → ValidateFault → Option Place → Type 0
+IsStopPlaced c is f answer =
+    (library : Option LibraryView) → HasLibrary c library → IsPlaceOrNone (IsImportPlace (import_scope c library) (import_values is)) f answer
 
 -- the types of an import that is refused for its type; of the import of a function of an adapter, and that function; and of
 -- the import after these that is refused with a fault
@@ -116,16 +120,27 @@ IsExportStopAt e keys m es index f = ⊥
 abbrev pub IsExportStopIn : ExportContext → Module → List ModuleExport → RefusedExport → Type 0
 IsExportStopIn c m es x = IsExportStopAt (name_scope_of c.names) c.standard.keys (module_value m) (map export_value es) x.index x.fault
 
--- the place that is answered is that export; nothing only where the fault is another; by whatever the exports were recorded
-abbrev pub IsMismatchExplained : {F : Type 0} → Module → List ModuleExport → RefusedExport → ValidateFault → Result (Option Place) F → Type 0
-IsMismatchExplained m es refused f result =
-    (e : NameScope) (keys : List KeyView) → IsExportStopAt e keys (module_value m) (map export_value es) refused.index refused.fault
-    → IfOk result (λ answer. MatchOption answer (IsOtherMismatch e keys (module_value m) (map export_value es) f)
-    (λ (p : Place). IsExportPlace e keys (module_value m) (map export_value es) f (place_view p)))
+-- why an export is refused
+abbrev pub IsRefusedExport : ExportContext → List ℕ → Extern → NameFault → Type 0
+IsRefusedExport c name ty f = IsTypedExport (MeansExportBy c name) (extern_view ty) (Err f)
 
--- what is answered of a fault of a module, or of its exports, is its place; nothing only where it has none
-abbrev pub IsModuleExplained : ValidationInput → ModuleValue → ValidateFault → Option Place → Type 0
-IsModuleExplained j m f answer = MatchOption answer (IsNoPlace j m f) (λ (p : Place). IsModulePlace j m f (place_view p))
+-- an export that is refused for its type, as a place; by whatever the exports were recorded
+abbrev pub IsMismatchPlaced : {F : Type 0} → Module → List ModuleExport → ℕ → FuncType → Result (Option Place) F → Type 0
+IsMismatchPlaced m es index wanted result =
+    (e : NameScope) (keys : List KeyView) → IsExportStopAt e keys (module_value m) (map export_value es) index (naming.SignatureMismatch wanted)
+    → IfOk result (IsPlaceOrNone (IsExportPlace e keys (module_value m) (map export_value es)) SignatureMismatch)
+
+-- a module is refused for an export
+abbrev pub AreExportsRefusedAt : Module → List ModuleExport → RefusedExport → RefusedModule → Type 0
+AreExportsRefusedAt m es refused x =
+    (e : NameScope) (keys : List KeyView) → IsExportStopAt e keys (module_value m) (map export_value es) refused.index refused.fault
+    → IsExportsFault e keys (exports_in m es) x.fault × IsRefusedAt (IsExportPlace e keys (module_value m) (map export_value es)) x
+
+-- a module is refused for the first of its exports that is refused by a context
+abbrev pub IsRefusedForExport : ExportContext → Module → RefusedModule → Type 0
+IsRefusedForExport c m x =
+    IsExportsFault (name_scope_of c.names) c.standard.keys (exports_in m m.exports.items) x.fault
+    × IsRefusedAt (IsExportPlace (name_scope_of c.names) c.standard.keys (module_value m) (map export_value m.exports.items)) x
 
 -- the imports of a module are recorded
 abbrev pub HasRecordedImports : ValidationInput → ModuleValue → Type 0
@@ -162,22 +177,19 @@ abbrev pub IsLackNamed : ResolveView → List (Option InterfaceId × String Glob
 IsLackNamed r functions exports key answer =
     (need : Requirement) → key_requirement (map world_entry exports) (key_view key) ≡ Some need → IsLackOf r functions (key_view key) need answer
 
--- what is missing for the key that is refused, as the place of a fault; nothing only where the fault is another, whatever is
--- required besides
-abbrev pub IsKeyExplained : {F : Type 0} → Names → List (Option InterfaceId × String Global) → LackingKey → ValidateFault → Result (Option Place) F → Type 0
-IsKeyExplained n functions x f result =
+-- what is missing for the key that is refused, as a place; nothing only where an allocation failed
+abbrev pub IsKeyPlaced : {F : Type 0} → Names → List (Option InterfaceId × String Global) → LackingKey → Result (Option Place) F → Type 0
+IsKeyPlaced n functions x result =
     (xs : List CoreExport) (recorded : ExportRecord) (keys : List KeyView) → AreNamesOf functions recorded
     → IsLackAt n.resolve.now xs recorded (map world_entry n.world.now.exports.entries) keys (key_view x.key.now) x.fault
-    → IfOk result (λ answer. MatchOption answer
-    ((rest : List Requirement)
-    → ¬ IsFirstUnmet n.resolve.now xs recorded (key_requirements (map world_entry n.world.now.exports.entries) keys ++ rest) f)
-    (λ (p : Place). IsKeyPlace n.resolve.now xs recorded (map world_entry n.world.now.exports.entries) keys f (place_view p)))
+    → IfOk result (IsPlaceOrNone (IsKeyPlace n.resolve.now xs recorded (map world_entry n.world.now.exports.entries) keys) x.fault)
 
--- the faults of a key
-abbrev pub IsOfKey : ValidateFault → Type 0
-IsOfKey MissingInterfaceExport = Unit {0}
-IsOfKey MissingWorldExport = Unit {0}
-IsOfKey f = ⊥
+-- a module is refused for the keys of an export set, where the functions that are recorded are those of names
+abbrev pub RefusesKeys : {T : Type 0} → Names → List (Option InterfaceId × String Global) → List WorldKey → Result T RefusedModule → Type 0
+RefusesKeys n functions keys result =
+    (xs : List CoreExport) (recorded : ExportRecord) → AreNamesOf functions recorded
+    → IfErr result (λ (x : RefusedModule). IsUnmetFault n.resolve.now xs recorded (requirements_of_keys n.world.now.exports.entries keys) x.fault
+    × IsRefusedAt (IsKeyPlace n.resolve.now xs recorded (map world_entry n.world.now.exports.entries) (map key_view keys)) x)
 
 -- the first recorded export whose callback is missing, by its name
 abbrev pub IsUncalled : List (String Global × Export) → Bor (List ℕ) → Type 0
@@ -189,13 +201,27 @@ IsUncalled recorded name =
 abbrev pub IsSecondNamed : List (String Global × Export) → Bor (List ℕ) → Type 0
 IsSecondNamed recorded name = (x : List ℕ × ExportView) × (x.0 ≡ name.now) × IsSecondMemory (map export_entry recorded) x
 
-abbrev pub IsMemoryExplained : List ℕ → ValidateFault → Option Place → Type 0
-IsMemoryExplained name f answer =
-    MatchOption answer (f ≢ SeveralMemoryExports) (λ (p : Place). (f ≡ SeveralMemoryExports) × ((place_view p).subject ≡ an_export name) × ((place_view p).types ≡ None))
+-- a memory, and the callback of an export, as places
+abbrev pub IsMemoryPlaced : List ℕ → Option Place → Type 0
+IsMemoryPlaced name answer = IsSomeAnd answer (λ (p : Place). ((place_view p).subject ≡ an_export name) × ((place_view p).types ≡ None))
 
-abbrev pub IsCallbackExplained : List ℕ → ValidateFault → Option Place → Type 0
-IsCallbackExplained name f answer =
-    MatchOption answer (f ≢ MissingCallback) (λ (p : Place). (f ≡ MissingCallback) × ((place_view p).subject ≡ missing_export (callback_name name)) × ((place_view p).types ≡ None))
+abbrev pub IsCallbackPlaced : List ℕ → Option Place → Type 0
+IsCallbackPlaced name answer =
+    IsSomeAnd answer (λ (p : Place). ((place_view p).subject ≡ missing_export (callback_name name)) × ((place_view p).types ≡ None))
+
+-- a module is refused for its second memory; and for an export whose callback is missing
+abbrev pub IsRefusedForMemories : List (String Global × Export) → RefusedModule → Type 0
+IsRefusedForMemories recorded x =
+    (x.fault ≡ SeveralMemoryExports) × ((y : List ℕ × ExportView) × IsSecondMemory (map export_entry recorded) y)
+    × IsRefusedAt (IsMemoryPlace (map export_entry recorded)) x
+
+abbrev pub IsRefusedForCallbacks : List (String Global × Export) → RefusedModule → Type 0
+IsRefusedForCallbacks recorded x =
+    IsMemoryRefusal x
+    ⊎ ((x.fault ≡ MissingCallback)
+    × ((y : List ℕ × ExportView)
+    × IsFirstFailing (λ (z : List ℕ × ExportView). IsTrue (is_called_back (map export_entry recorded) z)) (map export_entry recorded) y)
+    × (memory_count (map export_entry recorded) ≤ 1 → IsRefusedAt (IsCallbackPlace (map export_entry recorded)) x))
 
 -- why a required function is refused that is the first which is not met by exports whose functions are those of an index
 abbrev pub IsFunctionLackAt : ResolveView → List CoreExport → ExportRecord → List (List ℕ × FuncTypeValue) → List ℕ × FuncTypeValue → ValidateFault → Type 0
@@ -206,24 +232,51 @@ IsFunctionLackAt r xs recorded functions required f = IsFirstUnexported r xs rec
 abbrev pub IsNotExported : ValidateFault → List ℕ → Type 0
 IsNotExported f name = (e : NotExported) × (f ≡ AdapterModuleDidNotExport e) × (name_not_exported e ≡ name)
 
--- of a required function a fault does not say what another one says
-abbrev pub IsSaidApart : ValidateFault → ValidateFault → Type 0
-IsSaidApart AdapterExportType g = g ≢ AdapterExportType
-IsSaidApart TypedReference g = g ≢ TypedReference
-IsSaidApart (AdapterModuleDidNotExport e) g = ¬ IsNotExported g (name_not_exported e)
-IsSaidApart f g = Unit {0}
+-- a fault says of an import or an export what another one says; or says something else
+abbrev pub IsSameFault : ValidateFault → ValidateFault → Type 0
+IsSameFault (AdapterModuleDidNotExport e) f = IsNotExported f (name_not_exported e)
+IsSameFault g f = f ≡ g
 
--- all that a fault says of what is missing, another one says too
-abbrev pub IsSaidAs : ValidateFault → ValidateFault → Type 0
-IsSaidAs f g = (xs : List CoreExport) (need : Requirement) → IsShortfall xs need f → IsShortfall xs need g
+abbrev pub IsOtherFault : ValidateFault → ValidateFault → Type 0
+IsOtherFault Memory f = Unit {0}
+IsOtherFault (Read e) f = Unit {0}
+IsOtherFault NotAModule f = Unit {0}
+IsOtherFault (AdapterModuleDidNotExport e) f = ¬ IsNotExported f (name_not_exported e)
+IsOtherFault g f = f ≢ g
 
--- a required function that is refused, as the place of a fault; nothing only where the fault is another
-abbrev pub IsFunctionExplained : {F : Type 0} → List (Bor (List ℕ) × Bor FuncType) → LackingFunction → ValidateFault → Result (Option Place) F → Type 0
-IsFunctionExplained index x f result =
+-- a value, if it is kept
+abbrev pub IsKeptIf : {T : Type 0} → T → Bool → Option T → Type 0
+IsKeptIf x true result = result ≡ Some x
+IsKeptIf x false result = result ≡ None
+
+-- what is answered of a fault, where another one has this place; for what a module is refused for; and for what is
+-- answered for a module
+abbrev pub IsAnswerFor : {F : Type 0} → Option Place → ValidateFault → ValidateFault → Result (Option Place) F → Type 0
+IsAnswerFor place g f result =
+    (j : ValidationInput) (bytes : List ℕ) → IsValidateCause j bytes g → IsPlaceOrNone (IsPlace j bytes) g place → IfOk result (IsExplained j bytes f)
+
+abbrev pub IsExplainedBy : {F : Type 0} → RefusedModule → ValidateFault → Result (Option Place) F → Type 0
+IsExplainedBy x f result =
+    (j : ValidationInput) (bytes : List ℕ) → IsValidateCause j bytes x.fault → IsRefusedAt (IsPlace j bytes) x → IfOk result (IsExplained j bytes f)
+
+abbrev pub IsAnswerExplained : {T F : Type 0} → Result T RefusedModule → ValidateFault → Result (Option Place) F → Type 0
+IsAnswerExplained answer f result =
+    (j : ValidationInput) (bytes : List ℕ) → OnOk answer (IsUnplaced j bytes f) → IfErr answer (λ (x : RefusedModule). IsValidateCause j bytes x.fault)
+    → IfErr answer (IsRefusedAt (IsPlace j bytes)) → IfOk result (IsExplained j bytes f)
+
+-- a required function that is refused, as a place; nothing only where an allocation failed
+abbrev pub IsFunctionPlaced : {F : Type 0} → List (Bor (List ℕ) × Bor FuncType) → LackingFunction → Result (Option Place) F → Type 0
+IsFunctionPlaced index x result =
     (r : ResolveView) (xs : List CoreExport) (recorded : ExportRecord) (functions : List (List ℕ × FuncTypeValue)) → IsExportIndexOf index xs
     → IsFunctionLackAt r xs recorded functions (x.name.now, func_type_value x.ty.now) x.fault
-    → IfOk result (λ answer. MatchOption answer (¬ IsFirstUnmet r xs recorded (map type_requirement functions) f)
-    (λ (p : Place). IsFunctionPlace r xs recorded functions f (place_view p)))
+    → IfOk result (IsPlaceOrNone (IsFunctionPlace r xs recorded functions) x.fault)
+
+-- a module is refused for a required function
+abbrev pub RefusesFunctions : {T : Type 0} → Module → List (String Global × FuncType) → Result T RefusedModule → Type 0
+RefusesFunctions m functions result =
+    (r : ResolveView) (recorded : ExportRecord)
+    → IfErr result (λ (x : RefusedModule). IsUnmetFault r (exports_in m m.exports.items) recorded (requirements_of_functions functions) x.fault
+    × IsRefusedAt (IsFunctionPlace r (exports_in m m.exports.items) recorded (map required_entry functions)) x)
 
 -- a function that is not exported as it is required, as a place
 abbrev pub IsUnexported : List (Bor (List ℕ) × Bor FuncType) → List ℕ → FuncType → Place → Type 0
@@ -241,37 +294,20 @@ AreMetByIndex index functions result =
     (r : ResolveView) (xs : List CoreExport) (recorded : ExportRecord) → IsExportIndexOf index xs
     → OnOk result (AreMet r xs recorded (map type_requirement (map required_entry functions)))
 
--- what is missing, as the place of a fault; nothing only where the fault is not that of the first that is
-abbrev pub IsMissingExplained : Names → RequiredExports → List CoreExport → List (String Global × Export) → ValidateFault → Option Place → Type 0
-IsMissingExplained n q xs recorded f answer =
-    MatchOption answer (¬ IsFirstUnmet n.resolve.now xs (map export_entry recorded) (required_of n q) f)
-    (λ (p : Place). IsMissingPlace n.resolve.now xs (map export_entry recorded) (map world_entry n.world.now.exports.entries)
-    (map key_view q.keys.now.keys) (map required_entry q.functions.now.entries) f (place_view p))
+-- the place of a fault of what is missing among the exports of a module
+abbrev pub IsMissingIn : Names → RequiredExports → RecordedModule → ValidateFault → PlaceView → Type 0
+IsMissingIn n q x f p =
+    IsMissingPlace n.resolve.now (exports_in x.«module».now x.«module».now.exports.items) (map export_entry x.recorded.now.entries)
+    (map world_entry n.world.now.exports.entries) (map key_view q.keys.now.keys) (map required_entry q.functions.now.entries) f p
 
--- the same of a module
-abbrev pub IsMissingOf : Names → RequiredExports → RecordedModule → ValidateFault → Option Place → Type 0
-IsMissingOf n q x f answer = IsMissingExplained n q (exports_in x.«module».now x.«module».now.exports.items) x.recorded.now.entries f answer
-
--- memories and callbacks are as required
-abbrev pub AreAlone : Names → RecordedModule → Type 0
-AreAlone n x =
-    AreMet n.resolve.now (exports_in x.«module».now x.«module».now.exports.items) (map export_entry x.recorded.now.entries) (one_memory ∷ callbacks ∷ [])
-
--- the first of these functions that a module does not export as it is required, as the place of a fault
-abbrev pub IsUnexportedExplained : ResolveView → RecordedModule → List (String Global × FuncType) → ValidateFault → Option Place → Type 0
-IsUnexportedExplained r x functions f answer =
-    MatchOption answer
-    (¬ IsFirstUnmet r (exports_in x.«module».now x.«module».now.exports.items) (map export_entry x.recorded.now.entries)
-    (map type_requirement (map required_entry functions)) f)
-    (λ (p : Place). IsFunctionPlace r (exports_in x.«module».now x.«module».now.exports.items) (map export_entry x.recorded.now.entries)
-    (map required_entry functions) f (place_view p))
-
--- what is missing, as the place of a fault, or nothing, where the exports of the module are recorded by a context
-abbrev pub IsMissingFrom : ExportContext → RequiredExports → Module → ValidateFault → Option Place → Type 0
-IsMissingFrom c q m f answer =
-    MatchOption answer
-    ((recorded : ExportRecord) × AreRecordedBy c (exports_in m m.exports.items) recorded
-    × (¬ IsFirstUnmet c.names.resolve.now (exports_in m m.exports.items) recorded (required_of c.names q) f))
-    (λ (p : Place). (recorded : ExportRecord) × AreRecordedBy c (exports_in m m.exports.items) recorded
+-- the place of a fault of the exports of a module, which are recorded by a context
+abbrev pub IsPlaceIn : ExportContext → RequiredExports → Module → ValidateFault → PlaceView → Type 0
+IsPlaceIn c q m f p =
+    IsExportPlace (name_scope_of c.names) c.standard.keys (module_value m) (map export_value m.exports.items) f p
+    ⊎ ((recorded : ExportRecord) × AreRecordedBy c (exports_in m m.exports.items) recorded
     × IsMissingPlace c.names.resolve.now (exports_in m m.exports.items) recorded (map world_entry c.names.world.now.exports.entries)
-    (map key_view q.keys.now.keys) (map required_entry q.functions.now.entries) f (place_view p))
+    (map key_view q.keys.now.keys) (map required_entry q.functions.now.entries) f p)
+
+-- a module whose imports are recorded is refused for its exports
+abbrev pub ArePlacedAmongExports : {T : Type 0} → ValidationInput → ModuleValue → Result T RefusedModule → Type 0
+ArePlacedAmongExports j m result = HasRecordedImports j m → IfErr result (IsRefusedAt (IsModulePlace j m))

@@ -19,7 +19,7 @@ use Rattle.wc_validate.specs.declared.name_scope.Names.{Names}
 use Rattle.wc_validate.specs.Exports.Map.{export_entry, ExportRecord}
 use Rattle.wc_validate.specs.Imports.Map.{required_entry}
 use Rattle.wc_validate.specs.Exports.Record.{exports_in}
-use Rattle.wc_validate.specs.Requirements.{AreMet, IsUnmetFault, Requirement, key_requirement, key_requirements, requirements, type_requirement, typed_function, IsMet, callbacks, is_called_back, one_memory}
+use Rattle.wc_validate.specs.Requirements.{AreMet, IsUnmetFault, Requirement, key_requirement, key_requirements, requirements, type_requirement, typed_function, IsMet, is_called_back}
 use Rattle.wc_validate.specs.Private.ExportedFunctions.{AreNamesOf, IsExportIndexOf}
 use Rattle.std.specs.Borrow.{Bor}
 use Rattle.wc_names.specs.Exports.{CoreExport}
@@ -89,17 +89,6 @@ FailsByIndex index need result =
 abbrev pub MeetsFunctions : {T F : Type 0} → Module → List ModuleExport → List (String Global × FuncType) → Result T F → Type 0
 MeetsFunctions m es required result =
     (r : ResolveView) (recorded : ExportRecord) → OnOk result (AreMet r (exports_in m es) recorded (requirements_of_functions required))
-
-abbrev pub FailsFunctions : {T : Type 0} → Module → List ModuleExport → List (String Global × FuncType) → Result T ValidateFault → Type 0
-FailsFunctions m es required result =
-    (r : ResolveView) (recorded : ExportRecord) → IfErr result (IsUnmetFault r (exports_in m es) recorded (requirements_of_functions required))
-
--- requirements of memories and callbacks are met by what is recorded, whatever is exported
-abbrev pub MeetsAlone : {T F : Type 0} → List (String Global × Export) → Result T F → Type 0
-MeetsAlone recorded result = (r : ResolveView) (xs : List CoreExport) → OnOk result (AreMet r xs (map export_entry recorded) (one_memory ∷ callbacks ∷ []))
-
-abbrev pub FailsAlone : {T : Type 0} → List (String Global × Export) → Result T ValidateFault → Type 0
-FailsAlone recorded result = (r : ResolveView) (xs : List CoreExport) → IfErr result (IsUnmetFault r xs (map export_entry recorded) (one_memory ∷ callbacks ∷ []))
 
 -- all that are recorded have the callbacks that they need
 abbrev pub AreCalledBack : List (String Global × Export) → Type 0

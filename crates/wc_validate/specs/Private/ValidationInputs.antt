@@ -1,5 +1,5 @@
 -- What a module is validated for, as the code has it.
-use Rattle.std.specs.Prelude.{List, None, Option, String, map, option_copied, IfErr, IfOk, Result}
+use Rattle.std.specs.Prelude.{◌≡◌, List, None, Option, String, map, option_copied, IfErr, IfOk, Result, Ok, Err}
 use Rattle.std.specs.declared.alloc.Global.{Global}
 use Rattle.wc_read.specs.declared.types.FuncType.{FuncType}
 use Rattle.wc_dedupe.specs.Renaming.{RenameView}
@@ -7,6 +7,7 @@ use Rattle.wc_read.specs.Modules.{ModuleValue}
 use Rattle.wc_resolve.specs.Views.{key_view}
 use Rattle.wc_encoder.specs.EncoderParts.{EncoderView}
 use Rattle.wc_validate.specs.declared.fault.ValidateFault.{ValidateFault}
+use Rattle.wc_validate.specs.declared.refused.RefusedModule.{RefusedModule}
 use Rattle.wc_validate.specs.declared.requirements.RequiredExports.{RequiredExports}
 use Rattle.wc_validate.specs.declared.validate.ValidationInput.{ValidationInput as CodeInput}
 use Rattle.wc_validate.specs.Exports.Map.{ExportRecord}
@@ -33,5 +34,11 @@ HasRefusedExports e q m f = IsExportsCause e (map key_view q.keys.now.keys) (map
 abbrev pub AreExportsRecorded : {F : Type 0} → ExportContext → RequiredExports → ModuleValue → Result ExportRecord F → Type 0
 AreExportsRecorded c q m result = (e : EncoderView) → IsNameScopeOf e (name_scope_of c.names) → IfOk result (HasRecordedExports e q m)
 
-abbrev pub AreExportsRefused : {T : Type 0} → ExportContext → RequiredExports → ModuleValue → Result T ValidateFault → Type 0
-AreExportsRefused c q m result = (e : EncoderView) → IsNameScopeOf e (name_scope_of c.names) → IfErr result (HasRefusedExports e q m)
+abbrev pub AreExportsRefused : {T : Type 0} → ExportContext → RequiredExports → ModuleValue → Result T RefusedModule → Type 0
+AreExportsRefused c q m result =
+    (e : EncoderView) → IsNameScopeOf e (name_scope_of c.names) → IfErr result (λ (x : RefusedModule). HasRefusedExports e q m x.fault)
+
+-- what is answered, without the place of a refusal
+abbrev pub IsWithoutPlace : {T : Type 0} → Result T RefusedModule → Result T ValidateFault → Type 0
+IsWithoutPlace (Ok x) result = result ≡ Ok x
+IsWithoutPlace (Err x) result = result ≡ Err x.fault

@@ -1,15 +1,18 @@
 //! Functions that other modules import, and that are not exported as they are required.
 
-ghost use Rattle.std.specs.Prelude.{◌≡◌, ◌≢◌, ◌↔◌, IfErr, IfOk, IsTrue, false};
-ghost use Rattle.wc_validate.specs.Private.Explain.{AreMetByIndex, IsFunctionExplained, IsFunctionLackIn, IsNotExported, IsSaidApart, IsSaidAs, IsUnexported};
+ghost use Rattle.std.specs.Prelude.{◌≡◌, IfErr, IfOk};
+ghost use Rattle.wc_read.specs.Modules.{HaveTypes, module_value};
+ghost use Rattle.wc_validate.specs.Exports.Record.{AreExportsIn};
+ghost use Rattle.wc_validate.specs.Private.Explain.{AreMetByIndex, IsFunctionLackIn, IsFunctionPlaced, IsUnexported, RefusesFunctions};
+ghost use Rattle.wc_validate.specs.Private.Requirements.{MeetsFunctions};
 
 use crate::ValidateFault;
-use crate::explain::is_memory;
 use crate::place::{Place, Subject, TypeDifference};
-use crate::requirements::exported_functions::check_function;
+use crate::refused::{RefusedModule, is_memory};
+use crate::requirements::exported_functions::{check_function, typed_functions};
 use std::alloc::{AllocError, Global};
 use wc_maps::Map;
-use wc_read::FuncType;
+use wc_read::{FuncType, Module};
 
 /// A required function that is not exported as it is required, and why it is refused.
 #[derive(Drop)]
@@ -20,7 +23,7 @@ pub(crate) struct LackingFunction<'r> {
 }
 
 /// The first required function that is not exported as it is required, if there is one.
-pub(crate) fn first_unexported<'r>(
+fn first_unexported<'r>(
     alloc: Global,
     index: &Map<&str, &FuncType>,
     functions: &'r Map<String, FuncType>,
@@ -39,32 +42,6 @@ pub(crate) fn first_unexported<'r>(
         }
     }
     Ok(())
-}
-
-/// Whether a fault is that a function of a name is not exported.
-fn is_not_exported(fault: &ValidateFault, name: &str) -> bool
-    ensures { IsTrue result ↔ IsNotExported fault.now name.now }
-{
-    match fault {
-        ValidateFault::AdapterModuleDidNotExport(own) => own.name() == name,
-        _ => false,
-    }
-}
-
-/// Whether a fault says all that another one says of what is missing.
-fn is_said_too(fault: &ValidateFault, found: &ValidateFault) -> bool
-    ensures same { IsTrue result → IsSaidAs found.now fault.now }
-    ensures real { IsTrue result → found.now ≢ ValidateFault.Memory }
-    ensures other { result ≡ false → IsSaidApart found.now fault.now }
-{
-    match found {
-        ValidateFault::AdapterExportType => matches!(fault, ValidateFault::AdapterExportType),
-        ValidateFault::TypedReference => matches!(fault, ValidateFault::TypedReference),
-        ValidateFault::AdapterModuleDidNotExport(missing) => {
-            is_not_exported(fault, missing.name())
-        }
-        _ => false,
-    }
 }
 
 /// A function that is not exported as it is required: the export of its name, with the required type and its own; or
@@ -92,21 +69,64 @@ fn unexported_function(
     })
 }
 
-/// A required function that is refused, as the place of a fault: if it is refused with this fault.
-pub(crate) fn function_place(
+/// The required function that is refused.
+fn function_place(
     alloc: Global,
     index: &Map<&str, &FuncType>,
-    lacking: LackingFunction<'_>,
-    fault: &ValidateFault,
+    lacking: &LackingFunction<'_>,
 ) -> Result<Option<Place>, AllocError>
-    ensures { IsFunctionExplained index.now.entries lacking.entry fault.now result }
+    ensures { IsFunctionPlaced index.now.entries lacking.now result }
 {
     if is_memory(&lacking.fault) {
-        return Err(AllocError);
-    }
-    if !is_said_too(fault, &lacking.fault) {
         return Ok(None);
     }
     let place = unexported_function(alloc, index, lacking.name, lacking.ty)?;
     Ok(Some(place))
+}
+
+/// A module that doesn't export a function as it is required; with that, where its place is asked for.
+fn function_refusal(
+    alloc: Global,
+    index: &Map<&str, &FuncType>,
+    lacking: LackingFunction<'_>,
+    places: bool,
+) -> RefusedModule
+    ensures fault { result.fault ≡ lacking.entry.fault }
+    ensures place { IsFunctionPlaced index.now.entries lacking.entry result.place }
+{
+    if !places {
+        return RefusedModule {
+            fault: lacking.fault,
+            place: Err(AllocError),
+        };
+    }
+    let place = function_place(alloc, index, &lacking);
+    RefusedModule {
+        fault: lacking.fault,
+        place,
+    }
+}
+
+/// Checks that a module exports these functions, with these types.
+///
+/// # Errors
+///
+/// Those of the first function that is not exported so, which they are about.
+pub(crate) fn check_functions<'m>(
+    alloc: Global,
+    module: &'m Module<'m>,
+    functions: &Map<String, FuncType>,
+    places: bool,
+) -> Result<(), RefusedModule>
+    requires items { AreExportsIn «module».now «module».now.exports.items }
+    requires typed { HaveTypes (module_value «module».now) }
+    ensures met { MeetsFunctions «module».now «module».now.exports.items functions.now.entries
+        result }
+    ensures refused { RefusesFunctions «module».now functions.now.entries result }
+{
+    let index = typed_functions(alloc, *functions.hasher(), module, &module.exports)?;
+    match first_unexported(alloc, &index, functions) {
+        Ok(()) => Ok(()),
+        Err(lacking) => Err(function_refusal(alloc, &index, lacking, places)),
+    }
 }

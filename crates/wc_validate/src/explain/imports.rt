@@ -1,83 +1,25 @@
 //! The import at which validation stops.
 
-ghost use Rattle.std.specs.Prelude.{◌≡◌, ◌≢◌, ◌↔◌, ◌<◌, All, Err, IfErr, IfOk, IfSome, IsOkAnd, IsTrue, false, length};
+ghost use Rattle.std.specs.Prelude.{◌≡◌, ◌<◌, All, Err, IfOk, IfSome, IsOkAnd, length};
 ghost use Rattle.wc_read.specs.Types.{func_type_value};
 ghost use Rattle.wc_names.specs.declared.imports.Import.{Import as named_import};
 ghost use Rattle.wc_names.specs.Views.{adapter_export, import_view};
 ghost use Rattle.wc_validate.specs.NameScope.{AreInterfacesOf, HasItsWorld, name_scope_of};
-ghost use Rattle.wc_validate.specs.Explain.{IsOfImport, an_import, subject_view};
-ghost use Rattle.wc_validate.specs.Private.Explain.{AreDifferingAfter, AreDifferingTypes, AreMismatchedTypes, AreTypesIn, IsAdapterFunction, IsImportExplained, IsStopIn, function_view};
-ghost use Rattle.wc_validate.specs.Private.Imports.Contexts.{AreAllRecorded, IsTypeIn};
+ghost use Rattle.wc_validate.specs.Explain.{an_import, subject_view};
+ghost use Rattle.wc_validate.specs.Private.Explain.{AreDifferingAfter, AreDifferingTypes, AreMismatchedTypes, AreTypesIn, IsAdapterFunction, IsStopIn, IsStopPlaced, function_view};
+ghost use Rattle.wc_validate.specs.Private.Imports.Contexts.{IsTypeIn};
 
 use crate::ValidateFault;
-use crate::explain::refused::Refused;
-use crate::imports::record::{ImportContext, classify_import, record_imports, record_one};
+use crate::imports::record::{ImportContext, classify_import, record_imports};
 use crate::imports::recorder::Recorder;
 use crate::name_fault::NameFault;
 use crate::place::{Place, Subject, TypeDifference};
+use crate::refused::{Refused, RefusedModule, is_memory};
 use crate::signatures::has_type;
 use std::alloc::{AllocError, Global};
 use wc_names::Import;
 use wc_names::laws::meanings_unique;
 use wc_read::{FuncType, ImportType};
-
-/// The imports of a module, recorded in their order; or the first that is refused.
-pub(crate) fn first_refused(
-    alloc: Global,
-    context: &ImportContext<'_>,
-    imports: &[wc_read::Import<'_>],
-) -> Result<Recorder, Refused>
-    requires world { HasItsWorld (name_scope_of context.now.names) }
-    requires interfaces { AreInterfacesOf (name_scope_of context.now.names)
-        context.now.interfaces.now }
-    requires typed { All (λ i. IsTypeIn (length context.now.types.now) i.ty) imports.now }
-    ensures recorded { AreAllRecorded context.now imports.now result }
-    ensures in_range { IfErr result (λ x. x.index < length imports.now) }
-    ensures refused { IfErr result (IsStopIn context.now imports.now) }
-{
-    let mut recorder = Recorder::new(alloc, *context.names.adapters.hasher());
-    for (index, import) in imports.iter().enumerate() {
-        if let Err(fault) = record_one(&mut recorder, alloc, context, import) {
-            return Err(Refused { index, fault });
-        }
-    }
-    Ok(recorder)
-}
-
-/// Whether a fault is that an allocation failed.
-fn is_memory(fault: &ValidateFault) -> bool
-    ensures { IsTrue result ↔ (fault.now ≡ ValidateFault.Memory) }
-{
-    matches!(fault, ValidateFault::Memory)
-}
-
-/// Whether two faults are the same fault of an import.
-fn is_same_fault(fault: &ValidateFault, found: &ValidateFault) -> bool
-    ensures same { IsTrue result → fault.now ≡ found.now }
-    ensures real { IsTrue result → found.now ≢ ValidateFault.Memory }
-    ensures other { result ≡ false → IsOfImport found.now → fault.now ≢ found.now }
-{
-    match found {
-        ValidateFault::NotAFunction => matches!(fault, ValidateFault::NotAFunction),
-        ValidateFault::SignatureMismatch => matches!(fault, ValidateFault::SignatureMismatch),
-        ValidateFault::NoRootImport => matches!(fault, ValidateFault::NoRootImport),
-        ValidateFault::RootNotFunction => matches!(fault, ValidateFault::RootNotFunction),
-        ValidateFault::BadSyntax => matches!(fault, ValidateFault::BadSyntax),
-        ValidateFault::UnknownInterface => matches!(fault, ValidateFault::UnknownInterface),
-        ValidateFault::UnknownIntrinsic => matches!(fault, ValidateFault::UnknownIntrinsic),
-        ValidateFault::MissingFunction => matches!(fault, ValidateFault::MissingFunction),
-        ValidateFault::NoSuchExport => matches!(fault, ValidateFault::NoSuchExport),
-        ValidateFault::WholeDiffers => matches!(fault, ValidateFault::WholeDiffers),
-        ValidateFault::Mixed => matches!(fault, ValidateFault::Mixed),
-        ValidateFault::SeveralMemoryImports => {
-            matches!(fault, ValidateFault::SeveralMemoryImports)
-        }
-        ValidateFault::DuplicateImport => matches!(fault, ValidateFault::DuplicateImport),
-        ValidateFault::AdapterTypesDiffer => matches!(fault, ValidateFault::AdapterTypesDiffer),
-        ValidateFault::TypedReference => matches!(fault, ValidateFault::TypedReference),
-        _ => false,
-    }
-}
 
 /// An import, by its names and its index.
 fn import_subject(
@@ -276,26 +218,22 @@ fn import_types(
     }
 }
 
-/// The import that is refused, as the place of a fault: if it is refused with this fault.
-pub(crate) fn import_place(
+/// The import that is refused, with the types that differ.
+fn import_place(
     alloc: Global,
     context: &ImportContext<'_>,
     imports: &[wc_read::Import<'_>],
-    refused: Refused,
-    fault: &ValidateFault,
+    refused: &Refused,
 ) -> Result<Option<Place>, AllocError>
     requires world { HasItsWorld (name_scope_of context.now.names) }
     requires interfaces { AreInterfacesOf (name_scope_of context.now.names)
         context.now.interfaces.now }
     requires typed { All (λ i. IsTypeIn (length context.now.types.now) i.ty) imports.now }
-    requires in_range { refused.index < length imports.now }
-    requires refused { IsStopIn context.now imports.now refused }
-    ensures { IfOk result (IsImportExplained context.now imports.now fault.now) }
+    requires in_range { refused.now.index < length imports.now }
+    requires refused { IsStopIn context.now imports.now refused.now }
+    ensures { IfOk result (IsStopPlaced context.now imports.now refused.now.fault) }
 {
     if is_memory(&refused.fault) {
-        return Err(AllocError);
-    }
-    if !is_same_fault(fault, &refused.fault) {
         return Ok(None);
     }
     let import = &imports[refused.index];
@@ -303,4 +241,34 @@ pub(crate) fn import_place(
     let types = import_types(alloc, context, before, import, &refused.fault)?;
     let subject = import_subject(alloc, import, refused.index)?;
     Ok(Some(Place { subject, types }))
+}
+
+/// A module whose imports are refused; with the import, where its place is asked for.
+pub(crate) fn import_refusal(
+    alloc: Global,
+    context: &ImportContext<'_>,
+    imports: &[wc_read::Import<'_>],
+    refused: Refused,
+    places: bool,
+) -> RefusedModule
+    requires world { HasItsWorld (name_scope_of context.now.names) }
+    requires interfaces { AreInterfacesOf (name_scope_of context.now.names)
+        context.now.interfaces.now }
+    requires typed { All (λ i. IsTypeIn (length context.now.types.now) i.ty) imports.now }
+    requires in_range { refused.index < length imports.now }
+    requires refused { IsStopIn context.now imports.now refused }
+    ensures fault { result.fault ≡ refused.fault }
+    ensures place { IfOk result.place (IsStopPlaced context.now imports.now refused.fault) }
+{
+    if !places {
+        return RefusedModule {
+            fault: refused.fault,
+            place: Err(AllocError),
+        };
+    }
+    let place = import_place(alloc, context, imports, &refused);
+    RefusedModule {
+        fault: refused.fault,
+        place,
+    }
 }

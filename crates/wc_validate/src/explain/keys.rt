@@ -1,17 +1,17 @@
 //! What is missing for the keys of an export set.
 
-ghost use Rattle.std.specs.Prelude.{◌≡◌, ◌≢◌, ◌<◌, All, IfErr, IfOk, IsTrue, MatchOption, false, length, map};
+ghost use Rattle.std.specs.Prelude.{◌≡◌, ◌<◌, All, IfErr, IfOk, MatchOption, length, map};
 ghost use Rattle.wc_resolve.specs.Ranges.{IsItemIn};
 ghost use Rattle.wc_resolve.specs.Views.{key_view, world_entry};
 ghost use Rattle.wc_validate.specs.NameScope.{name_scope_of};
-ghost use Rattle.wc_validate.specs.Private.Explain.{AreAllNamed, IsKeyExplained, IsLackIn, IsLackNamed, IsLackOf, IsLackingFunction, IsOfKey};
+ghost use Rattle.wc_validate.specs.Private.Explain.{AreAllNamed, IsKeyPlaced, IsLackIn, IsLackNamed, IsLackOf, IsLackingFunction};
 ghost use Rattle.wc_validate.specs.Private.Requirements.{AreKeysNamed, HasItemsInRange, HasKeysNamed, IsKeyNamed, MeetsByNames, requirements_of_keys};
 ghost use Rattle.wc_validate.specs.Requirements.{interface_functions};
 
 use crate::ValidateFault;
-use crate::explain::is_memory;
 use crate::name_scope::Names;
 use crate::place::{Place, Subject};
+use crate::refused::{RefusedModule, is_memory};
 use crate::requirements::check_key;
 use crate::requirements::exported_functions::{FunctionNames, is_recorded};
 use std::alloc::{AllocError, Global};
@@ -114,45 +114,53 @@ fn key_lack(
     }
 }
 
-/// Whether two faults are the same fault of a key.
-fn is_same_fault(fault: &ValidateFault, found: &ValidateFault) -> bool
-    ensures same { IsTrue result → fault.now ≡ found.now }
-    ensures real { IsTrue result → found.now ≢ ValidateFault.Memory }
-    ensures other { result ≡ false → IsOfKey found.now → fault.now ≢ found.now }
-{
-    match found {
-        ValidateFault::MissingInterfaceExport => {
-            matches!(fault, ValidateFault::MissingInterfaceExport)
-        }
-        ValidateFault::MissingWorldExport => matches!(fault, ValidateFault::MissingWorldExport),
-        _ => false,
-    }
-}
-
-/// What is missing for the key that is refused, as the place of a fault: if the key is refused with this fault.
-pub(crate) fn key_place(
+/// What is missing for the key that is refused.
+fn key_place(
     alloc: Global,
     functions: &FunctionNames,
     names: &Names<'_>,
-    lacking: LackingKey<'_>,
-    fault: &ValidateFault,
+    lacking: &LackingKey<'_>,
 ) -> Result<Option<Place>, AllocError>
     requires items { HasItemsInRange (name_scope_of names.now) }
     requires named { HasKeysNamed (name_scope_of names.now) }
-    ensures { IsKeyExplained names.now functions.now.keys lacking.entry fault.now result }
+    ensures { IsKeyPlaced names.now functions.now.keys lacking.now result }
 {
     if is_memory(&lacking.fault) {
-        return Err(AllocError);
-    }
-    if !is_same_fault(fault, &lacking.fault) {
         return Ok(None);
     }
     let exports = &names.world.exports;
+    // Something is missing, or an allocation failed.
     match key_lack(alloc, functions, names.resolve, exports, lacking.key)? {
         Some(subject) => Ok(Some(Place {
             subject,
             types: None,
         })),
-        None => Ok(None),
+        None => Err(AllocError),
+    }
+}
+
+/// A module that lacks something for a key; with that, where its place is asked for.
+pub(crate) fn key_refusal(
+    alloc: Global,
+    functions: &FunctionNames,
+    names: &Names<'_>,
+    lacking: LackingKey<'_>,
+    places: bool,
+) -> RefusedModule
+    requires items { HasItemsInRange (name_scope_of names.now) }
+    requires named { HasKeysNamed (name_scope_of names.now) }
+    ensures fault { result.fault ≡ lacking.entry.fault }
+    ensures place { IsKeyPlaced names.now functions.now.keys lacking.entry result.place }
+{
+    if !places {
+        return RefusedModule {
+            fault: lacking.fault,
+            place: Err(AllocError),
+        };
+    }
+    let place = key_place(alloc, functions, names, &lacking);
+    RefusedModule {
+        fault: lacking.fault,
+        place,
     }
 }

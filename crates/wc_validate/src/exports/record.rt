@@ -1,18 +1,20 @@
 //! The exports of a core module, recorded one after another.
 
-ghost use Rattle.std.specs.Prelude.{◌≡◌, ◌≢◌, ◌<◌, AllPairs, IfErr, IfOk, None, OnOk, Some, map};
+ghost use Rattle.std.specs.Prelude.{◌≡◌, ◌≢◌, ◌<◌, AllPairs, IfErr, IfOk, None, OnOk, Some, length, map};
 ghost use Rattle.std.specs.Map.{lookup};
 ghost use Rattle.std.specs.Str.{bytes_eq};
 ghost use Rattle.wc_read.specs.Exports.{export_value};
 ghost use Rattle.wc_read.specs.Modules.{HaveTypes, count_of, module_value};
-ghost use Rattle.wc_validate.specs.Exports.Contexts.{IsExportContext, extern_export};
+ghost use Rattle.wc_validate.specs.Exports.Contexts.{IsExportContext};
 ghost use Rattle.wc_validate.specs.Exports.Map.{export_entry};
 ghost use Rattle.wc_validate.specs.Private.Externs.{extern_view};
-ghost use Rattle.wc_validate.specs.Exports.Record.{AreRefusedBy, IsRefusedBy, exports_in, item_type, AreExportsAdded, AreExportsIn, IsExportAdded};
+ghost use Rattle.wc_validate.specs.Exports.Record.{item_type, AreExportsAdded, AreExportsIn, IsExportAdded};
+ghost use Rattle.wc_validate.specs.Private.Explain.{IsExportStopIn, IsRefusedExport};
 
-use crate::ValidateFault;
 use crate::exports::classify::{ExportContext, classify_export};
 use crate::externs::Extern;
+use crate::name_fault::NameFault;
+use crate::refused::RefusedExport;
 use std::alloc::Global;
 use wc_maps::Map;
 use wc_names::Export;
@@ -42,13 +44,12 @@ fn record_export(
     context: &ExportContext<'_>,
     name: &str,
     ty: Extern<'_>,
-) -> Result<(), ValidateFault>
+) -> Result<(), NameFault>
     requires context { IsExportContext context.now }
     requires fresh { lookup (bytes_eq name.now) (map export_entry names.old.entries) ≡ None }
     ensures recorded { OnOk result (IsExportAdded context.now name.now ty.entry names.old.entries
         names.new.entries) }
-    ensures fault { IfErr result (IsRefusedBy context.now
-        (extern_export name.now ty.entry)) }
+    ensures fault { IfErr result (IsRefusedExport context.now name.now ty.entry) }
 {
     let Some(export) = classify_export(alloc, context, name, ty)? else {
         return Ok(());
@@ -57,13 +58,13 @@ fn record_export(
     Ok(())
 }
 
-/// The exports of a module, recorded in their order.
+/// The exports of a module, recorded in their order; or the first that is refused.
 pub(crate) fn record_exports(
     alloc: Global,
     context: &ExportContext<'_>,
     module: &Module<'_>,
     exports: &[wc_read::Export<'_>],
-) -> Result<Map<String, Export>, ValidateFault>
+) -> Result<Map<String, Export>, RefusedExport>
     requires context { IsExportContext context.now }
     requires items { AreExportsIn «module».now exports.now }
     requires distinct { AllPairs (λ x y. x ≢ y)
@@ -71,13 +72,15 @@ pub(crate) fn record_exports(
     requires typed { HaveTypes (module_value «module».now) }
     ensures recorded { IfOk result (λ names. AreExportsAdded context.now «module».now exports.now
         names.entries) }
-    ensures fault { IfErr result (AreRefusedBy context.now
-        (exports_in «module».now exports.now)) }
+    ensures in_range { IfErr result (λ x. x.index < length exports.now) }
+    ensures refused { IfErr result (IsExportStopIn context.now «module».now exports.now) }
 {
     let mut names = Map::with_hasher(alloc, *context.names.adapters.hasher());
-    for export in exports {
+    for (index, export) in exports.iter().enumerate() {
         let ty = exported_type(module, export.kind, export.index);
-        record_export(&mut names, alloc, context, export.name, ty)?;
+        if let Err(fault) = record_export(&mut names, alloc, context, export.name, ty) {
+            return Err(RefusedExport { index, fault });
+        }
     }
     Ok(names)
 }

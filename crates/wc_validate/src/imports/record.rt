@@ -1,9 +1,10 @@
 //! The imports of a core module, classified and recorded.
 
-ghost use Rattle.std.specs.Prelude.{◌≡◌, All, Option, Some, length, map, option_copied};
+ghost use Rattle.std.specs.Prelude.{◌≡◌, ◌<◌, All, IfErr, Option, Some, length, map, option_copied};
 ghost use Rattle.wc_read.specs.Types.{func_type_value};
 ghost use Rattle.wc_adapters.specs.Adapters.{LibraryView};
-ghost use Rattle.wc_validate.specs.Private.Imports.Contexts.{IsClassifiedIn, IsTypeIn, AreAllRecorded, AreAllRefused, IsOneRecorded, IsOneRefused};
+ghost use Rattle.wc_validate.specs.Private.Explain.{IsStopIn};
+ghost use Rattle.wc_validate.specs.Private.Imports.Contexts.{IsClassifiedIn, IsTypeIn, AreAllRecorded, IsOneRecorded, IsOneRefused};
 ghost use Rattle.wc_validate.specs.Private.Externs.{extern_view};
 ghost use Rattle.wc_validate.specs.Imports.Record.{extern_type, original_name};
 ghost use Rattle.wc_validate.specs.NameScope.{AreInterfacesOf, HasItsWorld, name_scope_of};
@@ -16,6 +17,7 @@ use crate::imports::items::ImportedItem;
 use crate::imports::recorder::Recorder;
 use crate::name_fault::NameFault;
 use crate::name_scope::{Interfaces, Names};
+use crate::refused::Refused;
 use std::alloc::Global;
 use wc_dedupe::ModuleImportMap;
 use wc_names::Import;
@@ -108,22 +110,25 @@ pub(crate) fn record_one(
     }
 }
 
-/// The imports of a module, recorded in their order.
+/// The imports of a module, recorded in their order; or the first that is refused.
 pub(crate) fn record_imports(
     alloc: Global,
     context: &ImportContext<'_>,
     imports: &[wc_read::Import<'_>],
-) -> Result<Recorder, ValidateFault>
+) -> Result<Recorder, Refused>
     requires world { HasItsWorld (name_scope_of context.now.names) }
     requires interfaces { AreInterfacesOf (name_scope_of context.now.names)
         context.now.interfaces.now }
     requires typed { All (λ i. IsTypeIn (length context.now.types.now) i.ty) imports.now }
     ensures recorded { AreAllRecorded context.now imports.now result }
-    ensures fault { AreAllRefused context.now imports.now result }
+    ensures in_range { IfErr result (λ x. x.index < length imports.now) }
+    ensures refused { IfErr result (IsStopIn context.now imports.now) }
 {
     let mut recorder = Recorder::new(alloc, *context.names.adapters.hasher());
-    for import in imports {
-        record_one(&mut recorder, alloc, context, import)?;
+    for (index, import) in imports.iter().enumerate() {
+        if let Err(fault) = record_one(&mut recorder, alloc, context, import) {
+            return Err(Refused { index, fault });
+        }
     }
     Ok(recorder)
 }

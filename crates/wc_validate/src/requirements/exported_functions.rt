@@ -8,7 +8,7 @@ ghost use Rattle.wc_validate.specs.Exports.Map.{export_entry};
 ghost use Rattle.wc_validate.specs.Private.ExportedFunctions.{AreNamesOf, IsExportIndexOf, function_shown, HasFunction, HasFunctionsOf, IsNameAdded, IsTypedAdded, TellsByNames};
 ghost use Rattle.wc_validate.specs.Requirements.{function_name};
 ghost use Rattle.wc_validate.specs.Exports.Record.{exports_in, AreExportsIn};
-ghost use Rattle.wc_validate.specs.Private.Requirements.{requirement_of_function, FailsByIndex, FailsFunctions, MeetsByIndex, MeetsFunctions};
+ghost use Rattle.wc_validate.specs.Private.Requirements.{requirement_of_function, FailsByIndex, MeetsByIndex};
 
 use crate::ValidateFault;
 use crate::exports::record::exported_type;
@@ -160,27 +160,4 @@ pub(crate) fn check_function(
     } else {
         Err(ValidateFault::AdapterExportType)
     }
-}
-
-/// Checks that a module exports these functions, with these types.
-///
-/// # Errors
-///
-/// Those of the first function that is not exported so.
-pub(crate) fn check_functions<'m>(
-    alloc: Global,
-    module: &'m Module<'m>,
-    exports: &'m [wc_read::Export<'m>],
-    required: &Map<String, FuncType>,
-) -> Result<(), ValidateFault>
-    requires items { AreExportsIn «module».now exports.now }
-    requires typed { HaveTypes (module_value «module».now) }
-    ensures met { MeetsFunctions «module».now exports.now required.now.entries result }
-    ensures fault { FailsFunctions «module».now exports.now required.now.entries result }
-{
-    let index = typed_functions(alloc, *required.hasher(), module, exports)?;
-    for (name, ty) in required.iter() {
-        check_function(alloc, &index, name.as_str(), ty)?;
-    }
-    Ok(())
 }

@@ -1,38 +1,67 @@
+use Rattle.std.proofs.Common.{◌∙◌, subst, sym}
 use Rattle.wc_read.specs.Imports.{import_values}
-use Rattle.wc_validate.specs.Private.Imports.Contexts.{import_scope}
-use Rattle.wc_validate.proofs.RecorderLemmas.{passed}
-use Rattle.wc_validate.proofs.ValidateLemmas.{cause_is, record_is, recorded_memory}
-use Rattle.wc_validate.specs.Validate.{IsCauseOfImports, library_of}
-use Rattle.wc_validate.specs.Private.ValidationInputs.{validation_input_of}
 use Rattle.wc_read.specs.Modules.{module_value}
+use Rattle.wc_validate.specs.declared.refused.RefusedModule.{RefusedModule}
+use Rattle.wc_validate.specs.Explain.{IsPlaceOfImport}
+use Rattle.wc_validate.specs.Private.Explain.{IsStopIn}
+use Rattle.wc_validate.specs.Private.Imports.Contexts.{import_scope}
+use Rattle.wc_validate.specs.Private.ValidationInputs.{validation_input_of}
+use Rattle.wc_validate.specs.Refused.{IsMemoryRefusal, IsRefusedAt}
+use Rattle.wc_validate.specs.Validate.{IsCauseOfImports, library_of}
+use Rattle.wc_validate.proofs.ExplainLemmas.{import_refused}
+use Rattle.wc_validate.proofs.ImportRecordLemmas.{stop_is_refusal}
+use Rattle.wc_validate.proofs.RefusedLemmas.{failed_on, memory_at}
+use Rattle.wc_validate.proofs.ValidateLemmas.{cause_is, memory_of_imports, record_is, recorded_memory}
 use Rattle.wc_validate.proofs.validate.imports_among.Goals as goal
 
 pub returns-in_err-context-clause-fault : goal.returns-in_err-context-clause-fault
 returns-in_err-context-clause-fault c =
-    passed (IsCauseOfImports (validation_input_of c.args.validation_input) (module_value c.args.module.now)) _ _ c.from_residual.ensures.1 tt
+    failed_on IsMemoryRefusal (λ (x : RefusedModule). IsCauseOfImports (validation_input_of c.args.validation_input) (module_value c.args.module.now) x.fault) _
+    (memory_of_imports (validation_input_of c.args.validation_input) (module_value c.args.module.now)) c.from_residual.ensures.1
 
-pub returns-in_err-recorder-clause-fault : goal.returns-in_err-recorder-clause-fault
-returns-in_err-recorder-clause-fault c =
+pub returns-in_err-context-clause-place : goal.returns-in_err-context-clause-place
+returns-in_err-context-clause-place c =
+    let P = IsPlaceOfImport (validation_input_of c.args.validation_input) (module_value c.args.module.now) in
+    failed_on IsMemoryRefusal (IsRefusedAt P) _ (memory_at P) c.from_residual.ensures.1
+
+pub import_refusal-requires-clause-refused : goal.import_refusal-requires-clause-refused
+import_refusal-requires-clause-refused c =
+    subst (λ z. IsStopIn c.in_ok-context.context z c.in-Err.refused) (c.deref.ensures.value ∙ sym c.deref-in-Err.ensures.value) c.in-Err.ensures.refused
+
+pub returns-clause-fault : goal.returns-clause-fault
+returns-clause-fault c =
     let library = library_of c.args.validation_input.library in
-    passed (IsCauseOfImports (validation_input_of c.args.validation_input) (module_value c.args.module.now)) _ _ c.from_residual-in_err-recorder.ensures.1
+    subst (IsCauseOfImports (validation_input_of c.args.validation_input) (module_value c.args.module.now)) (sym c.import_refusal.ensures.fault)
     (cause_is c.args.validation_input.encoder.now c.in_ok-context.context _ library c.args.module.now.types.items _ c.args.module.now.imports.items
     c.in_ok-context.ensures.name_scope c.in_ok-context.ensures.renames c.in_ok-context.ensures.types c.deref.ensures.value _
-    (c.in_err-recorder.ensures.fault library c.in_ok-context.ensures.arguments))
+    (stop_is_refusal (import_scope c.in_ok-context.context library) (import_values c.deref.result.now) c.in-Err.refused.index c.in-Err.refused.fault
+    (c.in-Err.ensures.refused library c.in_ok-context.ensures.arguments)))
+
+pub returns-clause-place : goal.returns-clause-place
+returns-clause-place c =
+    import_refused (validation_input_of c.args.validation_input) c.args.module.now c.in_ok-context.context _ c.in_ok-context.ensures.name_scope
+    c.in_ok-context.ensures.renames c.in_ok-context.ensures.types c.in_ok-context.ensures.arguments c.deref-in-Err.ensures.value
+    c.import_refusal.result c.in-Err.refused.fault c.import_refusal.ensures.fault c.import_refusal.ensures.place
 
 pub from_recorder-requires : goal.from_recorder-requires
 from_recorder-requires c =
     let library = library_of c.args.validation_input.library in
-    recorded_memory (import_scope c.in_ok-context.context library) (import_values c.deref.result.now) c.in_ok-recorder.recorder
-    (c.in_ok-recorder.ensures.recorded library c.in_ok-context.ensures.arguments)
+    recorded_memory (import_scope c.in_ok-context.context library) (import_values c.deref.result.now) c.in-Ok.recorder
+    (c.in-Ok.ensures.recorded library c.in_ok-context.ensures.arguments)
 
-pub returns-in_err-from_recorder-clause-fault : goal.returns-in_err-from_recorder-clause-fault
-returns-in_err-from_recorder-clause-fault c =
-    passed (IsCauseOfImports (validation_input_of c.args.validation_input) (module_value c.args.module.now)) _ _ c.from_residual-in_err-from_recorder.ensures.1
-    tt
+pub returns-in_err-from_recorder-in-Ok-clause-fault : goal.returns-in_err-from_recorder-in-Ok-clause-fault
+returns-in_err-from_recorder-in-Ok-clause-fault c =
+    failed_on IsMemoryRefusal (λ (x : RefusedModule). IsCauseOfImports (validation_input_of c.args.validation_input) (module_value c.args.module.now) x.fault) _
+    (memory_of_imports (validation_input_of c.args.validation_input) (module_value c.args.module.now)) c.from_residual-in_err-from_recorder-in-Ok.ensures.1
 
-pub returns-clause-recorded : goal.returns-clause-recorded
-returns-clause-recorded c =
+pub returns-in_err-from_recorder-in-Ok-clause-place : goal.returns-in_err-from_recorder-in-Ok-clause-place
+returns-in_err-from_recorder-in-Ok-clause-place c =
+    let P = IsPlaceOfImport (validation_input_of c.args.validation_input) (module_value c.args.module.now) in
+    failed_on IsMemoryRefusal (IsRefusedAt P) _ (memory_at P) c.from_residual-in_err-from_recorder-in-Ok.ensures.1
+
+pub returns-in-Ok-clause-recorded : goal.returns-in-Ok-clause-recorded
+returns-in-Ok-clause-recorded c =
     let library = library_of c.args.validation_input.library in
     record_is c.args.validation_input.encoder.now c.in_ok-context.context _ library c.args.module.now.types.items _ c.args.module.now.imports.items
-    c.in_ok-context.ensures.name_scope c.in_ok-context.ensures.renames c.in_ok-context.ensures.types c.deref.ensures.value c.in_ok-recorder.recorder _
-    (c.in_ok-recorder.ensures.recorded library c.in_ok-context.ensures.arguments) c.in_ok-from_recorder.ensures
+    c.in_ok-context.ensures.name_scope c.in_ok-context.ensures.renames c.in_ok-context.ensures.types c.deref.ensures.value c.in-Ok.recorder _
+    (c.in-Ok.ensures.recorded library c.in_ok-context.ensures.arguments) c.in_ok-from_recorder-in-Ok.ensures

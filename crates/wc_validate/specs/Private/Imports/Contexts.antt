@@ -68,12 +68,9 @@ IsRecordedIn c library before i r = IsImportRecorded (import_scope c library) be
 abbrev pub IsRefusedIn : ImportContext → Option LibraryView → List Entry → Import → ValidateFault → Type 0
 IsRefusedIn c library before i f = IsImportRefusal (import_scope c library) before (import_value i) f
 
--- all imports of the code's are recorded, or why they are not all
+-- all imports of the code's are recorded
 abbrev pub AreRecordedIn : ImportContext → Option LibraryView → List Import → Recorder → Type 0
 AreRecordedIn c library is r = AreRecorded (import_scope c library) (import_values is) r
-
-abbrev pub AreRefusedIn : ImportContext → Option LibraryView → List Import → ValidateFault → Type 0
-AreRefusedIn c library is f = IsImportsRefusal (import_scope c library) (import_values is) f
 
 -- what an import of the code's is, by its original name
 abbrev pub IsClassifiedIn : ImportContext → Option LibraryView → Import → Result ClassifiedImport NameFault → Type 0
@@ -88,9 +85,6 @@ abbrev pub IsOneRefused : {T : Type 0} → ImportContext → Recorder → Import
 IsOneRefused c old i result =
     (library : Option LibraryView) (before : List Entry) → HasLibrary c library → IsRecorderOf old before → IfErr result (IsRefusedIn c library before i)
 
--- all imports were recorded by a recorder, or why they were not all
+-- all imports were recorded by a recorder
 abbrev pub AreAllRecorded : {F : Type 0} → ImportContext → List Import → Result Recorder F → Type 0
 AreAllRecorded c is result = (library : Option LibraryView) → HasLibrary c library → IfOk result (AreRecordedIn c library is)
-
-abbrev pub AreAllRefused : {T : Type 0} → ImportContext → List Import → Result T ValidateFault → Type 0
-AreAllRefused c is result = (library : Option LibraryView) → HasLibrary c library → IfErr result (AreRefusedIn c library is)

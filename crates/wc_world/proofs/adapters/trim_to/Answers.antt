@@ -19,7 +19,7 @@ returns-in-Ok-clause-trimmed c =
     input_trimmed_text c.args.input.now c.requires.needed (module_record c.args.first.now) c.main_realloc-realloc.result c.trim_page_size_log2-page_size_log2.result c.deref-wasm.result.now c.args.names.now.keys c.main_realloc-realloc.ensures (c.trim_page_size_log2-page_size_log2.ensures ∙ ap trim_page_size_log2 c.imported_memory.ensures) c.deref-wasm.ensures.value c.requires.names
     c.in-Ok.bytes.items (ap (option_map library_view) c.requires.trims) c.requires.original c.slices_are_bytes.ensures c.in-Ok.ensures.trimmed
 
-pub returns-in-Err-clause-fault : goal.returns-in-Err-clause-fault
-returns-in-Err-clause-fault c =
+pub returns-in-Err-clause-refusal : goal.returns-in-Err-clause-refusal
+returns-in-Err-clause-refusal c =
     trim_refused c.args.input.now c.requires.needed (module_record c.args.first.now) c.main_realloc-realloc.result c.trim_page_size_log2-page_size_log2.result c.deref-wasm.result.now c.args.names.now.keys c.main_realloc-realloc.ensures (c.trim_page_size_log2-page_size_log2.ensures ∙ ap trim_page_size_log2 c.imported_memory.ensures) c.deref-wasm.ensures.value c.requires.names
-    c.in-Err.fault c.trim_fault.result (ap (option_map library_view) c.requires.trims) c.requires.original c.in-Err.ensures.fault c.trim_fault.ensures
+    c.in-Err.fault c.explain-place.result c.trim_refusal.result (ap (option_map library_view) c.requires.trims) c.requires.original c.in-Err.ensures.fault c.explain-place.ensures c.trim_refusal.ensures

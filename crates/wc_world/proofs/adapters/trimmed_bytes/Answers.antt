@@ -1,8 +1,8 @@
-use Rattle.std.proofs.Common.{inl, refl}
-use Rattle.wc_world.specs.Private.Adapters.{IsInputFault}
-use Rattle.wc_world.specs.declared.fault.WorldFault.TheVariants.{Memory}
-use Rattle.wc_world.proofs.FaultLemmas.{passed_on}
+use Rattle.std.proofs.Common.{inl}
+use Rattle.wc_world.specs.Private.Refused.{IsInputRefusal}
+use Rattle.wc_world.specs.Refused.{IsMemoryRefusal}
+use Rattle.wc_world.proofs.RefusedLemmas.{err_given}
 use Rattle.wc_world.proofs.adapters.trimmed_bytes.Goals as goal
 
-pub returns-in_err-names-clause-fault : goal.returns-in_err-names-clause-fault
-returns-in_err-names-clause-fault c = passed_on (IsInputFault c.args.input.now) c.from_residual.result Memory c.from_residual.ensures.1 (inl refl)
+pub returns-in_err-names-clause-refusal : goal.returns-in_err-names-clause-refusal
+returns-in_err-names-clause-refusal c = err_given (IsInputRefusal c.args.input.now) IsMemoryRefusal c.from_residual.result (λ x memory. inl memory) c.from_residual.ensures.1

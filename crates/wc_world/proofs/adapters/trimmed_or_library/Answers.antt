@@ -4,7 +4,8 @@ use Rattle.std.specs.Option.{option_map}
 use Rattle.wc_adapters.specs.declared.adapters.LibraryInfo.{LibraryInfo}
 use Rattle.wc_adapters.specs.Adapters.{library_view}
 use Rattle.wc_validate.specs.Validate.{module_record}
-use Rattle.wc_world.specs.Private.Adapters.{IsInputFault, main_of, named_adapter}
+use Rattle.wc_world.specs.Private.Adapters.{main_of, named_adapter}
+use Rattle.wc_world.specs.Private.Refused.{IsInputRefusal}
 use Rattle.wc_world.specs.Views.{WorldAdapterView}
 use Rattle.wc_world.specs.World.{IsTrimmedOrLibrary}
 use Rattle.wc_world.specs.WorldViews.{adapter_view}
@@ -12,8 +13,8 @@ use Rattle.wc_world.specs.declared.adapter.WorldAdapter.{WorldAdapter}
 use Rattle.wc_world.proofs.FaultLemmas.{borrowed_library, ok_mapped, passed_on}
 use Rattle.wc_world.proofs.adapters.trimmed_or_library.Goals as goal
 
-pub returns-in_err-first-clause-fault : goal.returns-in_err-first-clause-fault
-returns-in_err-first-clause-fault c = passed_on (IsInputFault c.args.input.now) c.from_residual.result _ c.from_residual.ensures.1 c.in_err-first.ensures.fault
+pub returns-in_err-first-clause-refusal : goal.returns-in_err-first-clause-refusal
+returns-in_err-first-clause-refusal c = passed_on (IsInputRefusal c.args.input.now) c.from_residual.result _ c.from_residual.ensures.1 c.in_err-first.ensures.refusal
 
 pub returns-in-Some-clause-is_adapter : goal.returns-in-Some-clause-is_adapter
 returns-in-Some-clause-is_adapter c =

@@ -8,6 +8,6 @@ use Rattle.wc_world.proofs.adapters.trimmed_record.Goals as goal
 pub returns-in-Ok-clause-recorded : goal.returns-in-Ok-clause-recorded
 returns-in-Ok-clause-recorded c = recorded_input c.args.input.now c.requires.needed None (sym (ap (option_map library_view) c.requires.trims)) c.args.bytes.now c.args.bytes.now (module_record c.in-Ok.record) refl c.in-Ok.ensures.recorded
 
-pub returns-in-Err-clause-fault : goal.returns-in-Err-clause-fault
-returns-in-Err-clause-fault c = λ first trim.
-    minimized_refused c.args.input.now c.requires.needed None (sym (ap (option_map library_view) c.requires.trims)) c.args.bytes.now c.in-Err.fault c.minimized_fault.result first c.trimmed_is_restricted.ensures.collides trim c.in-Err.ensures.fault c.minimized_fault.ensures
+pub returns-in-Err-clause-refusal : goal.returns-in-Err-clause-refusal
+returns-in-Err-clause-refusal c = λ first trim.
+    minimized_refused c.args.input.now c.requires.needed None (sym (ap (option_map library_view) c.requires.trims)) c.args.bytes.now c.in-Err.refused c.minimized_refusal.result first c.trimmed_is_restricted.ensures.collides trim c.in-Err.ensures.refusal c.minimized_refusal.ensures
