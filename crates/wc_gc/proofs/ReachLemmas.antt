@@ -3,7 +3,7 @@ use Rattle.std.proofs.Common.{◌≡◌, ℕ, ◌+◌, ◌-◌, ◌<◌, ◌≤�
 use Rattle.std.proofs.Common.{inl, inr, arith, ◌&&◌, Option, Some, None, append_assoc, append-nil}
 use Rattle.std.proofs.Common.{ltb-true}
 use Rattle.std.proofs.lemmas.Bool.{ltb-false}
-use Rattle.std.specs.Prelude.{IsTrue, nat_lt, Contains, All, ◌↔◌, Result, Ok, Err, OnOk, ⊤}
+use Rattle.std.specs.Prelude.{not, IsTrue, nat_lt, Contains, All, ◌↔◌, Result, Ok, Err, OnOk, ⊤}
 use Rattle.std.proofs.lemmas.List.{take_more, take_all, get_or_append_left, map-append}
 use Rattle.std.proofs.lemmas.List.Elements.{filter-append, filter_passes, All-contains, Contains-get_or}
 use Rattle.std.specs.List.{slice_get, cons_option, list_all}
@@ -24,10 +24,14 @@ use Rattle.std.specs.Option.{option_map, option_map_or, option_to_list}
 use Rattle.std.proofs.lemmas.List.Folds.{list_all-append}
 use Rattle.std.proofs.lemmas.Grind.{flat_map-append}
 use Rattle.std.proofs.Math.Bool.{and-false}
-use Rattle.wc_read.specs.Operators.{InstrValue, instr_value, instr_values}
+use Rattle.wc_read.specs.Operators.{InstrValue, immediates_value, instr_value, instr_values}
+use Rattle.wc_read.specs.Reading.Instructions.{instr_of}
+use Rattle.wc_read.specs.declared.operators.Immediates.{Immediates}
+use Rattle.wc_read.specs.declared.operators.Immediates.TheVariants.{Index as has_index}
+use Rattle.wc_read.specs.declared.operators.Index.{Index}
 use Rattle.wc_read.specs.Bodies.{BodyValue, local_types}
 use Rattle.wc_read.specs.declared.bodies.Locals.{Locals}
-use Rattle.wc_read.specs.References.{refs_of, type_reference, type_refs_of}
+use Rattle.wc_read.specs.References.{is_segment, reference, refs_of, type_reference, type_refs_of}
 use Rattle.wc_read.specs.Types.{FuncTypeValue, func_type_value, type_index, type_indices}
 use Rattle.wc_read.specs.Passing.{ArePassable, IsPassable, IsPassableCode, run_and_left}
 use Rattle.wc_read.specs.declared.operators.Refs.{Refs}
@@ -277,7 +281,7 @@ body_more has m body locals a b c left after i s e f good = record {
 
 -- operators were passed over that name nothing, or memory 0, which was found
 
-finds_old : {L : Type 0} (has : L → ℕ → Bool) (a : Search L) (x : ItemIndex) → finds has a x ≡ true → FindsItems has a a (x ∷ [])
+pub finds_old : {L : Type 0} (has : L → ℕ → Bool) (a : Search L) (x : ItemIndex) → finds has a x ≡ true → FindsItems has a a (x ∷ [])
 finds_old has a x old = grown_old items_decided (finds has a) (finds has a) a.order.items x old (record { present = old; others = λ y new. refl })
 
 finds_passable : {L : Type 0} (has : L → ℕ → Bool) (m : DecodedModule) (a : Search L) (memory : Bool) (i : InstrValue)
@@ -433,3 +437,14 @@ finds_global_then has m a b c t ys r p q =
 
 pub no_item : {X : Type 0} (xs : List X) (i : ℕ) → false ≡ nat_lt i (length xs) → slice_get xs i ≡ None
 no_item xs i e = slice_get_past xs i (ltb-false i (length xs) (sym e))
+
+-- an operator of one index
+
+pub index_refs : (v : Instr) (i : Index) → v.immediates ≡ has_index i → instr_refs (instr_value v) ≡ option_to_list (reference i)
+index_refs v i e = ap (λ (u : Immediates). instr_refs (instr_of v.opcode (immediates_value u))) e ∙ append-nil (option_to_list (reference i))
+
+pub index_in_range : (m : DecodedModule) (v : Instr) (i : Index) → v.immediates ≡ has_index i
+    → is_operator_in_range m (instr_value v) ≡ (list_all (is_in m) (option_to_list (reference i)) && not (is_segment i.kind))
+index_in_range m v i e =
+    ap (λ (u : Immediates). is_operator_in_range m (instr_of v.opcode (immediates_value u))) e
+    ∙ ap (λ (xs : List ItemIndex). list_all (is_in m) xs && not (is_segment i.kind)) (append-nil (option_to_list (reference i)))

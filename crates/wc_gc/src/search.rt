@@ -1,12 +1,12 @@
 //! The search for the items that exports reach.
 
-ghost use Rattle.std.specs.Prelude.{◌≡◌, ◌⊎◌, [], ◌∷◌, All, true, false, IsTrue, None, IsOk, IfOk, IfErr, IfSome, OnOk, ◌↔◌, ◌<◌, ◌≤◌};
+ghost use Rattle.std.specs.Prelude.{◌≡◌, ◌⊎◌, ◌&&◌, not, [], ◌∷◌, All, true, false, IsTrue, None, IsOk, IfOk, IfErr, IfSome, OnOk, ◌↔◌, ◌<◌, ◌≤◌};
 ghost use Rattle.std.specs.List.{list_all};
 ghost use Rattle.std.specs.Option.{option_map, option_to_list};
 ghost use Rattle.wc_read.specs.Bodies.{local_types};
 ghost use Rattle.wc_read.specs.Operators.{instr_value, instr_values};
 ghost use Rattle.wc_read.specs.declared.operators.Space.TheVariants.{Memories};
-ghost use Rattle.wc_read.specs.References.{type_reference, type_refs_of};
+ghost use Rattle.wc_read.specs.References.{is_segment, reference, type_reference, type_refs_of};
 ghost use Rattle.wc_read.specs.Types.{func_type_value};
 ghost use Rattle.wc_read.specs.Inits.{init_value};
 ghost use Rattle.wc_read.specs.BodyOperators.{body_in, body_of, bytes_left, init_in, KeepsLocals, locals_read, next_and_left, operators_left};
@@ -21,8 +21,8 @@ use crate::fault::GcFault;
 use crate::live::{LiveSet, LiveSets};
 use std::alloc::{AllocError, Global};
 use wc_read::{
-    Def, Func, FuncType, Global as ModuleGlobal, Immediates, Init, Instr, Locals, Module,
-    Operators, ReadFault, Refs, Space, TableType, ValType, names_segment, read_init, refs,
+    Def, Func, FuncType, Global as ModuleGlobal, Immediates, Index, IndexKind, Init, Instr, Locals,
+    Module, Operators, ReadFault, Refs, Space, TableType, ValType, names_segment, read_init, refs,
 };
 
 /// The items found so far: as sets, and in the order in which they were found.
@@ -54,6 +54,18 @@ impl<L: LiveSet> Search<L> {
         Ok(())
     }
 
+    /// Finds an item, at once where it was found before.
+    #[inline(always)]
+    fn reach_again(&mut self, item: (Space, u32)) -> Result<(), AllocError>
+        ensures { OnOk result (FindsItems L.has self.old self.new (item ∷ [])) }
+    {
+        if self.live.contains(item) {
+            Ok(())
+        } else {
+            self.reach(item)
+        }
+    }
+
     /// Finds an item where the adapter has it, and answers whether it has.
     fn reach_present(
         &mut self,
@@ -67,7 +79,7 @@ impl<L: LiveSet> Search<L> {
     {
         let there = has_item(adapter, item);
         if there {
-            self.reach(item)?;
+            self.reach_again(item)?;
         }
         Ok(there)
     }
@@ -151,6 +163,38 @@ impl<L: LiveSet> Search<L> {
         adapter: &Module<'_>,
         instr: &Instr<'_>,
     ) -> Result<bool, AllocError>
+        ensures found { OnOk result (FindsItems L.has self.old self.new
+            (present (decoded_module adapter.now) (instr_refs (instr_value instr.now)))) }
+        ensures in_range { IfOk result (λ in_range. in_range
+            ≡ is_operator_in_range (decoded_module adapter.now) (instr_value instr.now)) }
+    {
+        match &instr.immediates {
+            Immediates::Index(index) => self.reach_index(adapter, *index),
+            _ => self.reach_others(adapter, instr),
+        }
+    }
+
+    /// Finds the item that an index names. Answers whether it names one of the adapter, or neither an item nor a segment.
+    #[inline(always)]
+    fn reach_index(&mut self, adapter: &Module<'_>, index: Index) -> Result<bool, AllocError>
+        ensures found { OnOk result (FindsItems L.has self.old self.new
+            (present (decoded_module adapter.now) (option_to_list (reference index)))) }
+        ensures in_range { IfOk result (λ in_range. in_range ≡ (list_all
+            (is_in (decoded_module adapter.now)) (option_to_list (reference index))
+            && not (is_segment index.kind))) }
+    {
+        match index.kind {
+            IndexKind::In(space) => self.reach_present(adapter, (space, index.number)),
+            IndexKind::Elem => Ok(false),
+            IndexKind::Data => Ok(false),
+            IndexKind::Local => Ok(true),
+            IndexKind::Label => Ok(true),
+        }
+    }
+
+    /// Finds the items that an operator of any shape names, as `reach_operator` does.
+    #[inline(never)]
+    fn reach_others(&mut self, adapter: &Module<'_>, instr: &Instr<'_>) -> Result<bool, AllocError>
         ensures found { OnOk result (FindsItems L.has self.old self.new
             (present (decoded_module adapter.now) (instr_refs (instr_value instr.now)))) }
         ensures in_range { IfOk result (λ in_range. in_range

@@ -1,5 +1,5 @@
 use Rattle.std.proofs.Common.{◌≡◌, ◌+◌, ◌<◌, ◌≤◌, ℕ, length, get_or}
-use Rattle.wc_gc.proofs.ranks.Ranks.place.Given as goal
+use Rattle.wc_gc.proofs.ranks.Ranks.position.Given as goal
 
 abbrev pub invariant-loop-passed : goal.invariant-loop-passed
 invariant-loop-passed l = record {

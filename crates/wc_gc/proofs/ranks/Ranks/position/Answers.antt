@@ -2,7 +2,7 @@ use Rattle.std.proofs.Common.{◌-◌, ◌*◌, ◌/◌, ℕ, ap, refl, arith}
 use Rattle.std.proofs.lemmas.List.{get_or_default}
 use Rattle.wc_gc.proofs.RangeLemmas.{ends_before}
 use Rattle.wc_gc.proofs.StartLemmas.{before_start, cut_by, cut_from, cut_within}
-use Rattle.wc_gc.proofs.ranks.Ranks.place.Goals as goal
+use Rattle.wc_gc.proofs.ranks.Ranks.position.Goals as goal
 
 pub loop-passed-init : goal.loop-passed-init
 loop-passed-init c = record {
