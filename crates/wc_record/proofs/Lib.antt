@@ -1,4 +1,5 @@
 pub mod ShapeLemmas
 pub mod UsedLemmas
 pub mod LibraryRoundTripLemmas
+pub mod ListedInterfaceLemmas
 pub mod ChainLemmas

@@ -1,5 +1,5 @@
 -- Lists that are made item by item, of which some items are left.
-use Rattle.std.proofs.Common.{◌≡◌, Bool, true, false, List, [], ◌∷◌, ◌++◌, Option, Some, None, cond, filter, refl, ap, sym, append_assoc, append-nil, ◌∙◌}
+use Rattle.std.proofs.Common.{◌≡◌, List, [], ◌++◌, Option, Some, None, refl, ap, sym, append_assoc, append-nil, ◌∙◌}
 use Rattle.std.specs.List.{cons_option}
 
 -- with what the items give that are left, the list has what all give
@@ -19,10 +19,3 @@ gathered_end give all rest list none p = sym (p ∙ ap (λ zs. list ++ zs) none 
 pub given_one : {A : Type 0} (o : Option A) (xs : List A) → cons_option o xs ≡ cons_option o [] ++ xs
 given_one None xs = refl
 given_one (Some a) xs = refl
-
--- a value that passes a test, before others
-pub filter_one : {A : Type 0} (test : A → Bool) (a : A) (xs : List A) → filter test (a ∷ xs) ≡ filter test (a ∷ []) ++ filter test xs
-filter_one test a xs = by_test (test a) where
-  by_test : (b : Bool) → cond b (a ∷ filter test xs) (filter test xs) ≡ cond b (a ∷ []) [] ++ filter test xs
-  by_test true = refl
-  by_test false = refl

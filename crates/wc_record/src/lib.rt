@@ -15,6 +15,7 @@ mod fault_texts;
 mod imports;
 pub mod laws;
 mod libraries;
+mod listed_interfaces;
 mod maps;
 mod modules;
 mod objects;

@@ -1,16 +1,17 @@
 //! The exported interfaces that exported interfaces use, as lists.
 
-ghost use Rattle.std.specs.Prelude.{◌≡◌, ◌∷◌, ◌++◌, [], IfOk, OnOk, filter, map};
-ghost use Rattle.std.specs.List.{cons_option};
+ghost use Rattle.std.specs.Prelude.{◌≡◌, ◌++◌, [], IfOk, OnOk, map};
+ghost use Rattle.std.specs.List.{cons_option, filter_map};
 ghost use Rattle.wc_encoder.specs.Distinct.{exported_interfaces, item_interface};
 ghost use Rattle.wc_encoder.specs.EncoderParts.{world_exports};
 ghost use Rattle.wc_adapters.specs.Entries.{entries_of};
 ghost use Rattle.wc_resolve.specs.Dependencies.{interface_ids};
 ghost use Rattle.wc_resolve.specs.Views.{item_view};
-ghost use Rattle.wc_world.specs.Used.{has_interface, used_view};
+ghost use Rattle.wc_world.specs.Used.{used_view};
 ghost use Rattle.wc_record.specs.Private.Used.{used_interface_view};
 ghost use Rattle.wc_record.specs.Worlds.{used_interface, used_interfaces};
 
+use crate::listed_interfaces::ListedInterfaces;
 use crate::objects::{begin_object, end_object, put_member};
 use crate::to_json::ToJson;
 use json::Writer;
@@ -85,51 +86,20 @@ fn exported_interfaces(
     interfaces_among(alloc, &metadata.resolve.world(metadata.world).exports)
 }
 
-/// Appends an id that the set has. Any other leaves the list as it is.
-fn add_member(
-    members: &mut Vec<InterfaceId>,
-    set: &Set<InterfaceId>,
-    id: InterfaceId,
-) -> Result<(), AllocError>
-    ensures { OnOk result (interface_ids members.new.items ≡ interface_ids members.old.items
-        ++ filter (has_interface set.now) (id.0 ∷ [])) }
-{
-    if set.contains(&id) {
-        members.push(id)?;
-    }
-    Ok(())
-}
-
-/// The ids that the set has, in the order of the list.
-fn members_of(
-    alloc: Global,
-    set: &Set<InterfaceId>,
-    interfaces: &[InterfaceId],
-) -> Result<Vec<InterfaceId>, AllocError>
-    ensures { IfOk result (λ ids. interface_ids ids.items
-        ≡ filter (has_interface set.now) (interface_ids interfaces.now)) }
-{
-    let mut members = Vec::new(alloc);
-    for id in interfaces {
-        add_member(&mut members, set, *id)?;
-    }
-    Ok(members)
-}
-
-/// Appends an interface that the map has, with those of the exported interfaces that it uses.
+/// Appends an interface that the map has, with those of the listed interfaces that it uses.
 fn add_used(
     alloc: Global,
     list: &mut Vec<UsedInterfaces>,
-    interfaces: &[InterfaceId],
+    listed: &ListedInterfaces<'_>,
     used: &Map<InterfaceId, Set<InterfaceId>>,
     id: InterfaceId,
 ) -> Result<(), AllocError>
     ensures { OnOk result (map used_interface_view list.new.items
         ≡ map used_interface_view list.old.items ++ cons_option
-        (used_interface (interface_ids interfaces.now) (used_view used.now) id.0) []) }
+        (used_interface listed.now (used_view used.now) id.0) []) }
 {
     if let Some(set) = used.get(&id) {
-        let uses = members_of(alloc, set, interfaces)?;
+        let uses = listed.members_of(alloc, set)?;
         list.push(UsedInterfaces {
             interface: id,
             uses,
@@ -138,18 +108,20 @@ fn add_used(
     Ok(())
 }
 
-/// The exported interfaces that the map has, each with those of them that it uses.
+/// The interfaces that the map has, each with those of the listed interfaces that it uses.
 fn used_among(
     alloc: Global,
+    listed: &ListedInterfaces<'_>,
     interfaces: &[InterfaceId],
     used: &Map<InterfaceId, Set<InterfaceId>>,
 ) -> Result<Vec<UsedInterfaces>, AllocError>
     ensures { IfOk result (λ list. map used_interface_view list.items
-        ≡ used_interfaces (interface_ids interfaces.now) (used_view used.now)) }
+        ≡ filter_map (used_interface listed.now (used_view used.now))
+        (interface_ids interfaces.now)) }
 {
     let mut list = Vec::new(alloc);
     for id in interfaces {
-        add_used(alloc, &mut list, interfaces, used, *id)?;
+        add_used(alloc, &mut list, listed, used, *id)?;
     }
     Ok(list)
 }
@@ -165,5 +137,6 @@ pub(crate) fn used_interfaces(
         ≡ used_interfaces (exported_interfaces (world_exports encoder.now)) (used_view used.now)) }
 {
     let interfaces = exported_interfaces(alloc, encoder)?;
-    used_among(alloc, &interfaces, used)
+    let listed = ListedInterfaces::new(alloc, *used.hasher(), &interfaces)?;
+    used_among(alloc, &listed, &interfaces, used)
 }

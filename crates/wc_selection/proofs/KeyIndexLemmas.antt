@@ -38,10 +38,10 @@ in_range_at : (b : Bool) (low n : ℕ) (xs : List ℕ) → low < n → All (λ (
 in_range_at true low n xs lt all = All-cons (λ (p : ℕ). p < n) low xs lt all
 in_range_at false low n xs lt all = all
 
-positions_in : (low n : ℕ) (p : NamedKey → Bool) (keys : List NamedKey) → low + length keys ≤ n → All (λ (x : ℕ). x < n) (positions_from low p keys)
+pub positions_in : {A : Type 0} (low n : ℕ) (p : A → Bool) (xs : List A) → low + length xs ≤ n → All (λ (x : ℕ). x < n) (positions_from low p xs)
 positions_in low n p [] le = All-nil (λ (x : ℕ). x < n)
-positions_in low n p (k ∷ keys) le =
-    in_range_at (p k) low n (positions_from (suc low) p keys) (omega (arith, le)) (positions_in (suc low) n p keys (omega (arith, le)))
+positions_in low n p (k ∷ xs) le =
+    in_range_at (p k) low n (positions_from (suc low) p xs) (omega (arith, le)) (positions_in (suc low) n p xs (omega (arith, le)))
 
 key_there : (front : List NamedKey) (k : NamedKey) (keys : List NamedKey) → key_at (front ++ k ∷ keys) (length front) ≡ k.0
 key_there [] k keys = refl

@@ -1,4 +1,4 @@
--- The positions of keys that are found by their texts.
+-- The positions of what passes a test in a list, and of keys that are found by their texts.
 use Rattle.std.proofs.Common.{◌≡◌, ℕ, ◌+◌, ◌<◌, ◌≤◌, zero, suc, Bool, true, false, true≢false, cond, ◌||◌, List, [], ◌∷◌, ◌++◌, map, length, take, get_or, Contains, String, Global, string_bytes, refl, sym, ap, ◌∙◌, subst, inl, inr, arith}
 use Rattle.std.specs.Borrow.{Bor}
 use Rattle.std.specs.List.{dedup, flat_map, list_any}
@@ -31,18 +31,18 @@ Lists = List (Bor (List ℕ) × Vec ℕ Global)
 abbrev pub has : ℕ → List ℕ → Bool
 has n xs = list_any (nat_eq n) xs
 
--- one key more
+-- one element more
 
 put_after : (b : Bool) (low : ℕ) (xs ys : List ℕ) → cond b (low ∷ (xs ++ ys)) (xs ++ ys) ≡ cond b (low ∷ xs) xs ++ ys
 put_after true low xs ys = refl
 put_after false low xs ys = refl
 
-positions_more : (low n : ℕ) (p : NamedKey → Bool) (keys : List NamedKey) (k : NamedKey) → n ≡ low + length keys
-    → positions_from low p (keys ++ k ∷ []) ≡ positions_from low p keys ++ cond (p k) (n ∷ []) []
+pub positions_more : {A : Type 0} (low n : ℕ) (p : A → Bool) (xs : List A) (k : A) → n ≡ low + length xs
+    → positions_from low p (xs ++ k ∷ []) ≡ positions_from low p xs ++ cond (p k) (n ∷ []) []
 positions_more low n p [] k is = ap (λ m. cond (p k) (m ∷ []) []) (let e : low ≡ n = omega (arith, is) in e)
-positions_more low n p (x ∷ keys) k is =
-    (λ i. cond (p x) (low ∷ positions_more (suc low) n p keys k (omega (arith, is)) i) (positions_more (suc low) n p keys k (omega (arith, is)) i))
-    ∙ put_after (p x) low (positions_from (suc low) p keys) (cond (p k) (n ∷ []) [])
+positions_more low n p (x ∷ xs) k is =
+    (λ i. cond (p x) (low ∷ positions_more (suc low) n p xs k (omega (arith, is)) i) (positions_more (suc low) n p xs k (omega (arith, is)) i))
+    ∙ put_after (p x) low (positions_from (suc low) p xs) (cond (p k) (n ∷ []) [])
 
 length_passed : (keys : List Pair) (k : ℕ) → k < length keys → k ≡ length (map named_key (take k keys))
 length_passed [] k lt = absurd (omega arith)
@@ -60,7 +60,7 @@ positions_next keys k x text old new lt at is more before q =
     ∙ positions_more 0 k (has_text q) (map named_key (take k keys)) (named_key x)
     (let passed = length_passed keys k lt in omega (arith, passed)))
 
--- the positions of keys that pass one of two tests
+-- the positions of what passes one of two tests
 
 or_each : (e a b c : Bool) → a ≡ (b || c) → (e || a) ≡ ((e || b) || (e || c))
 or_each true a b c h = refl
@@ -82,16 +82,16 @@ union_at n low true false xs ys zs h = or_left (nat_eq n low) (has n xs) (has n 
 union_at n low false true xs ys zs h = or_right (nat_eq n low) (has n xs) (has n ys) (has n zs) h
 union_at n low false false xs ys zs h = h
 
-union : (n low : ℕ) (p q : NamedKey → Bool) (keys : List NamedKey)
-    → has n (positions_from low (λ (k : NamedKey). p k || q k) keys) ≡ (has n (positions_from low p keys) || has n (positions_from low q keys))
+pub union : {A : Type 0} (n low : ℕ) (p q : A → Bool) (xs : List A)
+    → has n (positions_from low (λ (x : A). p x || q x) xs) ≡ (has n (positions_from low p xs) || has n (positions_from low q xs))
 union n low p q [] = refl
-union n low p q (k ∷ keys) =
-    union_at n low (p k) (q k) (positions_from (suc low) (λ (x : NamedKey). p x || q x) keys) (positions_from (suc low) p keys)
-    (positions_from (suc low) q keys) (union n (suc low) p q keys)
+union {A} n low p q (k ∷ xs) =
+    union_at n low (p k) (q k) (positions_from (suc low) (λ (x : A). p x || q x) xs) (positions_from (suc low) p xs)
+    (positions_from (suc low) q xs) (union n (suc low) p q xs)
 
-none_from : (low : ℕ) (keys : List NamedKey) → positions_from low (λ (k : NamedKey). false) keys ≡ []
+pub none_from : {A : Type 0} (low : ℕ) (xs : List A) → positions_from low (λ (x : A). false) xs ≡ []
 none_from low [] = refl
-none_from low (k ∷ keys) = none_from (suc low) keys
+none_from low (x ∷ xs) = none_from (suc low) xs
 
 pub listed_same : (n : ℕ) (keys : List NamedKey) (entries : Lists) (texts : List (List ℕ)) → ArePositions keys entries
     → has n (listed_positions entries texts) ≡ has n (positions_from 0 (λ (k : NamedKey). is_in texts k.1) keys)
@@ -173,17 +173,21 @@ put_up : (b : Bool) (low : ℕ) (xs : List ℕ) → Ascends (suc low) xs → Asc
 put_up true low xs up = (omega arith, up)
 put_up false low xs up = weaker low xs up
 
-positions_up : (low : ℕ) (p : NamedKey → Bool) (keys : List NamedKey) → Ascends low (positions_from low p keys)
+positions_up : {A : Type 0} (low : ℕ) (p : A → Bool) (xs : List A) → Ascends low (positions_from low p xs)
 positions_up low p [] = tt
-positions_up low p (k ∷ keys) = put_up (p k) low (positions_from (suc low) p keys) (positions_up (suc low) p keys)
+positions_up low p (x ∷ xs) = put_up (p x) low (positions_from (suc low) p xs) (positions_up (suc low) p xs)
+
+-- the positions of what passes a test, sorted
+pub sorted_from : {A : Type 0} (numbers sorted : List ℕ) (p : A → Bool) (xs : List A) → ((n : ℕ) → has n numbers ≡ has n (positions_from 0 p xs))
+    → AreSorted numbers sorted → sorted ≡ positions_from 0 p xs
+sorted_from numbers sorted p xs same s =
+    one_list 0 sorted (positions_from 0 p xs) (ascends sorted (rises sorted s.ascending)) (positions_up 0 p xs) (λ n. s.same n ∙ same n)
 
 -- the positions of the keys that have one of some texts
 pub sorted_is : (keys : List NamedKey) (entries : Lists) (texts : List (List ℕ)) (sorted : List ℕ) → ArePositions keys entries
     → AreSorted (listed_positions entries texts) sorted → sorted ≡ positions_from 0 (λ (k : NamedKey). is_in texts k.1) keys
-sorted_is keys entries texts sorted are s =
-    one_list 0 sorted (positions_from 0 (λ (k : NamedKey). is_in texts k.1) keys) (ascends sorted (rises sorted s.ascending))
-    (positions_up 0 (λ (k : NamedKey). is_in texts k.1) keys)
-    (λ n. s.same n ∙ listed_same n keys entries texts are)
+sorted_is keys entries texts sorted are =
+    sorted_from (listed_positions entries texts) sorted (λ (k : NamedKey). is_in texts k.1) keys (λ n. listed_same n keys entries texts are)
 
 -- after a sort and without repeats
 

@@ -17,10 +17,10 @@ use Rattle.wc_selection.specs.Texts.{is_in}
 abbrev pub keys_under : List (List ℕ) → List NamedKey → List KeyView
 keys_under texts keys = map (λ (k : NamedKey). k.0) (filter (λ (k : NamedKey). is_in texts k.1) keys)
 
--- the numbers of the keys that pass a test, counted from this one on
-abbrev pub positions_from : ℕ → (NamedKey → Bool) → List NamedKey → List ℕ
+-- the positions of what passes a test in a list, counted from this one on
+abbrev pub positions_from : {A : Type 0} → ℕ → (A → Bool) → List A → List ℕ
 positions_from low is_sought [] = []
-positions_from low is_sought (k ∷ keys) = cond (is_sought k) (low ∷ positions_from (suc low) is_sought keys) (positions_from (suc low) is_sought keys)
+positions_from low is_sought (x ∷ xs) = cond (is_sought x) (low ∷ positions_from (suc low) is_sought xs) (positions_from (suc low) is_sought xs)
 
 abbrev pub has_text : List ℕ → NamedKey → Bool
 has_text text k = bytes_eq text k.1

@@ -11,7 +11,7 @@ use Rattle.wc_record.proofs.used.used_among.Goals as goal
 
 pub loop-id-preserved : goal.loop-id-preserved
 loop-id-preserved c =
-    let one = used_interface (interface_ids c.args.interfaces.now) (used_view c.args.used.now) in
+    let one = used_interface c.args.listed.now (used_view c.args.used.now) in
     let give : List InterfaceId → List UsedInterface = λ ids. filter_map one (interface_ids ids) in
     let ids = c.args.interfaces.now in
     let index = c.loop-id.id-index in
@@ -22,7 +22,7 @@ loop-id-preserved c =
 
 pub returns : goal.returns
 returns c =
-    let one = used_interface (interface_ids c.args.interfaces.now) (used_view c.args.used.now) in
+    let one = used_interface c.args.listed.now (used_view c.args.used.now) in
     let give : List InterfaceId → List UsedInterface = λ ids. filter_map one (interface_ids ids) in
     gathered_end give c.args.interfaces.now _ (map used_interface_view c.loop-id.list.items)
     (ap give (drop_all c.loop-id.id-index c.args.interfaces.now c.loop-id-test.false)) c.loop-id.invariant

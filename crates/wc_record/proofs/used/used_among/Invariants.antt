@@ -9,5 +9,5 @@ use Rattle.wc_record.proofs.used.used_among.Given as goal
 
 abbrev pub invariant-loop-id : goal.invariant-loop-id
 invariant-loop-id l =
-    IsGathered (λ ids. filter_map (used_interface (interface_ids l.interfaces) (used_view l.used)) (interface_ids ids)) l.interfaces
-    (drop l.id-index l.interfaces) (map used_interface_view l.list.items)
+    IsGathered (λ ids. filter_map (used_interface l.listed (used_view l.used)) (interface_ids ids)) l.interfaces (drop l.id-index l.interfaces)
+    (map used_interface_view l.list.items)
