@@ -16,4 +16,5 @@ fn json_laws() {
     wc_json::laws::texts_read_back();
     wc_record::laws::libraries_read_back();
     wc_record::laws::library_texts_read_back();
+    wcplan_command::laws::repeats_are_there();
 }

@@ -6,4 +6,7 @@ mod WorldsLemmas
 mod ProgramLemmas
 mod RunLemmas
 mod NearestLemmas
+mod JsonPlaceLemmas
+mod RepeatedMemberLemmas
+mod RepeatsLawLemmas
 pub mod DetailsLemmas

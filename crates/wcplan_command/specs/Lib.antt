@@ -10,5 +10,7 @@ pub mod Lines
 pub mod ModuleKeys
 pub mod Listing
 pub mod JsonFaults
+pub mod JsonPlace
+pub mod RepeatedMembers
 pub mod Program
 pub mod Private

@@ -1,5 +1,5 @@
 -- The program: what it prints, what becomes of files, and its exit status.
-use Rattle.std.specs.Prelude.{◌≡◌, ◌≢◌, ◌⊎◌, ◌<◌, ◌≤◌, length, ℕ, Bool, List, [], ◌∷◌, ◌++◌, map, codes, true, false, MatchOption, Option, Some, None, IfOk, IfSome, IsSomeAnd, cond, if◌then◌else◌, Ok, Err, Contains, String, string_bytes}
+use Rattle.std.specs.Prelude.{◌≡◌, ◌≢◌, ◌⊎◌, ◌<◌, ℕ, Bool, List, [], ◌∷◌, ◌++◌, map, codes, true, false, MatchOption, Option, Some, None, IfOk, IfSome, IsSomeAnd, cond, if◌then◌else◌, Ok, Err, Contains, String, string_bytes}
 use Rattle.std.specs.declared.alloc.Global.{Global}
 use Rattle.std.specs.Borrow.{Bor}
 use Rattle.std.specs.List.{AllZip}
@@ -40,7 +40,7 @@ use Rattle.wc_gc.specs.declared.fault.GcFault.TheVariants.{Memory as gc_memory}
 use Rattle.wc_ways.specs.Ways.{IsWaysText}
 use Rattle.wc_ways.specs.WaysFaults.{IsWaysFault}
 use Rattle.wc_ways.specs.Nodes.{IsWaysGraph}
-use Rattle.wc_ways.specs.WaysJson.{IsWaysJson}
+use Rattle.wc_ways.specs.Steps.{IsWaysJson}
 use Rattle.wc_selection.specs.KeyNames.{count_unversioned, request_keys}
 use Rattle.wc_selection.specs.Keys.{NamedKey, texts_of}
 use Rattle.wc_selection.specs.ModuleKeys.{required_keys}
@@ -49,9 +49,11 @@ use Rattle.wcplan_command.specs.Arguments.{CommandView, Reading, Stop, WrongView
 use Rattle.wcplan_command.specs.Details.{IsExplanation, fault_lines, unplaced_line}
 use Rattle.wcplan_command.specs.Fault.{NeedsText, program_fault_text, unprinted_text}
 use Rattle.wcplan_command.specs.JsonFaults.{IsReportedJson}
+use Rattle.wcplan_command.specs.JsonPlace.{json_end}
 use Rattle.wcplan_command.specs.Lines.{lines_text}
 use Rattle.wcplan_command.specs.Listing.{listing_text}
 use Rattle.wcplan_command.specs.ExplainedPart.{IsPartExplanation}
+use Rattle.wcplan_command.specs.RepeatedMembers.{IsRepeatedPath}
 use Rattle.wcplan_command.specs.Reading.{AsksMemory, is_standard, read_arguments}
 use Rattle.wcplan_command.specs.ModuleKeys.{AreNamesThere, IsMeant, IsNamesCause, IsNotMeant, IsSelectionCause, hook_of, request_of}
 use Rattle.wc_program.specs.Screen.{Printing, nothing, printed, failed}
@@ -226,22 +228,22 @@ IsReadFault path fails Memory = fails (input_path path) no_memory
 IsReadFault path fails (CannotRead at p) = (at.now ≡ path) × IsUnreadable fails at.now p
 IsReadFault path fails f = ⊥
 
--- why a text has no worlds: it is not JSON, and the byte that is named is in it; or an object has a member twice; or a value
--- is wrong. It is open which byte, and which member
+-- why a text has no worlds: it is not JSON, and the byte that is named is where it stops to be; or an object has a member
+-- twice, and the path that is named leads to the first such member; or a value is wrong
 abbrev pub IsNotJson : List ℕ → ProgramFault → Type 0
 IsNotJson text Memory = Unit {0}
-IsNotJson text (NotJson at) = at ≤ length text
+IsNotJson text (NotJson at) = at ≡ json_end text
 IsNotJson text f = ⊥
 
-abbrev pub IsRepeatedMember : ProgramFault → Type 0
-IsRepeatedMember Memory = Unit {0}
-IsRepeatedMember (RepeatedMember path) = Unit {0}
-IsRepeatedMember f = ⊥
+abbrev pub IsRepeatedMember : List ℕ → ProgramFault → Type 0
+IsRepeatedMember text Memory = Unit {0}
+IsRepeatedMember text (RepeatedMember path) = IsRepeatedPath (document text) (string_bytes path)
+IsRepeatedMember text f = ⊥
 
 abbrev pub IsTextCause : List ℕ → ProgramFault → Type 0
 IsTextCause text Memory = Unit {0}
-IsTextCause text (NotJson at) = IsJsonCause (document text) json_invalid × (at ≤ length text)
-IsTextCause text (RepeatedMember path) = IsJsonCause (document text) json_repeated
+IsTextCause text (NotJson at) = IsJsonCause (document text) json_invalid × (at ≡ json_end text)
+IsTextCause text (RepeatedMember path) = IsJsonCause (document text) json_repeated × IsRepeatedPath (document text) (string_bytes path)
 IsTextCause text (Json (json_wrong path problem)) = IsJsonCause (document text) (json_wrong path problem)
 IsTextCause text f = ⊥
 

@@ -14,8 +14,9 @@ ghost use Rattle.wcplan_command.specs.Private.Runs.{AreWorldsOf, IsMeaningCause,
 use crate::arguments::{Command, is_standard};
 use crate::explained_part::resolve_fault;
 use crate::fault::ProgramFault;
-use crate::json_place::{json_end, repeated_member};
+use crate::json_place::json_end;
 use crate::listing::world_listing;
+use crate::repeated_members::repeated_member;
 use std::alloc::{AllocError, Global};
 use wc_encoder::Metadata;
 use wc_json::{Document, JsonFault, document_from_json};
@@ -146,7 +147,7 @@ fn document_in<'a>(alloc: Global, seed: Seed, text: &str) -> Result<Document, Pr
         Ok(document) => Ok(document),
         Err(JsonFault::Memory) => Err(ProgramFault::Memory),
         Err(JsonFault::NotJson) => Err(not_json(alloc, text)),
-        Err(JsonFault::RepeatedMember) => Err(repeated(alloc, text)),
+        Err(JsonFault::RepeatedMember) => Err(repeated(alloc, seed, text)),
         Err(JsonFault::Wrong { path, problem }) => {
             Err(ProgramFault::Json(JsonFault::Wrong { path, problem }))
         }
@@ -163,11 +164,11 @@ fn not_json<'a>(alloc: Global, text: &str) -> ProgramFault<'a>
     }
 }
 
-/// The fault of a text in which an object has a member twice.
-fn repeated<'a>(alloc: Global, text: &str) -> ProgramFault<'a>
-    ensures { IsRepeatedMember result }
+/// The fault of a text in which an object has a member twice. `seed`: the seed of the sets of names.
+fn repeated<'a>(alloc: Global, seed: Seed, text: &str) -> ProgramFault<'a>
+    ensures { IsRepeatedMember text.now result }
 {
-    match repeated_member(alloc, text) {
+    match repeated_member(alloc, seed, text) {
         Ok(path) => ProgramFault::RepeatedMember(path),
         Err(AllocError) => ProgramFault::Memory,
     }

@@ -111,9 +111,11 @@ pub enum ProgramFault<'a> {
     CannotRead(&'a str, ReadProblem),
     /// The file of the worlds is not text.
     NotText,
-    /// The file of the worlds is not JSON, or nests deeper than 128; it carries the byte at which reading stopped.
+    /// The file of the worlds is not JSON, or nests deeper than 128. It carries the byte at which the first token begins that
+    /// a JSON text can't have there, or where a comma is one too many; the length of a text that only ends early.
     NotJson(usize),
-    /// An object in the file of the worlds has two members of one name; it carries the path of the second.
+    /// An object in the file of the worlds has two members of one name. It carries the path of the second; of several that of
+    /// the first in the order of the text.
     RepeatedMember(String),
     /// The worlds could not be read. It carries why, a value that is wrong.
     Json(JsonFault),

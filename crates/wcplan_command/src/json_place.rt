@@ -1,25 +1,178 @@
-//! Where a text is not JSON, or has a member twice. It is looked for after a fault alone.
+//! Where a text is not JSON. It is looked for after a fault alone.
 
-ghost use Rattle.std.specs.Prelude.{◌<◌, ◌≤◌, IfOk, IfSome, length};
+ghost use Rattle.std.specs.Prelude.{◌≡◌, ◌++◌, [], None, IfOk, OnOk, Some, get_or, drop};
+ghost use Rattle.std.specs.Bool.{MatchBool};
+ghost use Rattle.json.specs.Lex.{class};
+ghost use Rattle.json.specs.Reads.{token_of};
+ghost use Rattle.json.specs.Word.{is_operator, is_space};
+ghost use Rattle.wcplan_command.specs.JsonPlace.{begins, class_of, closing, first_read, innermost, is_begin, is_comma_at, is_inside, is_key, json_end, keyed, lexemes, opening, passed, place, read_view, start_here, starts, stop, take_token, takes_value, valued};
 
-use json::{MAX_DEPTH, Reader, Scratch, Token, Value};
+use json::{MAX_DEPTH, Reader, Scratch, Token};
 use std::alloc::{AllocError, Global};
-use std::collections::BTreeSet;
+use std::collections::VecDeque;
 
-/// What is open in a text whose tokens were read up to a place.
-#[derive(Drop)]
-struct Nesting {
-    /// Of each array and object that is open, from the outermost on, whether it is an object.
-    open: Vec<bool>,
-    /// Whether the last token is a key.
-    is_after_key: bool,
-    /// Whether a value was read that nothing is around.
-    is_done: bool,
+/// The byte at which the first token begins, or the comma is, that a JSON text can't have there: the length of a text that
+/// is JSON, or only the beginning of one.
+///
+/// # Errors
+///
+/// `AllocError`: an allocation failed.
+pub(crate) fn json_end(alloc: Global, text: &str) -> Result<usize, AllocError>
+    ensures { IfOk result (λ at. at ≡ json_end text.now) }
+{
+    let starts = lexeme_starts(alloc, text.as_bytes())?;
+    let mut scratch = Scratch::new(alloc);
+    let mut reader = Reader::new(text, &mut scratch)?;
+    stop_of(alloc, text.as_bytes(), &starts, &mut reader)
 }
 
-impl Nesting {
-    /// Takes up a token that may come next. The answer is whether it may.
-    fn take(&mut self, token: Token<'_>) -> Result<bool, AllocError> {
+/// The byte at which the tokens of a reader stop, whose text has lexemes that begin at these bytes.
+fn stop_of(
+    alloc: Global,
+    text: &[u8],
+    starts: &[usize],
+    reader: &mut Reader<'_>,
+) -> Result<usize, AllocError>
+    ensures { IfOk result (λ at. at ≡ stop text.now first_read starts.now reader.old) }
+{
+    let mut read = Read {
+        last: Last::Begin,
+        opened: VecDeque::new(alloc),
+    };
+    let mut rest = starts;
+    while let Some(token) = reader.next() {
+        let at = place(text, rest, is_inside(&read));
+        let lexemes = lexemes(read.last, token);
+        if !read.take(token)? {
+            return Ok(at);
+        }
+        rest = without_first(rest, lexemes);
+    }
+    Ok(place(text, rest, is_inside(&read)))
+}
+
+/// The byte at which the next lexeme begins, or where a value ended in a list or an object, that after a comma; the length
+/// of the text, if there is none. `starts`: the bytes at which lexemes begin that are left.
+fn place(text: &[u8], starts: &[usize], is_inside: bool) -> usize
+    ensures { result ≡ place text.now starts.now is_inside }
+{
+    let first = start_at(starts, 0, text.len());
+    if is_inside && is_comma_at(text, first) {
+        start_at(starts, 1, text.len())
+    } else {
+        first
+    }
+}
+
+/// Of the bytes at which lexemes begin the one of this index, or the end where there is none.
+fn start_at(starts: &[usize], index: usize, end: usize) -> usize
+    ensures { result ≡ get_or starts.now index end }
+{
+    match starts.get(index) {
+        Some(at) => *at,
+        None => end,
+    }
+}
+
+/// The list without its first items.
+fn without_first(starts: &[usize], count: usize) -> &[usize]
+    ensures { result.now ≡ drop count starts.now }
+{
+    match starts.get(count..) {
+        Some(rest) => rest,
+        None => &[],
+    }
+}
+
+/// Whether this byte of a text is a comma.
+fn is_comma_at(text: &[u8], at: usize) -> bool
+    ensures { result ≡ is_comma_at text.now at }
+{
+    match text.get(at) {
+        Some(c) => *c == b',',
+        None => false,
+    }
+}
+
+/// The last token that was read.
+#[derive(Clone, Copy)]
+enum Last {
+    /// There is none, or it opened an array or an object.
+    Begin,
+    /// A key.
+    Key,
+    /// A value ended with it.
+    Value,
+}
+
+/// Whether nothing or a bracket was read.
+fn is_begin(last: Last) -> bool
+    ensures { result ≡ is_begin last }
+{
+    match last {
+        Last::Begin => true,
+        Last::Key | Last::Value => false,
+    }
+}
+
+/// Whether a key was read.
+fn is_key(last: Last) -> bool
+    ensures { result ≡ is_key last }
+{
+    match last {
+        Last::Key => true,
+        Last::Begin | Last::Value => false,
+    }
+}
+
+/// How many lexemes a token takes after the last one: itself, a comma between values, and the colon of a key.
+fn lexemes(last: Last, token: Token<'_>) -> usize
+    ensures { result ≡ lexemes last (token_of token.entry) }
+{
+    match (last, token) {
+        (_, Token::EndObject | Token::EndArray) => 1,
+        (Last::Value, Token::Key(_)) => 3,
+        (Last::Begin | Last::Key, Token::Key(_)) => 2,
+        (Last::Value, _) => 2,
+        (Last::Begin | Last::Key, _) => 1,
+    }
+}
+
+/// What was read of a text.
+#[derive(Drop)]
+struct Read {
+    last: Last,
+    /// Of each array and object that is open, from the innermost on, whether it is an object.
+    opened: VecDeque<bool>,
+}
+
+/// Whether a value ended in an array or an object.
+fn is_inside(read: &Read) -> bool
+    ensures { result ≡ is_inside (read_view read.now) }
+{
+    match (read.last, innermost(&read.opened)) {
+        (Last::Value, Some(_)) => true,
+        (Last::Begin | Last::Key, _) | (Last::Value, None) => false,
+    }
+}
+
+/// Whether the innermost of what is open is an object.
+fn innermost(opened: &VecDeque<bool>) -> Option<bool>
+    ensures { result ≡ innermost opened.now.items }
+{
+    match opened.front() {
+        Some(is_object) => Some(*is_object),
+        None => None,
+    }
+}
+
+impl Read {
+    /// Takes up a token. The answer is whether it may come next.
+    fn take(&mut self, token: Token<'_>) -> Result<bool, AllocError>
+        ensures { IfOk result (λ b. MatchBool b
+            (take_token (read_view self.old) (token_of token.entry) ≡ Some (read_view self.new))
+            (take_token (read_view self.old) (token_of token.entry) ≡ None)) }
+    {
         match token {
             Token::Bad => Ok(false),
             Token::Key(_) => Ok(self.take_key()),
@@ -28,197 +181,180 @@ impl Nesting {
             Token::BeginObject => self.take_begin(true),
             Token::BeginArray => self.take_begin(false),
             Token::String(_) | Token::Number(_) | Token::Bool(_) | Token::Null => {
-                let is_due = self.is_value_due();
-                self.end_value();
-                Ok(is_due)
+                Ok(self.take_value())
             }
         }
     }
 
     /// Whether a value may come next.
-    fn is_value_due(&self) -> bool {
-        match self.open.last() {
-            Some(true) => self.is_after_key,
+    fn takes_value(&self) -> bool
+        ensures { result ≡ takes_value (read_view self.now) }
+    {
+        match innermost(&self.opened) {
+            Some(true) => is_key(self.last),
             Some(false) => true,
-            None => !self.is_done,
+            None => is_begin(self.last),
         }
+    }
+
+    /// Takes up a value that is no array and no object.
+    fn take_value(&mut self) -> bool
+        ensures { MatchBool result (valued (read_view self.old) ≡ Some (read_view self.new))
+            (valued (read_view self.old) ≡ None) }
+    {
+        if !self.takes_value() {
+            return false;
+        }
+        self.last = Last::Value;
+        true
     }
 
     /// Takes up a key, which comes in an object, and not after a key.
-    fn take_key(&mut self) -> bool {
-        let is_due = self.open.last() == Some(&true) && !self.is_after_key;
-        self.is_after_key = true;
-        is_due
+    fn take_key(&mut self) -> bool
+        ensures { MatchBool result (keyed (read_view self.old) ≡ Some (read_view self.new))
+            (keyed (read_view self.old) ≡ None) }
+    {
+        match (self.last, innermost(&self.opened)) {
+            (Last::Begin | Last::Value, Some(true)) => {
+                self.last = Last::Key;
+                true
+            }
+            (Last::Key, _) | (_, Some(false)) | (_, None) => false,
+        }
     }
 
     /// Takes up the beginning of an object or an array. No more than 128 may be open.
-    fn take_begin(&mut self, is_object: bool) -> Result<bool, AllocError> {
-        let is_due = self.is_value_due() && self.open.len() < MAX_DEPTH;
-        self.open.push(is_object)?;
-        self.is_after_key = false;
-        Ok(is_due)
+    fn take_begin(&mut self, is_object: bool) -> Result<bool, AllocError>
+        ensures { IfOk result (λ b. MatchBool b
+            (opening is_object (read_view self.old) ≡ Some (read_view self.new))
+            (opening is_object (read_view self.old) ≡ None)) }
+    {
+        if !self.takes_value() || self.opened.len() >= MAX_DEPTH {
+            return Ok(false);
+        }
+        self.opened.push_front(is_object)?;
+        self.last = Last::Begin;
+        Ok(true)
     }
 
     /// Takes up the end of an object or an array.
-    fn take_end(&mut self, is_object: bool) -> bool {
-        let is_due = !self.is_after_key && self.open.pop() == Some(is_object);
-        self.end_value();
-        is_due
-    }
-
-    /// A value ends here.
-    fn end_value(&mut self) {
-        self.is_after_key = false;
-        self.is_done = self.open.is_empty();
-    }
-}
-
-/// The byte at which the first token begins, or the comma is, that a JSON text can't have there: the length of a text that
-/// is JSON, or only the beginning of one. That it is this byte is in no contract.
-///
-/// # Errors
-///
-/// `AllocError`: an allocation failed.
-pub(crate) fn json_end(alloc: Global, text: &str) -> Result<usize, AllocError>
-    ensures { IfOk result (λ at. at ≤ length text.now) }
-{
-    let mut scratch = Scratch::new(alloc);
-    let mut reader = Reader::new(text, &mut scratch)?;
-    let mut nesting = Nesting {
-        open: Vec::new(alloc),
-        is_after_key: false,
-        is_done: false,
-    };
-    let mut at = token_start(text, reader.offset());
-    while let Some(token) = reader.next() {
-        if !nesting.take(token)? {
-            return Ok(at);
-        }
-        at = token_start(text, reader.offset());
-        // The reader passes a comma after each value.
-        if let Some(comma) = comma_after_all(text, at, nesting.is_done) {
-            return Ok(comma);
+    fn take_end(&mut self, is_object: bool) -> bool
+        ensures { MatchBool result
+            (closing is_object self.old.last self.old.opened.items ≡ Some (read_view self.new))
+            (closing is_object self.old.last self.old.opened.items ≡ None) }
+    {
+        match self.opened.pop_front() {
+            Some(innermost) => {
+                if is_key(self.last) || innermost != is_object {
+                    return false;
+                }
+                self.last = Last::Value;
+                true
+            }
+            None => false,
         }
     }
-    Ok(text.len())
 }
 
-/// Where a comma is that ends before this byte, but for blanks, if a value was read that nothing is around.
-fn comma_after_all(text: &str, end: usize, is_done: bool) -> Option<usize>
-    ensures { IfSome result (λ at. at < length text.now) }
+/// Where a byte is: between lexemes, or in one.
+#[derive(Clone, Copy)]
+enum Mode {
+    Between,
+    InWord,
+    InString,
+    InEscape,
+}
+
+/// What a byte can begin.
+#[derive(Clone, Copy)]
+enum Class {
+    Quote,
+    Backslash,
+    Operator,
+    Space,
+    Other,
+}
+
+/// The bytes at which the lexemes of a text begin: brackets, commas, colons, strings, numbers and names.
+fn lexeme_starts(alloc: Global, text: &[u8]) -> Result<Vec<usize>, AllocError>
+    ensures { IfOk result (λ v. v.items ≡ starts Mode.Between 0 text.now) }
 {
-    if is_done {
-        comma_before(text, end)
+    let mut found = Vec::new(alloc);
+    let mut mode = Mode::Between;
+    for (at, c) in text.iter().enumerate() {
+        let class = class_of(*c);
+        put_start(&mut found, at, begins(mode, class))?;
+        mode = passed(mode, class);
+    }
+    Ok(found)
+}
+
+/// Appends a byte, if a lexeme begins there.
+fn put_start(found: &mut Vec<usize>, at: usize, begins: bool) -> Result<(), AllocError>
+    ensures { OnOk result (found.new.items ≡ found.old.items ++ start_here begins at []) }
+{
+    if begins {
+        found.push(at)?;
+    }
+    Ok(())
+}
+
+/// Whether a lexeme begins at a byte of this class.
+fn begins(mode: Mode, class: Class) -> bool
+    ensures { result ≡ begins mode class }
+{
+    match (mode, class) {
+        (Mode::Between, Class::Space) => false,
+        (Mode::Between, Class::Quote | Class::Backslash | Class::Operator | Class::Other) => true,
+        (Mode::InWord, Class::Operator) => true,
+        (Mode::InWord, Class::Quote | Class::Backslash | Class::Space | Class::Other) => false,
+        (Mode::InString | Mode::InEscape, _) => false,
+    }
+}
+
+/// Where the next byte is.
+fn passed(mode: Mode, class: Class) -> Mode
+    ensures { result ≡ passed mode class }
+{
+    match (mode, class) {
+        (Mode::Between, Class::Quote) => Mode::InString,
+        (Mode::Between | Mode::InWord, Class::Operator | Class::Space) => Mode::Between,
+        (Mode::Between, Class::Backslash | Class::Other) => Mode::InWord,
+        (Mode::InWord, Class::Quote | Class::Backslash | Class::Other) => Mode::InWord,
+        (Mode::InString, Class::Quote) => Mode::Between,
+        (Mode::InString, Class::Backslash) => Mode::InEscape,
+        (Mode::InString, Class::Operator | Class::Space | Class::Other) => Mode::InString,
+        (Mode::InEscape, _) => Mode::InString,
+    }
+}
+
+/// What a byte can begin.
+fn class_of(c: u8) -> Class
+    ensures { result ≡ class_of (class c) }
+{
+    if c == b'"' {
+        Class::Quote
+    } else if c == b'\\' {
+        Class::Backslash
+    } else if is_operator(c) {
+        Class::Operator
+    } else if is_space(c) {
+        Class::Space
     } else {
-        None
+        Class::Other
     }
 }
 
-/// Where a comma is, if it is the last byte before this one but for blanks.
-fn comma_before(text: &str, end: usize) -> Option<usize>
-    ensures { IfSome result (λ at. at < length text.now) }
+/// Whether a byte is a bracket, a colon or a comma.
+fn is_operator(c: u8) -> bool
+    ensures { result ≡ is_operator c }
 {
-    let front = text.as_bytes().get(..end)?;
-    let blanks = front.iter().rev().take_while(|c| is_blank(**c)).count();
-    let last = front.len().checked_sub(blanks)?.checked_sub(1)?;
-    match front.get(last) {
-        Some(b',') => Some(last),
-        _ => None,
-    }
+    c == b'{' || c == b'}' || c == b'[' || c == b']' || c == b':' || c == b','
 }
 
-/// Where a token begins that follows this byte and blanks; at the end of the text, if none does.
-fn token_start(text: &str, offset: usize) -> usize
-    ensures { result ≤ length text.now }
+/// Whether a byte is a blank between lexemes.
+fn is_space(c: u8) -> bool
+    ensures { result ≡ is_space c }
 {
-    let Some(rest) = text.as_bytes().get(offset..) else {
-        return text.len();
-    };
-    let blanks = rest.iter().take_while(|c| is_blank(**c)).count();
-    if blanks < rest.len() {
-        offset + blanks
-    } else {
-        text.len()
-    }
-}
-
-/// Whether a byte is a blank between tokens.
-fn is_blank(c: u8) -> bool {
     c == b' ' || c == b'\t' || c == b'\n' || c == b'\r'
-}
-
-/// The path of the first member of a text whose object has another of its name before, as `worlds[0].name`; empty if there
-/// is none. That it leads to one is in no contract.
-///
-/// # Errors
-///
-/// `AllocError`: an allocation failed.
-pub(crate) fn repeated_member(alloc: Global, text: &str) -> Result<String, AllocError> {
-    let mut scratch = Scratch::new(alloc);
-    match Value::parse(alloc, text, &mut scratch) {
-        Ok(value) => without_dot(alloc, &path_in(alloc, &value)?),
-        Err(json::Error::OutOfMemory) => Err(AllocError),
-        Err(_) => Ok(String::new(alloc)),
-    }
-}
-
-/// A path without a dot at its beginning.
-fn without_dot(alloc: Global, path: &str) -> Result<String, AllocError> {
-    match path.strip_prefix('.') {
-        Some(rest) => String::from_str(alloc, rest),
-        None => String::from_str(alloc, path),
-    }
-}
-
-/// The path of a member that is repeated, from a value on; empty if there is none.
-#[cycle(path)]
-fn path_in(alloc: Global, value: &Value<'_>) -> Result<String, AllocError> {
-    match value {
-        Value::Array(items) => path_in_items(alloc, items),
-        Value::Object(members) => path_in_members(alloc, members),
-        _ => Ok(String::new(alloc)),
-    }
-}
-
-/// The same from a list on.
-#[cycle(path)]
-fn path_in_items(alloc: Global, items: &Vec<Value<'_>>) -> Result<String, AllocError> {
-    for (index, item) in items.iter().enumerate() {
-        let path = path_in(alloc, item)?;
-        if !path.is_empty() {
-            return format!(in alloc; "[{index}]{path}");
-        }
-    }
-    Ok(String::new(alloc))
-}
-
-/// The same from an object on.
-#[cycle(path)]
-fn path_in_members(alloc: Global, members: &Vec<(&str, Value<'_>)>) -> Result<String, AllocError> {
-    let mut seen: BTreeSet<&str> = BTreeSet::new(alloc);
-    for member in members {
-        if !seen.insert(member.0)? {
-            return step(alloc, member.0);
-        }
-        let path = path_in(alloc, &member.1)?;
-        if !path.is_empty() {
-            let step = step(alloc, member.0)?;
-            return format!(in alloc; "{step}{path}");
-        }
-    }
-    Ok(String::new(alloc))
-}
-
-/// `.NAME`, or `["NAME"]` where the name is not of letters, digits, `-` and `_` alone.
-fn step(alloc: Global, name: &str) -> Result<String, AllocError> {
-    if !name.is_empty() && name.as_bytes().iter().all(|c| is_word_byte(*c)) {
-        format!(in alloc; ".{name}")
-    } else {
-        format!(in alloc; "[\"{name}\"]")
-    }
-}
-
-/// Whether a byte is a letter or digit of ASCII, `-` or `_`.
-fn is_word_byte(c: u8) -> bool {
-    c.is_ascii_alphanumeric() || c == b'-' || c == b'_'
 }

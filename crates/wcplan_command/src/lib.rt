@@ -14,12 +14,14 @@ mod file_names;
 mod inputs;
 mod json_faults;
 mod json_place;
+pub mod laws;
 mod lines;
 mod listing;
 mod module_keys;
 mod nearest;
 mod outputs;
 mod program;
+mod repeated_members;
 mod usage;
 
 pub use arguments::{Command, NoCommand, WrongArgument, parse};
