@@ -3,9 +3,9 @@
 
     checks/c-examples.py [--library FOLDER] [--cases N] [PROGRAM]
 
-Each is compiled with cc and with c++, all warnings refused, and linked with libnuigatre.a, and with a shared library that
-is made of it: by the flags that pkg-config reads from nuigatre.pc beside it, where there is pkg-config. The trimmed adapters
-have to be those of examples/, and plans those of PROGRAM, the script `wcplan` unless another is given. Then
+Each is compiled with cc as C99 and with c++ as C++11, all warnings refused, and linked with libnuigatre.a, and with a shared
+library that is made of it: by the flags that pkg-config reads from nuigatre.pc beside it, where there is pkg-config. The
+trimmed adapters have to be those of examples/, and plans those of PROGRAM, the script `wcplan` unless another is given. Then
 checks/c/fuzz_calls.c asks N damaged cases (2000). FOLDER has the library; else it is the one that cargo links. What differs is
 printed, and the status is 1. It needs cc and c++; rust/check runs it.
 """
@@ -22,7 +22,7 @@ from rust_examples import PLANS, TOP, lines_of
 
 INCLUDE = os.path.join(TOP, "include")
 WARNINGS = ["-Wall", "-Wextra", "-Werror"]
-COMPILERS = {"cc": ["cc"], "c++": ["c++", "-x", "c++"]}
+COMPILERS = {"cc": ["cc", "-std=c99", "-pedantic"], "c++": ["c++", "-x", "c++", "-std=c++11"]}
 # the adapter, what is trimmed of it, and the arguments of the example
 TRIMMED = [("adapter.wasm", "trimmed.wasm", ["--realloc", "cabi_realloc", "size_of"])]
 

@@ -1,190 +1,160 @@
 #!/usr/bin/env python3
 """Compares the slots that the example `encoder` of the Rust crate prints with the shims of another linker's components.
 
-    checks/rust-shim.py
+    checks/rust-shim.py [--worlds N] [--seed SEED]
 
 Rust's `wasm-component-ld` links the programs of `checks/c/wasi` and examples/wasi/hello.c with the adapter of commands that
-it carries (checks/adapters.py). The main module of each component, and the adapter, are passed to the example. The functions
-of the shim in the component have to have the types of its slots, in their order, and the component has to fill them with
-what they are named after. Shims that differ are printed, and how many agree. The status is 1 where one differs, or where there is none to compare. It needs cargo, the static
-library, a rustup toolchain, clang, lld, wasi-libc and libclang-rt-dev-wasm32; rust/check runs it where these are there.
+it carries (checks/adapters.py). One of `wit-component` 0.246 or later encodes N random worlds too (20), with asynchronous
+functions, futures, streams and resources, for main modules that import the built-ins for these, half of them over an adapter
+that imports some (checks/built_in_worlds.py); where a world is refused, its number is printed. The main module of each
+component, and the adapter, are passed to the example. The functions of the shim in the component have to have the types of
+its slots, in their order, and the component has to fill them with what they are named after, with the same options
+(checks/shim_of_component.py). Shims that differ are printed, and how many agree. The status is 1 where one differs, or where
+none agrees of those that can be compared. It needs cargo, the static library and a rustup toolchain, and for the programs in C
+clang, lld, wasi-libc and libclang-rt-dev-wasm32: what can't be linked is not compared. rust/check runs it.
 """
 import argparse
 import glob
+import json
 import os
+import re
+import shlex
+import shutil
 import subprocess
 import sys
 import tempfile
 
 import adapters
-from module_bytes import content, exported_names, name_at, number_at, sections
+from built_in_worlds import ROOT, World, module_of
+from module_bytes import exported_names, name_at, section, sections
 from rust_examples import TOP, built_example, lines_of
+from shim_of_component import Component
 
 WORLDS = os.path.join(TOP, "examples", "wasi", "wasi-command.json")
 SOURCES = sorted(glob.glob(os.path.join(TOP, "checks", "c", "wasi", "*.c"))) + [os.path.join(TOP, "examples", "wasi", "hello.c")]
-ADAPTER, EXPORT = "wasi_snapshot_preview1", "wasi:cli/run@0.2.6#run"
-TYPES = {0x7f: "i32", 0x7e: "i64", 0x7d: "f32", 0x7c: "f64"}
+ADAPTER, OLD = "wasi_snapshot_preview1", "old"
+KEY = "wasi:cli/run@0.2.6"
+WRITE = ("wasi:io/streams@0.2.6", "[method]output-stream.blocking-write-and-flush", ["i32"] * 4, [])
+# in the place of wasm-ld: it puts a module where the linked one is wanted
+LINKED = """#!/bin/sh
+while [ $# -gt 1 ]; do
+    [ "$1" != -o ] || exec cp {main} "$2"
+    shift
+done
+"""
 
 
-def items(content, read):
-    """The items of a vector, each by a function that gives it and the index after it."""
-    count, at = number_at(content, 0)
-    for _ in range(count):
-        item, at = read(content, at)
-        yield item
+class Compared:
+    """Counts shims and slots that agree, and shims that differ."""
 
+    def __init__(self, made):
+        self.made, self.example = made, built_example("encoder")
+        self.shims = self.slots = self.different = 0
 
-def vector_at(content, at, read):
-    """The items of a vector that begins at an index, and the index after it."""
-    count, at = number_at(content, at)
-    found = []
-    for _ in range(count):
-        item, at = read(content, at)
-        found.append(item)
-    return found, at
-
-
-def function_type(content, at):
-    """A function type, as the Rust crate prints it."""
-    params, at = vector_at(content, at + 1, lambda content, at: (TYPES[content[at]], at + 1))
-    results, at = vector_at(content, at, lambda content, at: (TYPES[content[at]], at + 1))
-    shown = results[0] if len(results) == 1 else "(%s)" % ", ".join(results)
-    return "(%s) -> %s" % (", ".join(params), shown), at
-
-
-def types_of_shim(module):
-    parts = dict(sections(module))
-    types = list(items(parts[1], function_type))
-    return [types[index] for index in items(parts[3], number_at)]
-
-
-class Component:
-    """What the fixup of a component is instantiated with: of each of its functions what it is, as a slot is named."""
-
-    def __init__(self, data):
-        self.modules, self.instances, self.core_functions, self.core_instances, self.functions = [], [], [], [], []
-        readers = {2: self.core_instance, 6: self.alias, 8: self.canonical, 10: self.imported}
-        for id, content in sections(data):
-            if id == 1:
-                self.modules.append(content)
-            elif id in readers:
-                list(items(content, readers[id]))
-
-    def core_instance(self, content, at):
-        if content[at] == 0:
-            module, at = number_at(content, at + 1)
-            given, at = vector_at(content, at, self.argument)
-            self.core_instances.append((module, given))
+    def compare(self, component, worlds, main, adapter):
+        """Compares the shim of a component with the slots for a main module and an adapter, given as a name and a file."""
+        name, path = adapter or (OLD, None)
+        wanted = component.slots()
+        if wanted is None:
+            return
+        arguments = [self.made, worlds, "wasi:cli/command", main]
+        arguments += [name + "=" + path, KEY] if path else []
+        printed = [line.split("\t", 2) for line in lines_of([self.example, *arguments], self.made)]
+        found = [named(words[2]) for words in printed if words[0] == "slot"]
+        # these linkers lower an asynchronous function indirectly even where it needs no memory
+        wanted = [slot for slot in wanted if not slot.endswith("\tASYNC")]
+        if found == wanted:
+            self.shims, self.slots = self.shims + 1, self.slots + len(found)
         else:
-            given, at = vector_at(content, at + 1, self.inline_export)
-            self.core_instances.append((None, given))
-        return None, at
-
-    @staticmethod
-    def argument(content, at):
-        name, at = name_at(content, at)
-        index, at = number_at(content, at + 1)
-        return (name, index), at
-
-    @staticmethod
-    def inline_export(content, at):
-        name, at = name_at(content, at)
-        kind = content[at]
-        index, at = number_at(content, at + 1)
-        return (name, kind, index), at
-
-    def alias(self, content, at):
-        sort, core = content[at], content[at] == 0 and content[at + 1]
-        at += 2 if sort == 0 else 1
-        kind = content[at]
-        index, at = number_at(content, at + 1)
-        if kind == 2:
-            return None, number_at(content, at)[1]
-        name, at = name_at(content, at)
-        if sort == 0 and core == 0:
-            self.core_functions.append("adapt-%s-%s" % (ADAPTER, name))
-        elif sort == 1:
-            self.functions.append("indirect-%s-%s" % (self.instances[index], name))
-        elif sort == 5:
-            self.instances.append(name)
-        return None, at
-
-    def canonical(self, content, at):
-        kind = content[at]
-        index, at = number_at(content, at + (2 if kind < 2 else 1))
-        if kind < 2:
-            _, at = vector_at(content, at, lambda content, at: (None, number_at(content, at + 1)[1] if 3 <= content[at] <= 5 else at + 1))
-        if kind == 0:
-            _, at = number_at(content, at)
-            self.functions.append("lifted")
-        else:
-            self.core_functions.append(self.functions[index] if kind == 1 else "built in")
-        return None, at
-
-    def imported(self, content, at):
-        name, at = name_at(content, at + 1)
-        kind = content[at]
-        if kind == 3:
-            # a type: equal to one, or a resource
-            return None, (number_at(content, at + 2)[1] if content[at + 1] == 0 else at + 2)
-        _, at = number_at(content, at + 1)
-        if kind == 5:
-            self.instances.append(name)
-        elif kind == 1:
-            self.functions.append("indirect-$root-" + name)
-        return None, at
-
-    def slots(self):
-        """The slots of the shim, their names and their types; None where there is no shim."""
-        shims = [module for module in self.modules if "$imports" in exported_names(module)]
-        fixups = [given for module, given in self.core_instances
-                  if module is not None and b"$imports" in content(self.modules[module], 2)]
-        if not shims:
-            return None
-        exports = self.core_instances[dict(fixups[0])[""]][1]
-        functions = {name: self.core_functions[index] for name, kind, index in exports if kind == 0}
-        names = [functions[str(number)] for number in range(len(functions))]
-        return ["%s\t%s" % slot for slot in zip(names, types_of_shim(shims[0]), strict=True)]
+            self.different += 1
+            print("\n".join(["wanted", *wanted, "found", *found]))
 
 
-def compared(example, main, adapter, wanted, made):
-    """How many slots agree; None where they don't, which is printed."""
-    path = os.path.join(made, "main.wasm")
+def named(slot):
+    """A slot as it is printed, under the name that the component has for it: of a built-in its own."""
+    slot = re.sub(r"^[^\t]*\[((?:future|stream)-(?:read|write))-\w+\][^\t]*", r"\1", slot)
+    return re.sub(r"^task-return-[^\t]*", "task.return", slot).replace("[async-lower]", "", 1)
+
+
+def is_known(linker):
+    """Whether the linker rests on `wit-component` 0.246 or a later version: before, `task.return` had not the options by which
+    the function is lifted."""
+    versions = re.findall(rb"wit-component-0\.(\d+)\.", adapters.read(linker))
+    return bool(versions) and min(map(int, versions)) >= 246
+
+
+def has_libc():
+    """Whether programs in C can be compiled and linked."""
+    return os.path.exists(os.path.join(adapters.LIBRARIES, "libc.a")) and shutil.which("clang") and shutil.which("wasm-ld")
+
+
+def compare_programs(compared, linker, adapter):
+    """Compares the shims of the programs in C."""
+    path, component = os.path.join(compared.made, "main.wasm"), os.path.join(compared.made, "component.wasm")
+    for source in SOURCES:
+        object = os.path.join(compared.made, "object.o")
+        subprocess.run(["clang", "--target=wasm32-wasi", "-O1", "-c", source, "-o", object], check=True)
+        if adapters.component(linker, [object], ["--wasi-adapter", "command"], component):
+            linked = Component(adapters.read(component), ADAPTER)
+            write(path, linked.modules[0])
+            compared.compare(linked, WORLDS, path, (ADAPTER, adapter))
+
+
+def write(path, data):
     with open(path, "wb") as file:
-        file.write(main)
-    arguments = [made, WORLDS, "wasi:cli/command", path, ADAPTER + "=" + adapter, EXPORT.partition("#")[0]]
-    printed = [line.split("\t", 2) for line in lines_of([example, *arguments], made)]
-    found = [words[2] for words in printed if words[0] == "slot"]
-    if found != wanted:
-        print("\n".join(["wanted", *wanted, "found", *found]))
-        return None
-    return len(found)
+        file.write(data)
+
+
+def compare_world(compared, linker, adapter, seed):
+    """Compares the shim for a random world; those of odd numbers have an adapter, with what the linker's says of its world."""
+    at = {name: os.path.join(compared.made, name) for name in ("main.wasm", "old.wasm", "demo.wit", "worlds.json", "out.wasm", "ld", "o")}
+    base = json.loads(adapters.read(WORLDS)) if seed % 2 else None
+    world = World(seed, base)
+    options = ["--adapt", OLD + "=" + at["old.wasm"]] if base else []
+    if base:
+        world.imports += [(OLD, "one", ["i32"], ["i32"]), (OLD, "two", ["i64"], [])]
+        root = [("$root", field, ["i32"] * len(params), ["i32"] * len(results)) for field, params, results in ROOT]
+        imports = [it for it in [*root, WRITE] if world.random.random() < 0.6]
+        exports = [("two", ["i64"], []), ("one", ["i32"], ["i32"]), (KEY + "#run", [], ["i32"]),
+                   ("cabi_import_realloc", ["i32"] * 4, ["i32"])]
+        said = [section(id, of) for id, of in sections(adapters.read(adapter)) if id == 0 and name_at(of, 0)[0].startswith("component-type")]
+        write(at["old.wasm"], module_of(imports, exports, "imported", b"".join(said)))
+    realloc = ("cabi_realloc", ["i32"] * 4, ["i32"])
+    write(at["main.wasm"], module_of(world.imports, [realloc, *world.exports], "exported"))
+    write(at["demo.wit"], "\n".join(world.wit).encode())
+    write(at["worlds.json"], world.json().encode())
+    write(at["ld"], LINKED.format(main=shlex.quote(at["main.wasm"])).encode())
+    os.chmod(at["ld"], 0o755)
+    write(at["o"], b"")
+    command = [linker, "--wasm-ld-path", at["ld"], "--wasi-adapter", "none", *options, "--component-type", at["demo.wit"]]
+    made = subprocess.run([*command, "-o", at["out.wasm"], at["o"]], capture_output=True, text=True)
+    if made.returncode:
+        print("no component of world %d: %s" % (seed, " ".join(made.stderr.split())))
+        return
+    linked = Component(adapters.read(at["out.wasm"]), OLD)
+    compared.compare(linked, at["worlds.json"], at["main.wasm"], (OLD, at["old.wasm"]) if base else None)
 
 
 def main():
-    argparse.ArgumentParser(description=__doc__, formatter_class=argparse.RawDescriptionHelpFormatter).parse_args()
-    example, shims, slots, different = built_example("encoder"), 0, 0, 0
+    parser = argparse.ArgumentParser(description=__doc__, formatter_class=argparse.RawDescriptionHelpFormatter)
+    parser.add_argument("--worlds", type=int, default=20, metavar="N", help="how many random worlds")
+    parser.add_argument("--seed", type=int, default=0, metavar="SEED", help="the number of the first one")
+    arguments = parser.parse_args()
     with tempfile.TemporaryDirectory() as made:
-        for linker in adapters.linkers():
-            commands = [it for it in adapters.modules_inside(adapters.read(linker)) if EXPORT in exported_names(it)]
+        compared, linkers = Compared(made), [it for it in adapters.linkers() if has_libc() or is_known(it)]
+        for linker in linkers:
+            commands = [it for it in adapters.modules_inside(adapters.read(linker)) if KEY + "#run" in exported_names(it)]
             if not commands:
                 continue
-            adapter, component = os.path.join(made, "adapter.wasm"), os.path.join(made, "component.wasm")
-            with open(adapter, "wb") as file:
-                file.write(commands[0])
-            for source in SOURCES:
-                object = os.path.join(made, "object.o")
-                subprocess.run(["clang", "--target=wasm32-wasi", "-O1", "-c", source, "-o", object], check=True)
-                if not adapters.component(linker, [object], ["--wasi-adapter", "command"], component):
-                    continue
-                linked = Component(adapters.read(component))
-                wanted = linked.slots()
-                if wanted is not None:
-                    agree = compared(example, linked.modules[0], adapter, wanted, made)
-                    different += agree is None
-                    shims, slots = shims + (agree is not None), slots + (agree or 0)
-    print("%d slots of %d shims agree, %d shims differ" % (slots, shims, different))
-    return 1 if different or not shims else 0
+            adapter = os.path.join(made, "adapter.wasm")
+            write(adapter, commands[0])
+            if has_libc():
+                compare_programs(compared, linker, adapter)
+            if is_known(linker):
+                for seed in range(arguments.seed, arguments.seed + arguments.worlds):
+                    compare_world(compared, linker, adapter, seed)
+    print("%d slots of %d shims agree, %d shims differ" % (compared.slots, compared.shims, compared.different))
+    return 1 if compared.different or linkers and not compared.shims else 0
 
 
 if __name__ == "__main__":

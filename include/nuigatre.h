@@ -1,4 +1,4 @@
-/* The calls of libnuigatre.a, for C and C++: core WebAssembly modules made ready to be parts of a component.
+/* The calls of libnuigatre.a, for C99 and C++11 on: core WebAssembly modules made ready to be parts of a component.
  *
  * Link libnuigatre.a, and nuigatre_heap.c beside this file or another definition of the three functions at the end.
  * The library is for 64-bit Linux on x86. It needs nothing else but memcpy, memmove, memset and memcmp.

@@ -1,5 +1,7 @@
 /* Prints the plan of a component as JSON: plan WORLDS.json WORLD MAIN.wasm [NAME=ADAPTER.wasm [KEY]..]. A KEY is an
  * export of the world that the adapter has to have, as `wasi:cli/run`. */
+/* open_memstream is of POSIX */
+#define _POSIX_C_SOURCE 200809L
 #include "files.h"
 
 #include <string.h>

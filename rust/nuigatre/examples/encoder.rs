@@ -5,7 +5,7 @@
 //! its name, and `shim.wasm` and `fixup.wasm`: what needs a memory before there is one calls through the shim's table, which
 //! the fixup fills. The words of a line are separated by tabs:
 //!
-//! - `use`, and a line of `wcplan`; `slot`, its number, and the name and the type of a function of the shim;
+//! - `use`, and a line of `wcplan`; `slot`, its number, and the name, the type and the options of a function of the shim;
 //! - `module`, and a name: modules are instantiated in this order, as `run.mjs` does;
 //! - `supply`, a module, an import's module and name, and what meets it: `export` of a module, or `host` and two names;
 //! - `lift`, a module and its export, and the key and the name that it has in the world.
@@ -136,13 +136,13 @@ fn main() -> Result<(), Box<dyn Error>> {
     plan.iter().for_each(|it| println!("use\t{it}"));
     println!("supply\tfixup\t\t$imports\texport\tshim\t$imports");
     for (at, slot) in slots.iter().enumerate() {
-        println!("slot\t{at}\t{slot}\t{}", slot.ty);
-        let (kind, from, name) = match slot.filler {
-            Filler::Adapter { adapter, function } => ("export", adapter, function),
-            Filler::Lowered {
-                interface, name, ..
-            } => ("host", interface.unwrap_or("$root"), name),
-            _ => return Err("a slot of another kind".into()),
+        println!("slot\t{at}\t{slot}\t{}\t{}", slot.ty, slot.filler.options());
+        let (kind, (from, name)) = match slot.filler {
+            Filler::Adapter { adapter, function } => ("export", (adapter, function)),
+            Filler::Destructor { module, function } => {
+                ("export", (module.unwrap_or("main"), function))
+            }
+            _ => ("host", slot.import.ok_or("a slot of another kind")?),
         };
         println!("supply\tfixup\t\t{at}\t{kind}\t{from}\t{name}");
     }

@@ -107,6 +107,19 @@ const MAIN: &[u8] = b"\0asm\x01\0\0\0\x01\x08\x02\x60\x01\x7f\0\x60\0\0\x02\x33\
 /// Imports `b` of `old`.
 const LIBRARY: &[u8] = b"\0asm\x01\0\0\0\x01\x04\x01\x60\0\0\x02\x09\x01\x03old\x01b\0\0";
 
+/// A world that exports `run: async func(a: string) -> list<stream<string>>`, and one besides of the same name.
+const RETURNS: &str = r#"{
+    "worlds": [{"name": "demo", "imports": {}, "exports": {}, "package": null}, {"name": "demo", "imports": {}, "package": 0,
+        "exports": {"run": {"function": {"name": "run", "kind": "async-freestanding", "params": [{"name": "a", "type": "string"}],
+            "result": 2}}}}],
+    "interfaces": [], "types": [{"name": null, "kind": {"tuple": {"types": ["u8", "f64"]}}},
+        {"name": null, "kind": {"stream": "string"}}, {"name": null, "kind": {"list": 1}}],
+    "packages": [{"name": "a:b@1.0.0", "interfaces": {}, "worlds": {"demo": 1}}]
+}"#;
+
+/// Imports `task.return` of `run`, and reads its stream; exports `run`, and a memory.
+const RETURNING: &[u8] = b"\0asm\x01\0\0\0\x01\x0d\x02`\x02\x7f\x7f\0`\x03\x7f\x7f\x7f\x01\x7f\x02E\x02\x0d[export]$root\x10[task-return]run\0\0\x0d[export]$root\x12[stream-read-0]run\0\x01\x03\x02\x01\0\x05\x03\x01\0\x01\x07%\x02\x18[async-lift-stackful]run\0\x02\x06memory\x02\0\x0a\x14\x01\x12\0A\0A\0\x10\0A\0A\0A\0\x10\x01\x1a\0\x0b";
+
 /// How many allocations had to fail, the first of them in each run, before all succeeded. With all after it, and alone: then
 /// the answer may be the wanted one too, since some memory is asked for that a call can do without.
 fn failures<T: Debug + PartialEq>(call: impl Fn() -> Result<T, Error>) -> u64 {
@@ -236,6 +249,19 @@ fn worlds() {
     assert!(failures(|| ComponentWorld::new(&encoder)) > 200);
     assert!(failures(|| Plan::new(&encoder)) > 200);
     assert!(failures(|| ComponentWorld::with_plan(&encoder)) > 200);
+}
+
+/// The types of built-ins, and a table with slots of all kinds that these have.
+#[test]
+fn tables() {
+    let encoder = ComponentEncoder::new(RETURNS, "a:b/demo", RETURNING);
+    assert!(failures(|| ComponentWorld::new(&encoder)) > 200);
+    for (encoder, slots) in [(encoder, 2), (self::encoder(), 1)] {
+        let world = ComponentWorld::new(&encoder).expect("a world");
+        let count = || world.table().map(|table| table.slots().len());
+        assert_eq!(count(), Ok(slots));
+        assert!(failures(count) >= 2);
+    }
 }
 
 #[test]

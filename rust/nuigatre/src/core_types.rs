@@ -1,7 +1,7 @@
 //! Types of core modules, and core signatures of functions.
 
 use crate::json::Value;
-use crate::memory::OutOfMemory;
+use crate::memory::{OutOfMemory, collect};
 use crate::read::{Read, Unread, member, of_name, optional_member, show};
 use std::fmt::{self, Display, Formatter};
 
@@ -238,6 +238,33 @@ impl From<&WasmSignature> for FuncType {
             params: types(&signature.params),
             results: types(&signature.results),
         }
+    }
+}
+
+/// The type of a core function, by what it comes from.
+#[derive(Clone, Copy)]
+pub(crate) enum Signature<'a> {
+    Own(&'a FuncType),
+    /// Where memories have 32 bits.
+    Lowered(&'a WasmSignature),
+    /// So many parameters and results, which are numbers of 32 bits.
+    Words(usize, usize),
+}
+
+impl Signature<'_> {
+    pub(crate) fn func_type(self) -> Result<FuncType, OutOfMemory> {
+        let types = |types: &[WasmType]| collect(types.iter().map(|ty| ValType::from(*ty)));
+        let (params, results) = match self {
+            Signature::Own(ty) => return ty.try_clone(),
+            Signature::Lowered(signature) => {
+                (types(&signature.params)?, types(&signature.results)?)
+            }
+            Signature::Words(params, results) => {
+                let words = |count| collect((0..count).map(|_| ValType::I32));
+                (words(params)?, words(results)?)
+            }
+        };
+        Ok(FuncType { params, results })
     }
 }
 

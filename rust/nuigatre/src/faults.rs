@@ -3,7 +3,7 @@
 use crate::ffi::Fault;
 use crate::memory::{Held, string};
 use crate::place::{Place, Shown};
-use crate::read::Unread;
+use crate::read::{Backquoted, Unread};
 use std::error;
 use std::fmt::{self, Debug, Display, Formatter};
 
@@ -206,7 +206,11 @@ impl Display for GcFault {
         match self {
             GcFault::Read(fault) => write!(f, "Read: {fault}"),
             GcFault::MissingExport(name) => {
-                write!(f, "adapter module does not have export `{name}`")
+                write!(
+                    f,
+                    "adapter module does not have export {}",
+                    Backquoted(name)
+                )
             }
             fault => write!(f, "{fault:?}"),
         }

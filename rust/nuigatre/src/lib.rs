@@ -37,6 +37,7 @@
 #![deny(unsafe_code)]
 #![warn(missing_docs)]
 
+mod built_ins;
 mod compact;
 mod core_types;
 mod encoder;
@@ -61,6 +62,7 @@ mod read;
 mod renames;
 mod required_options;
 mod resolved;
+mod shapes;
 mod syntax;
 mod table;
 mod validation;
@@ -71,6 +73,11 @@ mod world_error;
 #[cfg(test)]
 #[allow(unsafe_code)]
 mod allocation_tests;
+
+/// The example of the README is compiled with the tests.
+#[cfg(doctest)]
+#[doc = include_str!("../README.md")]
+struct Readme;
 
 /// Whether the library that is linked is the one that is proved. One that is compiled without its proof does the same, but
 /// stops the process where it is wrong, and is slower; the build script warns of it only where this crate is built for
@@ -92,7 +99,7 @@ pub use imports::{Import, ImportInstance, ImportMap, PayloadInfo, PayloadType};
 pub use module_import_map::{ModuleImportMap, Rename};
 pub use ordered_map::{Iter, Lookup, OrderedMap};
 pub use place::{Place, Subject, TypeDifference};
-pub use plan::{Plan, Use};
+pub use plan::{Plan, Use, UsedImport};
 pub use required_options::RequiredOptions;
 pub use resolved::{Resolved, Worlds};
 pub use table::{Filler, Slot, Table};

@@ -51,7 +51,9 @@ pub(crate) fn concat<'a>(
     slices: impl Iterator<Item = &'a [u8]> + Clone,
 ) -> Result<Vec<u8>, OutOfMemory> {
     let mut all = Vec::new();
-    all.try_reserve_exact(slices.clone().map(<[u8]>::len).sum())?;
+    let lengths = slices.clone().map(<[u8]>::len);
+    // the same bytes may be there often
+    all.try_reserve_exact(lengths.fold(0, usize::saturating_add))?;
     slices.for_each(|slice| all.extend_from_slice(slice));
     Ok(all)
 }

@@ -12,7 +12,7 @@ use crate::read::{Read, Unread, member, optional_member};
 use crate::world::ComponentWorld;
 use crate::world_error::WorldError;
 use std::fmt::{self, Display, Formatter};
-use std::{slice, str, vec};
+use std::{iter, slice, str, vec};
 
 /// How many bytes of a first buffer are for each byte of the message.
 const PER_BYTE: usize = 2;
@@ -113,6 +113,46 @@ impl Plan {
         let position = self.index.find(&call, self.uses.len(), is_at)?;
         self.uses.get(position)
     }
+
+    /// The imports that have a use, by the world that the plan is of: those of the main module in order, and then those of each
+    /// adapter. Several may have the same use.
+    pub fn imports<'a>(
+        &'a self,
+        world: &'a ComponentWorld,
+    ) -> impl Iterator<Item = UsedImport<'a>> {
+        let adapters = world.adapters.iter();
+        let adapters = adapters.map(|(name, adapter)| (Some(name.as_str()), &adapter.info));
+        let modules = iter::once((None, &world.info)).chain(adapters);
+        modules.flat_map(move |(adapter, of)| {
+            of.imports
+                .imports()
+                .filter_map(move |(module, name, import)| {
+                    Some(UsedImport {
+                        adapter,
+                        module,
+                        name,
+                        import,
+                        used: self.of(world, adapter, import)?,
+                    })
+                })
+        })
+    }
+}
+
+/// An import that has a use.
+#[derive(Clone, Copy, Debug, PartialEq, Eq)]
+#[non_exhaustive]
+pub struct UsedImport<'a> {
+    /// The adapter that imports it; `None` for the main module.
+    pub adapter: Option<&'a str>,
+    /// The name of the module that it is imported from.
+    pub module: &'a str,
+    /// Its name there.
+    pub name: &'a str,
+    /// What it is.
+    pub import: &'a Import,
+    /// What it needs.
+    pub used: &'a Use,
 }
 
 impl Use {

@@ -4,7 +4,7 @@ use crate::error::Error;
 use crate::json::Value;
 use crate::memory::{OutOfMemory, string};
 use crate::ordered_map::OrderedMap;
-use std::fmt::{self, Formatter};
+use std::fmt::{self, Display, Formatter};
 use std::hash::Hash;
 
 /// Why a value is not read.
@@ -113,6 +113,22 @@ pub(crate) fn show<T: PartialEq>(
 ) -> fmt::Result {
     let found = all.iter().find(|it| it.1 == *value);
     f.pad(found.map_or("", |it| it.0))
+}
+
+/// A name in backquotes, in which each character that is not printed is escaped: names are those of modules and of worlds.
+pub(crate) struct Backquoted<'a>(pub(crate) &'a str);
+
+impl Display for Backquoted<'_> {
+    fn fmt(&self, f: &mut Formatter<'_>) -> fmt::Result {
+        f.write_str("`")?;
+        for letter in self.0.chars() {
+            match letter {
+                '"' | '\'' | '\\' => write!(f, "{letter}")?,
+                letter => write!(f, "{}", letter.escape_debug())?,
+            }
+        }
+        f.write_str("`")
+    }
 }
 
 /// The member of this name of an object.

@@ -1,5 +1,6 @@
 //! The world of a component.
 
+use crate::built_ins::BuiltIns;
 use crate::core_types::WasmSignature;
 use crate::encoder::{ComponentEncoder, LibraryInfo};
 use crate::error::Error;
@@ -98,6 +99,8 @@ pub struct ComponentWorld {
     own_ids: OrderedMap<InterfaceId, usize>,
     /// Of the keys of what modules export, which exports it: 0 for the main module, and then each adapter.
     exporters: OrderedMap<WorldKey, usize>,
+    /// What is known of the built-ins that modules import.
+    pub(crate) built_ins: BuiltIns,
 }
 
 impl ComponentWorld {
@@ -228,7 +231,13 @@ fn made<T>(
         Answered::Bytes {
             bytes,
             module_length,
-        } => Ok(read_world(bytes, module_length, more)?),
+        } => {
+            let (mut world, more) = read_world(bytes, module_length, more)?;
+            let adapters = world.adapters.values().map(|adapter| &adapter.info);
+            let modules = std::iter::once(&world.info).chain(adapters);
+            world.built_ins = BuiltIns::of(encoder, modules)?;
+            Ok((world, more))
+        }
         Answered::Same | Answered::BadArgument => Err(Error::OtherVersion),
         Answered::Fault(fault) => Err(Error::World(WorldError::of(fault, encoder)?)),
     }
@@ -267,6 +276,7 @@ fn read_world<T>(
     let adapters = OrderedMap::of(adapters)?;
     let mut world = ComponentWorld {
         module: Vec::new(),
+        built_ins: BuiltIns::default(),
         exporters: exporters(&info, &adapters)?,
         own_ids: own_ids(&import_map)?,
         import_map,

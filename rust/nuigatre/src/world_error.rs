@@ -5,13 +5,14 @@ use crate::faults::{DedupeFault, GcFault, ReadFault, numbered, parts_of};
 use crate::ffi::Fault;
 use crate::memory::{Held, string};
 use crate::place::{Place, Shown};
-use crate::read::Unread;
+use crate::read::{Backquoted, Unread};
 use crate::syntax::json_end;
 use std::error;
 use std::fmt::{self, Debug, Display, Formatter};
 
-/// Why a component has no world. Its text is that of the fault, which has all names that it carries, and the path to what is
-/// wrong in the message of which the worlds are the member `resolve`. Its source is [the place](WorldError::place).
+/// Why a component has no world. Its text is that of the fault, which has all names that it carries, with escapes for what is
+/// not printed, and the path to what is wrong in the message of which the worlds are the member `resolve`. Its source is
+/// [the place](WorldError::place).
 #[derive(Clone, PartialEq, Eq)]
 pub struct WorldError {
     fault: WorldFault,
@@ -339,7 +340,9 @@ impl WorldError {
             }
             (3, 0) => WorldFault::UnknownWorld,
             (5, carried) => WorldFault::Resolve(ResolveFault::from_number(carried)?),
-            (6, 0) => WorldFault::AdapterTwice(named(&text, "AdapterTwice ", encoder)?),
+            (6, 0) => {
+                WorldFault::AdapterTwice(named(&text, "AdapterTwice ", |it| it == "`", encoder)?)
+            }
             (7, carried) => WorldFault::Dedupe(DedupeFault::from_number(carried)?),
             (8, UNKNOWN_WORLD) => return WorldError::unknown_world(),
             (8, carried) => WorldFault::Encoder(EncoderFault::from_number(carried)?),
@@ -366,7 +369,7 @@ fn of_module(
     let (own, carried) = parts_of(number);
     // of a fault of an adapter its name, and the text of what is wrong with it
     let parts = |head| {
-        let name = named(text, head, encoder)?;
+        let name = named(text, head, |it| it.starts_with("`: "), encoder)?;
         let rest = text.get(head.len() + name.len() + 2..);
         let rest = rest.and_then(|it| it.strip_prefix(": "));
         Ok::<_, Unread>((name, rest.ok_or(Unread::Unknown)?))
@@ -402,15 +405,18 @@ const MISSING: &str = "adapter module does not have export ";
 /// The same where another module imports it.
 const NOT_EXPORTED: &str = "adapter module did not export ";
 
-/// The name of an adapter of the encoder, which a text has in backquotes after its head: the longest of those that fit.
-fn named(text: &str, head: &str, encoder: &ComponentEncoder<'_>) -> Result<String, Unread> {
+/// The name of an adapter of the encoder, which a text has in backquotes after its head, and what is after it has to fit: the
+/// longest of those that do.
+fn named(
+    text: &str,
+    head: &str,
+    rest_fits: impl Fn(&str) -> bool,
+    encoder: &ComponentEncoder<'_>,
+) -> Result<String, Unread> {
     let rest = text.strip_prefix(head).and_then(|it| it.strip_prefix('`'));
     let rest = rest.ok_or(Unread::Unknown)?;
     let names = encoder.adapters.iter().map(|adapter| adapter.name);
-    let fits = |name: &&str| {
-        rest.strip_prefix(*name)
-            .is_some_and(|it| it.starts_with('`'))
-    };
+    let fits = |name: &&str| rest.strip_prefix(*name).is_some_and(&rest_fits);
     let name = names.filter(fits).max_by_key(|name| name.len());
     Ok(string(name.ok_or(Unread::Unknown)?)?)
 }
@@ -428,7 +434,11 @@ fn quoted(text: &str, head: &str) -> Result<String, Unread> {
 
 impl Display for WorldError {
     fn fmt(&self, f: &mut Formatter<'_>) -> fmt::Result {
-        f.write_str(&self.text)
+        match &self.fault {
+            // its text has names in quotes, with escapes
+            WorldFault::Json(_) => f.write_str(&self.text),
+            fault => write!(f, "{fault}"),
+        }
     }
 }
 
@@ -457,16 +467,22 @@ impl Display for WorldFault {
             WorldFault::SeveralWorlds => f.write_str("SeveralWorlds"),
             WorldFault::PackageRange => f.write_str("PackageRange"),
             WorldFault::Resolve(fault) => write!(f, "Resolve: {fault}"),
-            WorldFault::UnknownKey(key) => write!(f, "UnknownKey `{key}`"),
-            WorldFault::SeveralKeys(key) => write!(f, "SeveralKeys `{key}`"),
-            WorldFault::RepeatedKey(key) => write!(f, "RepeatedKey `{key}`"),
-            WorldFault::AdapterTwice(name) => write!(f, "AdapterTwice `{name}`"),
+            WorldFault::UnknownKey(key) => write!(f, "UnknownKey {}", Backquoted(key)),
+            WorldFault::SeveralKeys(key) => write!(f, "SeveralKeys {}", Backquoted(key)),
+            WorldFault::RepeatedKey(key) => write!(f, "RepeatedKey {}", Backquoted(key)),
+            WorldFault::AdapterTwice(name) => write!(f, "AdapterTwice {}", Backquoted(name)),
             WorldFault::Dedupe(fault) => write!(f, "Dedupe: {fault}"),
             WorldFault::Encoder(fault) => write!(f, "Encoder: {fault}"),
             WorldFault::Main(fault) => write!(f, "World: Main: {fault}"),
-            WorldFault::Adapter(name, fault) => write!(f, "World: Adapter `{name}`: {fault}"),
-            WorldFault::Trim(name, fault) => write!(f, "World: Trim `{name}`: {fault}"),
-            WorldFault::Minimized(name, fault) => write!(f, "World: Minimized `{name}`: {fault}"),
+            WorldFault::Adapter(name, fault) => {
+                write!(f, "World: Adapter {}: {fault}", Backquoted(name))
+            }
+            WorldFault::Trim(name, fault) => {
+                write!(f, "World: Trim {}: {fault}", Backquoted(name))
+            }
+            WorldFault::Minimized(name, fault) => {
+                write!(f, "World: Minimized {}: {fault}", Backquoted(name))
+            }
             WorldFault::PageSize => f.write_str("World: PageSize"),
             WorldFault::Plan(fault) => write!(f, "Plan: {fault}"),
         }
@@ -489,7 +505,7 @@ impl Display for ValidateFault {
         match self {
             ValidateFault::Read(fault) => write!(f, "Read: {fault}"),
             ValidateFault::AdapterModuleDidNotExport(name) => {
-                write!(f, "{NOT_EXPORTED}`{name}`")
+                write!(f, "{NOT_EXPORTED}{}", Backquoted(name))
             }
             fault => write!(f, "{fault:?}"),
         }

@@ -1,11 +1,10 @@
 //! The world of a small component, and why there is none.
 
 use nuigatre::{
-    AbiVariant, Adapter, ComponentEncoder, ComponentWorld, DedupeFault, Error, ExportMap, Filler,
-    FuncType, Import, ImportInstance, ImportOptions, InterfaceId, JsonFault, Lowering,
-    MainOrAdapter, ModuleImportMap, Plan, PlanFault, Problem, ReadFault, RequiredOptions,
-    ResolveFault, ValidateFault, World, WorldFault, WorldKey, validate_adapter_module,
-    validate_module,
+    AbiVariant, Adapter, ComponentEncoder, ComponentWorld, DedupeFault, Error, ExportMap, FuncType,
+    Import, ImportInstance, ImportOptions, InterfaceId, JsonFault, Lowering, MainOrAdapter,
+    ModuleImportMap, Plan, PlanFault, Problem, ReadFault, RequiredOptions, ResolveFault,
+    ValidateFault, World, WorldFault, WorldKey, validate_adapter_module, validate_module,
 };
 use std::collections::HashSet;
 use std::thread;
@@ -426,55 +425,37 @@ fn plan() {
     let uses = world.info.imports.imports();
     let uses: Vec<_> = uses.map(|it| plan.of(&world, None, it.2)).collect();
     assert_eq!(uses, [Some(hello), Some(hello), None]);
+    let imports = plan.imports(&world);
+    let imports: Vec<_> = imports
+        .map(|it| (it.adapter, it.module, it.name, it.used))
+        .collect();
+    let named = |name| (None, "my:demo/host", name, hello);
+    assert_eq!(imports, [named("hello"), named("hello [v2]")]);
     let import = world.info.imports.get("my:demo/host", "hello");
     let import = import.expect("an import");
     assert_eq!(plan.of(&world, Some("old"), import), None);
     assert!(HashSet::from([hello]).contains(hello));
 }
 
-/// The shim of a main module that imports two functions of an adapter, one of them twice, and of a function that takes a
-/// string.
+/// What is not printed is escaped in texts, and an adapter is known by its name, whatever that is.
 #[test]
-fn table() {
-    let worlds = WORLDS.replace("u32", "string");
-    // types (i32, i32) -> () and () -> (); imports `b` of `old`, `hello` of `my:demo/host` twice, `a` of `old`, `b` again;
-    // exports its memory
-    let main = b"\0asm\x01\0\0\0\x01\x09\x02\x60\x02\x7f\x7f\0\x60\0\0\x02\x43\x05\x03old\x01b\0\x01\x0cmy:demo/host\x05hello\0\0\x0cmy:demo/host\x05hello\0\0\x03old\x01a\0\x01\x03old\x01b\0\x01\x05\x03\x01\0\x01\x07\x0a\x01\x06memory\x02\0";
-    let mut encoder = ComponentEncoder::new(&worlds, World::Name("demo"), main);
-    encoder.adapters.push(Adapter::new("old", OLD));
-    let world = ComponentWorld::new(&encoder).expect("a world");
-    let table = world.table().expect("memory");
-    let shown: Vec<_> = table
-        .slots()
-        .iter()
-        .map(|it| format!("{it} {}", it.ty))
-        .collect();
-    let wanted = [
-        "adapt-old-b () -> ()",
-        "adapt-old-a () -> ()",
-        "indirect-my:demo/host-hello (i32, i32) -> ()",
-    ];
-    assert_eq!(shown, wanted);
-    let plan = Plan::new(&encoder).expect("a plan");
-    let mut numbers = Vec::new();
-    for (_, _, import) in world.info.imports.imports() {
-        let filler = world.filler(None, import).expect("all need a slot");
-        let number = table.number_of(filler).expect("a slot");
-        numbers.push(number);
-        // what is lowered has the slots of the plan, in the same order
-        let used = plan.of(&world, None, import);
-        let is_lowered = matches!(filler, Filler::Lowered { .. });
-        assert_eq!(used.and_then(|it| it.slot), is_lowered.then_some(0));
-    }
-    // module by module
-    assert_eq!(numbers, [0, 1, 0, 2, 2]);
-    let import = world.info.imports.get("my:demo/host", "hello");
-    let import = import.expect("an import");
-    let other = world.filler(Some("old"), import).expect("lowered for it");
-    assert_eq!(table.number_of(other), None);
-    let direct = ComponentWorld::new(&self::encoder()).expect("a world");
-    let table = direct.table().expect("memory");
-    assert_eq!(table.slots().len(), 1);
+fn names_in_texts() {
+    let mut encoder = encoder();
+    encoder.main_module_exports = Some(vec!["a\u{1b}[2J\u{202e}\"`"]);
+    let (fault, text) = fault_of(&encoder);
+    assert_eq!(
+        fault,
+        WorldFault::UnknownKey("a\u{1b}[2J\u{202e}\"`".into())
+    );
+    assert_eq!(text, "UnknownKey `a\\u{1b}[2J\\u{202e}\"``");
+    let mut encoder = self::encoder();
+    encoder.adapters[0].wasm = b"\0asm\x01\0\0\0";
+    let other = "old`: adapter module did not export `b";
+    encoder.adapters.push(Adapter::new(other, OLD));
+    let missing = ValidateFault::AdapterModuleDidNotExport("b".into());
+    let (fault, text) = fault_of(&encoder);
+    assert_eq!(fault, WorldFault::Adapter("old".into(), missing));
+    assert_eq!(text, format!("World: Adapter `{other}`"));
 }
 
 /// Which module exports what is under a key.
