@@ -35,8 +35,6 @@ BOILERPLATE = [
      "clauses: a function that finds the module has those of the one that validates it"),
     (r"wc_names/src/legacy\.rt:\S+ \(match_wit_export\), wc_names/src/standard\.rt:\S+ \(match_wit_export\)$",
      "heads that a trait fixes: in each scheme the two look-ups of one name make its index, and ask it"),
-    (r"wc_validate/src/explain/missing\.rt:\S+ \(unmet_place\), wc_validate/src/explain/missing\.rt:\S+ \(missing_place\)$",
-     "a head: the function that looks for memories and callbacks first has that of the one that it calls"),
     (r"wcplan_command/src/nearest\.rt:\S+ \(interface_for\), wcplan_command/src/nearest\.rt:\S+ \(interface_named\), "
      r"wcplan_command/src/nearest\.rt:\S+ \(interface_alike\)$",
      "heads: the function that looks for one text and then for one alike has those of the two that it calls"),
@@ -54,6 +52,9 @@ BOILERPLATE = [
 ALIKE = [
     ("wc_adapters::argument_view wc_validate::instance_entry",
      "a name and a view: the views are different definitions of different types"),
+    ("wc_validate::IsMemoryRefusal wc_world::IsMemoryRefusal", "a refusal of a module, and one of a world"),
+    ("wc_validate::IsRefusedAt wc_world::IsRefusedAt", "a refusal of a module, and one of a world"),
+    ("wcplan_command::innermost wcplan_command::first_path", "the first of a list: of what is open in the one, of paths in the other"),
     ("wc_dedupe::new_name wc_dedupe::import_name", "the name of a rename and that of an import: records of two types"),
     ("wc_read::func_value wc_read::global_value", "one for each kind of item, at its types"),
     ("wc_read::table_value wc_read::memory_value", "one for each kind of item, at its types"),

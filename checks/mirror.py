@@ -34,6 +34,7 @@ REASONS = {
         "wc_validate/imports/environment wc_validate/imports/root wc_validate/imports/scheme",
     "the stages of the program are in `Program`, in their order, what private functions answer in `Private/Runs`":
         "wcplan_command/documents wcplan_command/explained wcplan_command/inputs wcplan_command/outputs",
+    "a law, whose statement is beside the definition that it is of": "wcplan_command/laws",
     "named after what it defines: the parts of an encoder, arguments": "wc_encoder/encoder nuigatre/lib",
 }
 

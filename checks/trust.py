@@ -135,7 +135,7 @@ def headline():
 CUTS = {
     "the writer's text": lambda crate, file, name: crate == "wc_write",
     "the reading functions": lambda crate, file, name: crate == "wc_read" and file.split(".")[0] == "Reading",
-    "the legacy scheme of names": lambda crate, file, name: crate == "wc_names" and "legacy" in name.lower(),
+    "how names are read": lambda crate, file, name: crate == "wc_names" and name in ("IsRule", "IsExportRule"),
 }
 
 

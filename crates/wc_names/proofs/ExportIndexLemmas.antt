@@ -131,9 +131,6 @@ AreListed at with_text all rest =
     (q : List ℕ) → at q ++ filter_map (λ (key : KeyView). option_and_then (if_text q key) (with_text key)) rest ≡ filter_map
     (λ (key : KeyView). option_and_then (if_text q key) (with_text key)) all
 
-module _ (with_text : KeyView → Option (List ℕ × ℕ)) (all rest : List KeyView) (key : KeyView) (at after : List ℕ → List FoundInterface)
-    (listed : AreListed at with_text all (key ∷ rest)) where
-
 -- after the last key all interfaces are listed
 pub all_listed : (x : ExportSyntax) (r : ResolveView) (es : Entries) (keys : List KeyView) (rest : List WorldKey) (at : List ℕ → List FoundInterface)
     → AreListed at (interface_with_text x r es) keys (map key_view rest) → rest ≡ [] → (q : List ℕ) → at q ≡ interfaces_of_text x r es keys q

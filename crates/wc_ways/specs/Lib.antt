@@ -4,6 +4,6 @@ pub mod Originals
 pub mod Said
 pub mod Ways
 pub mod Nodes
-pub mod WaysJson
+pub mod Steps
 pub mod WaysFaults
 pub mod Private

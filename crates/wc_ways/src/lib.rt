@@ -15,8 +15,8 @@ mod marks;
 mod nodes;
 mod originals;
 mod recorded;
+mod steps;
 mod ways;
-mod ways_json;
 mod words;
 
 pub use ways::{ways_graph, ways_json, ways_text};

@@ -12,7 +12,7 @@ ghost use Rattle.wc_ways.specs.Words.{adapter_way, export_lines};
 
 use crate::asked::Function;
 use crate::originals::{Form, Walk, asked_import, is_wanted};
-use crate::ways_json::object_way;
+use crate::steps::object_way;
 use crate::words::{adapter_text, export_line, function_line, import_line};
 use std::alloc::{AllocError, Global};
 use wc_gc::Chain;

@@ -11,7 +11,7 @@ ghost use Rattle.wc_ways.specs.Private.Adapters.{function_value};
 ghost use Rattle.wc_ways.specs.Ways.{recorded_way, recorded_ways};
 
 use crate::asked::{Function, asked_function};
-use crate::ways_json::import_object;
+use crate::steps::import_object;
 use crate::words::import_way;
 use std::alloc::{AllocError, Global};
 use wc_names::Import;

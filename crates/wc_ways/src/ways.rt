@@ -7,11 +7,11 @@ ghost use Rattle.wc_ways.specs.Private.Adapters.{main_said};
 ghost use Rattle.wc_ways.specs.Ways.{IsWaysText, or_none};
 ghost use Rattle.wc_ways.specs.WaysFaults.{IsWaysFault};
 ghost use Rattle.wc_ways.specs.Nodes.{IsWaysGraph};
-ghost use Rattle.wc_ways.specs.WaysJson.{IsWaysJson};
+ghost use Rattle.wc_ways.specs.Steps.{IsWaysJson};
 
 use crate::adapters::{Module, all_said, module_said};
 use crate::originals::Form;
-use crate::ways_json::list_line;
+use crate::steps::list_line;
 use std::alloc::{AllocError, Global};
 use wc_gc::GcFault;
 use wc_json::escaped;

@@ -34,7 +34,3 @@ graph_put r patterns marks a b c d e are marked head (items, are_items, put_item
 -- bytes that were put, and then handed on
 pub handed_on : (a b c s : Option (List ℕ)) (text : List ℕ) → Appends a b text → Keeps b c → Keeps b s → HandsOn a c s text
 handed_on a b c s text put kept sent = record { put = Appends-kept a b c text put kept; sent = Appends-kept a b s text put sent }
-
--- the node of an import, by what is at its position
-module _ (c : ImportChains) (imports : List ImportValue) (patterns : List PatternView) (position : ℕ) (j : ImportValue) (p : Option ℕ)
-    (at : slice_get imports position ≡ Some j) (index_at : slice_get c.imports.items position ≡ Some p) where

@@ -17,7 +17,7 @@ use Rattle.wc_ways.specs.Said.{IsSaidAt, IsSaidIn, IsSaidOf, IsSaidOfTrimmed, Sa
 use Rattle.wc_ways.specs.Ways.{AreOriginalWays, library_ways, main_ways, recorded_ways}
 use Rattle.wc_ways.specs.WaysFaults.{search_input}
 use Rattle.wc_ways.specs.Nodes.{IsOriginalGraph, adapter_id, library_graph, main_graph, module_graph}
-use Rattle.wc_ways.specs.WaysJson.{adapter_object, import_object, library_objects, main_objects}
+use Rattle.wc_ways.specs.Steps.{adapter_object, import_object, library_objects, main_objects}
 use Rattle.wc_ways.specs.Words.{AdapterWords, adapter_text, adapter_way, import_way}
 use Rattle.wc_ways.specs.declared.asked.Function.{Function}
 use Rattle.wc_ways.specs.declared.originals.Adapter.{Adapter}

@@ -5,7 +5,7 @@ use Rattle.std.specs.Option.{option_map}
 use Rattle.wc_world.specs.Views.{ComponentWorldView}
 use Rattle.wc_ways.specs.Ways.{recorded_ways}
 use Rattle.wc_ways.specs.Nodes.{module_graph}
-use Rattle.wc_ways.specs.WaysJson.{import_object}
+use Rattle.wc_ways.specs.Steps.{import_object}
 use Rattle.wc_ways.specs.Words.{ImportWords, import_way}
 use Rattle.wc_ways.specs.declared.adapters.Module.{Module}
 use Rattle.wc_ways.specs.declared.originals.Form.{Form}

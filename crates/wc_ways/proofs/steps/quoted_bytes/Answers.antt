@@ -1,7 +1,7 @@
 use Rattle.std.proofs.Common.{◌≡◌, ◌++◌, ◌∙◌, ℕ, List, [], ◌∷◌, ap, append-nil}
 use Rattle.json.specs.Print.{print, print_from, quoted}
 use Rattle.json.specs.Token.{string}
-use Rattle.wc_ways.proofs.ways_json.quoted_bytes.Goals as goal
+use Rattle.wc_ways.proofs.steps.quoted_bytes.Goals as goal
 
 print_quoted : (s : List ℕ) → print (string s ∷ []) ≡ quoted s
 unfolding print_from

@@ -11,7 +11,7 @@ ghost use Rattle.wcwhy_command.specs.Lines.{name_in, space_name};
 ghost use Rattle.wc_ways.specs.Originals.{wanted_of};
 ghost use Rattle.wc_ways.specs.Private.Modules.{adapter_name};
 ghost use Rattle.wc_ways.specs.Private.Adapters.{IsWalk, function_value, original_in, way_in};
-ghost use Rattle.wc_ways.specs.WaysJson.{adapter_object, adapter_steps, export_step, first_steps, import_object, import_step, item_step, list_line, next_item, text_or_null, way_object};
+ghost use Rattle.wc_ways.specs.Steps.{adapter_object, adapter_steps, export_step, first_steps, import_object, import_step, item_step, list_line, next_item, text_or_null, way_object};
 
 use crate::asked::Function;
 use crate::originals::{Walk, is_wanted};
@@ -176,7 +176,7 @@ fn push_item(
 }
 
 /// The step of an item, after a comma.
-#[tactic(auto, unfolding(crate::specs::WaysJson::item_step))]
+#[tactic(auto, unfolding(crate::specs::Steps::item_step))]
 fn next_item(
     alloc: Global,
     names: &OrderedMap<u32, &str>,
