@@ -283,7 +283,8 @@ class Plan(Checked):
         self.check([*words, "--out", "made"], 1, "", "wcplan: cannot write made/old-notes.wasm\n")
         with open("/dev/full", "wb") as full:
             for each in (words, [*words, "--json"], [], ["--help"], ["-h"], ["--version"]):
-                self.check(each, 1, "", "wcplan: cannot print\n", stdout=full)
+                said = '{"text":"cannot print","place":null}\n' if "--json" in each else "wcplan: cannot print\n"
+                self.check(each, 1, "", said, stdout=full)
 
     def check_replaced(self):
         """Files of --out are replaced as a whole: a link is not followed, and what can't be written stays as it was."""
