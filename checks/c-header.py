@@ -14,7 +14,7 @@ import re
 import sys
 
 sys.path.append(str(pathlib.Path(__file__).resolve().parent.parent / "tools"))
-from repository import TOP, code_of, read
+from repository import TOP, code_of, files_of, libraries, read
 
 NUMBERS = {"u32": "uint32_t", "u64": "uint64_t", "usize": "size_t", "bool": "bool", "Answer": "nuigatre_answer",
            "Allocated": "nuigatre_allocated"}
@@ -93,14 +93,13 @@ def shouted(name):
     return re.sub(r"(?<!^)(?=[A-Z])", "_", name).upper()
 
 
-def faults_of(text):
-    """The faults of the enums that have numbers: the name in C, the number, and the enum that is carried. Memory is no
-    fault that a call answers."""
-    for function in re.split(r"\npub fn ", text)[1:]:
-        kind = function.partition("_number(")[0]
-        head = "NUIGATRE_" + kind.removesuffix("_fault").upper() + "_"
-        arms = re.findall(r"\w+::(\w+)[^=]*=> (\d+)(?: \+ CARRIED \* (\w+)_number)?", function)
-        for variant, number, carried in arms:
+def faults_of(crates):
+    """The faults of the enums that have numbers, as the definitions of specs/ say them: the name in C, the number, and the
+    enum that is carried. Memory is no fault that a call answers."""
+    clause = r"^(\w+)_number \(?(\w+)[^=\n]*= (?:carrying )?(\d+)(?: \((\w+)_number \w+\))?$"
+    for path in (path for crate in crates for path in files_of(crate, "specs", ".antt")):
+        for kind, variant, number, carried in re.findall(clause, path.read_text(), re.M):
+            head = "NUIGATRE_" + kind.removesuffix("_fault").upper() + "_"
             if variant != "Memory":
                 yield f"nuigatre_{kind}: {head}{shouted(variant)} = {number}" + (f", which carries a nuigatre_{carried}" if carried else "")
 
@@ -133,7 +132,6 @@ def differences(what, wanted, found):
 def compared():
     library = code_of(TOP / "crates/nuigatre/src/lib.rt")
     answers = code_of(TOP / "crates/wc_calls/src/answers.rt")
-    faults = code_of(TOP / "crates/wc_calls/src/fault_numbers.rt")
     text = read("include", "nuigatre.h")
     header = without_comments(text)
     ffi = without_comments(read("rust", "nuigatre", "src", "ffi.rs"))
@@ -146,7 +144,7 @@ def compared():
     yield "answer of the header", fields_of(answers, "Answer"), fields_of_header(header, "nuigatre_answer")
     yield "block of the header", fields_of(heap, "Allocated"), fields_of_header(header, "nuigatre_allocated")
     yield "statuses of the header", statuses_of(answers), statuses_of_header(header)
-    yield "faults of the header", faults_of(faults), faults_of_header(text)
+    yield "faults of the header", sorted(faults_of(libraries())), sorted(faults_of_header(text))
     yield "functions of the Rust crate", sorted(of_library(library)), sorted(of_rust(ffi))
     yield "form of the Rust crate", form, re.findall(r"const ABI: u32 = (\d+);", ffi)
     yield "answer of the Rust crate", fields_of(answers, "Answer"), fields_of(ffi, "Answer")

@@ -42,9 +42,6 @@ BOILERPLATE = [
      "heads: the graph and the lines are put of the same chains"),
     (r"wcwhy_command/(src|specs)/(arguments|Arguments|usage)\.\w+:.*, wcplan_command/(src|specs)/(arguments|Arguments|usage)\.\w+:",
      "two programs that read arguments in one form, which no crate has for both"),
-    (r"(wc_record/src/fault_texts\.rt:\S+ \(to_text\), )?wcwhy_command/src/fault\.rt:\S+ \(gc_text\)"
-     r"(, wcplan_command/src/fault_texts\.rt:\S+ \(to_text\))?$",
-     "the texts of faults of trimming: of a fault by itself, and of one that another carries"),
     (r"wcplan_command/src/fault\.rt:\S+ \(fixed_text\), wcplan_command/src/json_faults\.rt:\S+ \(fixed_json\)$",
      "a match that names each fault without a fixed text: as lines in the one, as JSON in the other"),
 ]
@@ -67,6 +64,7 @@ ALIKE = [
     ("wc_selection::has_any wcwhy_command::are_asked", "whether any of a list has something: of keys in the one, of imports in the other"),
     ("wc_selection::text_of wcwhy_command::text_of", "the bytes of a text, in crates that don't cite each other"),
     ("wc_validate::core_import wc_validate::imported_function", "records of two types: of any import, of a function's"),
+    ("wc_resolve::item_function wc_names::as_function", "an item that is a function: in a function's place in the one, under a name in the other"),
     ("wc_encoder::IsExported wc_selection::IsKeyOf", "a key of some entries: of a world's exports in the one, of its imports too in the other"),
 ]
 

@@ -6,7 +6,7 @@ shows it, as the tables of docs/ROWS.md.
     fault-rows.py --write    writes them into docs/ROWS.md
     fault-rows.py --check    compares them with those of docs/ROWS.md; status 1 where they differ
 
-The faults and their texts are those of the enums in the sources. A row reaches a fault where it wants the fault's text of
+The faults and their texts are those of the definitions in specs/ (tools/fault_texts.py). A row reaches a fault where it wants the fault's text of
 a call that answers faults of this enum (CALLS), or that of another fault which carries it. No row can reach those of BARRED,
 and Memory is reached where an allocation fails (failing-allocations.py). The faults of the enums of PLACED have places, but
 for those of UNPLACED; a row shows one where it wants it after the fault. The status is 1 where any other fault has no row.
@@ -17,7 +17,8 @@ import re
 import sys
 
 sys.path.append(str(pathlib.Path(__file__).resolve().parent.parent / "tools"))
-from repository import TOP, code_of, files_of, libraries, put_between, row_files
+from fault_texts import texts_of_faults
+from repository import TOP, libraries, put_between, row_files
 
 PAGE = TOP / "docs" / "ROWS.md"
 MARKS = {name: ("<!-- fault-rows.py: %s begin -->\n" % name, "<!-- fault-rows.py: %s end -->\n" % name)
@@ -55,18 +56,21 @@ def listed(reasons):
     return {tuple(it.split("::")): why for why, names in reasons.items() for it in names.split()}
 
 
-# The texts of faults that have no `Display`, but for those that are the fault's name and what it carries.
-TEXTS = {
-    "RunFault": {"CannotRead": "cannot read {0}", "CannotWrite": "cannot write {0}", "Tool": "{0}"},
-    "WhyFault": {"Memory": "out of memory", "CannotRead": "cannot read {0}", "Adapter": "{0}", "NoImport": "no import {0}",
-                 "Output": "cannot print"},
-    "ProgramFault": {
-        "Memory": "out of memory", "CannotRead": "cannot read {0}", "NotText": "Json: not UTF-8",
-        "NotJson": "Json: not JSON at byte {0}", "RepeatedMember": "Json: {0}: repeated member", "Selection": "{0}",
-        "NoWorld": "{0}; worlds:{1}", "NoExport": "no export `{0}`; exports:{1}",
-        "CannotMake": "cannot make directory {0}", "CannotWrite": "cannot write {0}", "Output": "cannot print"},
-    "NoCommand": {"Memory": "out of memory", "Help": "help", "Version": "version", "Wrong": "{0}"},
+# The faults that have no text of their own, by what rows show of them.
+STATED = {
+    "PutFailed": ("wc_texts", [("PutFailed", "PutFailed", [])]),
+    "Usage": ("wctrim_command", [("Usage", "usage", [])]),
+    "NoCommand": ("wcplan_command", [("Memory", "out of memory", []), ("Help", "help", []), ("Version", "version", []),
+                                     ("Wrong", "{0}", ["WrongArgument"])]),
 }
+# The calls that list the texts of all faults of an enum.
+LISTS = {
+    "read_faults": "ReadFault", "write_faults": "WriteFault", "dedupe_faults": "DedupeFault", "gc_faults": "GcFault",
+    "tool_faults": "ToolFault", "resolve_faults": "ResolveFault", "encoder_faults": "EncoderFault",
+    "validate_faults": "ValidateFault", "world_faults": "WorldFault", "plan_faults": "PlanFault",
+}
+# The faults that no such call can make.
+UNLISTED = {("ValidateFault", "AdapterModuleDidNotExport")}
 # What no row of any input can reach, and why.
 BARRED = listed({
     "a section, or a body, of 2^32 bytes": "WriteFault::TooLarge",
@@ -95,71 +99,13 @@ UNPLACED = listed({
 })
 
 
-def sources():
-    """The sources of the libraries, crate by crate, in the order of crates.txt."""
-    for crate in libraries():
-        for path in files_of(crate, "src", ".rt"):
-            yield crate, code_of(path)
-
-
-def variants_of(body):
-    """Of an enum's body each variant: its name, its text with `{0}`, None where that is its only field's, and its fields."""
-    found = []
-    for text, name, fields in re.findall(r"#\[error\((.*?)\)\]\s*(\w+)(?:\(([^)]*)\))?,", body, re.S):
-        fields = [field.strip() for field in fields.split(",")] if fields else []
-        found.append((name, None if text == "transparent" else text.strip('"'), fields))
-    return found
-
-
-def written(name, text):
-    """The variants of an enum whose `Display` writes a text of its own for each, or what it carries."""
-    shown = re.findall(r'%s::(\w+) => f\.write_str\("(.*?)"\)' % name, text)
-    named = re.findall(r'%s::(\w+)\(\w+\) => (?:\{\s*)?write!\(f, "(.*?)"\)' % name, text)
-    carried = re.findall(r"%s::(\w+) \{ path, (\w+) \} =>" % name, text)
-    found = [(own, words, []) for own, words in shown] + [(own, "{0}", [field.capitalize()]) for own, field in carried]
-    body = re.search(r"pub enum %s\b.*?\{(.*?)\n\}" % name, text, re.S)
-    types = dict(re.findall(r"^ +(\w+)\((\w+Fault)\b", body.group(1), re.M)) if body else {}
-    return found + [(own, re.sub(r"\{\w+\}", "{0}", words), [types.get(own, "String")]) for own, words in named]
-
-
-def numbered(words):
-    """A text in which the fields of a variant are numbered."""
-    parts = re.split(r"\{\w+\}", words)
-    return "".join(part + "{%d}" % number for number, part in enumerate(parts[:-1])) + parts[-1]
-
-
-def without_display(name, body):
-    """The variants of an enum without `Display`: their texts are those of TEXTS, or the name and what it carries."""
-    for own, field in re.findall(r"^    (\w+)(?:\((?:&'a )?(\w+).*\))?,", body, re.M):
-        text = TEXTS[name].get(own, own + ": {0}" * bool(field))
-        yield own, text, [field or "String"] * text.count("{")
-
-
 def faults():
     """Each enum of faults, and each struct that is one: its crate, and its variants."""
-    found = {}
-    for crate, text in sources():
-        for name, body in re.findall(r"pub enum (\w*Fault|NoCommand)\b[^{]*\{(.*?)\n\}", text, re.S):
-            if "#[error" in body:
-                found[name] = (crate, variants_of(body))
-            elif name not in TEXTS:
-                found[name] = (crate, written(name, text))
-            elif name != "NoCommand" or crate != "wcwhy_command":
-                found[name] = (crate, list(without_display(name, body)))
-        wrong = re.findall(r'WrongArgument::(\w+)(?:\(\w+\)| \{[^}]*\}) => (?:\{\s*)?format!\(in alloc; "(.*?)"\)', text)
-        if wrong:
-            found["WhyWrongArgument" if crate == "wcwhy_command" else "WrongArgument"] = (crate, [(own, numbered(words), ["String"] * words.count("{")) for own, words in wrong])
-        if "pub enum Problem {" in text:
-            found["Problem"] = (crate, written("Problem", text))
-        for shown, name in re.findall(r'#\[error\("(.*?)"\)\]\s*pub struct (\w+);', text):
-            found[name] = (crate, [(name, shown, [])])
-        if "pub struct Usage;" in text:
-            found["Usage"] = (crate, [("Usage", "usage", [])])
-        for name in re.findall(r"pub struct (\w+)\(String\);\s", text):
-            shown = re.search(r"impl fmt::Display for %s .*?write!\(f, \"(.*?)\", self\.0\)" % name, text, re.S)
-            if shown:
-                found[name] = (crate, [(name, shown.group(1).replace("{}", "{0}"), ["String"])])
-    return found
+    found = dict(STATED)
+    for (enum, crate), variants in texts_of_faults().items():
+        found["WhyWrongArgument" if (enum, crate) == ("WrongArgument", "wcwhy_command") else enum] = (crate, variants)
+    crates = libraries()
+    return dict(sorted(found.items(), key=lambda it: crates.index(it[1][0])))
 
 
 def readings(known, enum, text):
@@ -168,7 +114,7 @@ def readings(known, enum, text):
         # after the path to the value
         text = text.rpartition(": ")[2]
     for name, shown, fields in known[enum][1]:
-        pattern = re.escape(shown if shown is not None else "{0}")
+        pattern = re.escape(shown)
         for number in range(len(fields)):
             pattern = pattern.replace(re.escape("{%d}" % number), "(?P<f%d>.*)" % number)
         match = re.fullmatch(pattern, text, re.S)
@@ -261,6 +207,18 @@ def reached(known):
     return found, places, unread
 
 
+def unlisted(known):
+    """Lines on faults that the row which lists those of their enum lacks."""
+    for _, name, words, lines in rows():
+        enum = LISTS.get(words[0])
+        if enum:
+            texts_there = [re.sub(r"^\d+ ", "", line) for line in lines]
+            there = {faults_there[0] for faults_there in (readings(known, enum, text) for text in texts_there) if faults_there}
+            for own, _, _ in known[enum][1]:
+                if (enum, own) not in there | UNLISTED:
+                    yield "%s lists no `%s::%s`" % (name, enum, own)
+
+
 def shown(enum, crate, variants, name):
     """How a fault is named."""
     enum = enum.removeprefix("Why") if enum == "WhyWrongArgument" else enum
@@ -271,7 +229,7 @@ def fault_table(known, found):
     """The lines of the table of faults, and lines on those that have no row."""
     lines, wrong = ["| Fault | Row |\n", "|---|---|\n"], []
     for enum, (crate, variants) in known.items():
-        for name, _, _ in variants:
+        for name in dict.fromkeys(name for name, _, _ in variants):
             if name == "Memory":
                 where = FAILED
             elif (enum, name) in found:
@@ -310,6 +268,7 @@ def tables():
     known = faults()
     found, places, wrong = reached(known)
     made = {"faults": fault_table(known, found), "places": place_table(known, places)}
+    wrong += unlisted(known)
     return {name: text for name, (text, _) in made.items()}, wrong + [line for _, lines in made.values() for line in lines]
 
 

@@ -49,7 +49,7 @@ REACHED = {
         "Operators::new=liveness_counted Operators::next=liveness_counted frames read_body read_imports read_init "
         "read_module",
     "wc_record":
-        "FaultText::to_text=world_into function_to_json=plan_into import_chains_to_json=why_into "
+        "function_to_json=plan_into import_chains_to_json=why_into "
         "page_sizes_to_json=world_into part_to_json=world_into plan_to_json=plan_json planned_world_to_json=wcplan "
         "trim_place_to_json=trim_into world_place_to_json=plan_into world_to_json=world_into",
     "wc_resolve":
@@ -65,6 +65,7 @@ REACHED = {
         "MainModule::new=wcplan check_keys=wcplan export_keys=wcplan first_missing=wcplan first_repeated=wcplan "
         "indexed_keys=world_into no_task_hook=wcplan request_keys=wcplan required_keys=wcplan select_world=wcplan "
         "world_name=wcplan",
+    "wc_texts": "text_of=wcplan",
     "wc_ways": "ways_graph=wcplan ways_json=wcplan ways_text=wcplan",
     "wcwhy_command":
         "WhyFault::text=wcwhy WrongArgument::text=wcwhy graph_text=wcwhy item_text=wcwhy push_items=wcwhy "

@@ -9,7 +9,7 @@ use Rattle.std.specs.Result.{MatchResult, IsOk}
 use Rattle.std.specs.Str.{IsUtf8}
 use Rattle.indexmap.specs.IndexSet.{insert_key}
 use Rattle.wc_gc.specs.LiveItems.{names_of}
-use Rattle.wc_maps.specs.Names.{first_occurrences}
+use Rattle.wc_texts.specs.Names.{first_occurrences}
 use Rattle.wc_gc.proofs.NameSetLemmas.{same_text, set_more as name_more, some_keys}
 use Rattle.wc_calls.specs.ExportNames.{texts}
 

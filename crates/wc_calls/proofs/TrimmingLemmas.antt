@@ -2,7 +2,7 @@
 use Rattle.std.proofs.Common.{◌≡◌, ◌≢◌, ◌≤◌, ◌⊎◌, ◌<◌, arith, ℕ, List, length, false, Result, Ok, Err, IfOk, IfErr, ap, sym, subst, inl, inr, ◌∙◌}
 use Rattle.std.proofs.lemmas.Bool.{false≢true}
 use Rattle.wc_gc.specs.LiveItems.{TrimInput, trim_input_for_names}
-use Rattle.wc_maps.specs.Names.{first_occurrences}
+use Rattle.wc_texts.specs.Names.{first_occurrences}
 use Rattle.wc_gc.specs.declared.fault.GcFault.{GcFault}
 use Rattle.wc_gc.specs.declared.fault.GcFault.TheVariants.{Memory}
 use Rattle.wc_calls.specs.Answers.{IsBytesStatus, IsFront, IsPut, IsTooLong, bad_argument, done, failed, same as same_status, too_small, out_of_memory}

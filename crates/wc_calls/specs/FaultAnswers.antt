@@ -1,9 +1,8 @@
 -- How a fault of a message is answered: its number, its text, and after that what it is about.
 use Rattle.std.specs.Prelude.{◌≡◌, ◌++◌, ◌<◌, ◌≤◌, ℕ, List, length, false}
 use Rattle.wc_calls.specs.Answers.{IsFront, failed}
-use Rattle.wc_calls.specs.FaultNumbers.{message_fault_number}
-use Rattle.wc_calls.specs.FaultTexts.{message_fault_text}
 use Rattle.wc_calls.specs.MemoryFaults.{is_memory}
+use Rattle.wc_calls.specs.MessageFault.{message_fault_number, message_fault_text}
 use Rattle.wc_calls.specs.declared.answers.Answer.{Answer}
 use Rattle.wc_calls.specs.declared.message_fault.MessageFault.{MessageFault}
 

@@ -5,8 +5,6 @@ pub mod ComponentWorlds
 pub mod Encoders
 pub mod ExportNames
 pub mod FaultAnswers
-pub mod FaultNumbers
-pub mod FaultTexts
 pub mod ImportChains
 pub mod ImportOptions
 pub mod MemoryFaults

@@ -1,27 +1,32 @@
--- Why a message has no component's world.
-use Rattle.std.specs.Prelude.{◌≡◌, ◌≢◌, ◌⊎◌, ◌<◌, ◌++◌, ℕ, List, ◌∷◌, true, false, map, length, sum, ⊤, All, Contains, string_bytes}
+-- Why a message has no component's world; and the texts and the numbers of its faults.
+use Rattle.std.specs.Prelude.{◌≡◌, ◌≢◌, ◌⊎◌, ◌<◌, ◌++◌, ℕ, List, ◌∷◌, true, false, codes, map, length, sum, ⊤, All, Contains, string_bytes}
 use Rattle.std.specs.Str.{IsUtf8}
 use Rattle.json.specs.Json.{document}
 use Rattle.wc_dedupe.specs.Dedupe.{IsDedupeCause}
+use Rattle.wc_dedupe.specs.Fault.{dedupe_fault_number, dedupe_fault_text}
 use Rattle.wc_dedupe.specs.declared.fault.DedupeFault.{DedupeFault}
 use Rattle.wc_dedupe.specs.declared.fault.DedupeFault.TheVariants.{Memory as dedupe_memory}
 use Rattle.wc_adapters.specs.Adapters.{AdapterView}
 use Rattle.wc_encoder.specs.EncoderParts.{EncoderView}
-use Rattle.wc_encoder.specs.Fault.{IsEncoderCause}
+use Rattle.wc_encoder.specs.Fault.{IsEncoderCause, encoder_fault_number, encoder_fault_text}
 use Rattle.wc_encoder.specs.declared.fault.EncoderFault.{EncoderFault}
 use Rattle.wc_encoder.specs.declared.fault.EncoderFault.TheVariants.{Memory as encoder_memory}
+use Rattle.wc_json.specs.Fault.{json_fault_number, json_fault_text}
 use Rattle.wc_json.specs.FromJson.{IsCauseOf}
 use Rattle.wc_json.specs.declared.fault.JsonFault.{JsonFault}
 use Rattle.wc_json.specs.declared.fault.JsonFault.TheVariants.{Memory as json_memory}
-use Rattle.wc_resolve.specs.Fault.{IsResolveCause}
+use Rattle.wc_resolve.specs.Fault.{IsResolveCause, resolve_fault_number, resolve_fault_text}
 use Rattle.wc_resolve.specs.declared.fault.ResolveFault.{ResolveFault}
 use Rattle.wc_resolve.specs.declared.fault.ResolveFault.TheVariants.{Memory as resolve_memory}
 use Rattle.wc_resolve.specs.Views.{KeyView}
 use Rattle.wc_resolve.specs.WellFormed.{IsWellFormed}
-use Rattle.wc_plan.specs.Fault.{IsFirstFault}
+use Rattle.wc_plan.specs.Fault.{IsFirstFault, plan_fault_number, plan_fault_text}
 use Rattle.wc_plan.specs.declared.fault.PlanFault.{PlanFault}
 use Rattle.wc_plan.specs.declared.fault.PlanFault.TheVariants.{Memory as plan_memory, World as plan_world}
 use Rattle.wc_world.specs.Causes.{IsComponentWorldCause}
+use Rattle.wc_texts.specs.FaultNumbers.{carrying}
+use Rattle.wc_texts.specs.FaultTexts.{carried_text, memory_text, quoted_text}
+use Rattle.wc_world.specs.Fault.{world_fault_number, world_fault_text}
 use Rattle.wc_world.specs.Options.{OptionsOf}
 use Rattle.wc_world.specs.Views.{ComponentWorldView}
 use Rattle.wc_world.specs.World.{IsWorldOf}
@@ -192,3 +197,42 @@ IsAdaptersCause ms bytes Memory = ⊤
 IsAdaptersCause ms bytes Lengths = sizes ms ≢ length bytes
 IsAdaptersCause ms bytes (AdapterTwice name) = IsNamedTwice ms (string_bytes name)
 IsAdaptersCause ms bytes f = ⊥
+
+-- the text of a fault: its name; where it carries another fault, its name, `: `, and the text of that; or its name, and a
+-- name or a key in quotation marks
+abbrev pub message_fault_text : MessageFault → List ℕ
+message_fault_text Memory = memory_text
+message_fault_text NotText = codes "NotText"
+message_fault_text (Json f) = carried_text (codes "Json") (json_fault_text f)
+message_fault_text UnknownWorld = codes "UnknownWorld"
+message_fault_text Lengths = codes "Lengths"
+message_fault_text (Resolve f) = carried_text (codes "Resolve") (resolve_fault_text f)
+message_fault_text (AdapterTwice name) = quoted_text (codes "AdapterTwice") (string_bytes name)
+message_fault_text (Dedupe f) = carried_text (codes "Dedupe") (dedupe_fault_text f)
+message_fault_text (Encoder f) = carried_text (codes "Encoder") (encoder_fault_text f)
+message_fault_text (World f) = carried_text (codes "World") (world_fault_text f)
+message_fault_text (Plan f) = carried_text (codes "Plan") (plan_fault_text f)
+message_fault_text SeveralWorlds = codes "SeveralWorlds"
+message_fault_text PackageRange = codes "PackageRange"
+message_fault_text (UnknownKey key) = quoted_text (codes "UnknownKey") (string_bytes key)
+message_fault_text (SeveralKeys key) = quoted_text (codes "SeveralKeys") (string_bytes key)
+message_fault_text (RepeatedKey key) = quoted_text (codes "RepeatedKey") (string_bytes key)
+
+-- the number of a fault: its position in its enum; where it carries another fault, that and 256 times the number of the other
+abbrev pub message_fault_number : MessageFault → ℕ
+message_fault_number Memory = 0
+message_fault_number NotText = 1
+message_fault_number (Json f) = carrying 2 (json_fault_number f)
+message_fault_number UnknownWorld = 3
+message_fault_number Lengths = 4
+message_fault_number (Resolve f) = carrying 5 (resolve_fault_number f)
+message_fault_number (AdapterTwice name) = 6
+message_fault_number (Dedupe f) = carrying 7 (dedupe_fault_number f)
+message_fault_number (Encoder f) = carrying 8 (encoder_fault_number f)
+message_fault_number (World f) = carrying 9 (world_fault_number f)
+message_fault_number (Plan f) = carrying 10 (plan_fault_number f)
+message_fault_number SeveralWorlds = 11
+message_fault_number PackageRange = 12
+message_fault_number (UnknownKey key) = 13
+message_fault_number (SeveralKeys key) = 14
+message_fault_number (RepeatedKey key) = 15

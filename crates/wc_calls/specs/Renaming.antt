@@ -3,7 +3,7 @@ use Rattle.std.specs.Prelude.{◌≡◌, ◌≢◌, ℕ, List, [], ◌++◌, len
 use Rattle.wc_dedupe.specs.Renaming.{RenameView}
 use Rattle.wc_dedupe.specs.Dedupe.{IsDeduped, IsDedupeCause}
 use Rattle.wc_dedupe.specs.declared.fault.DedupeFault.{DedupeFault}
-use Rattle.wc_calls.specs.FaultNumbers.{dedupe_fault_number}
+use Rattle.wc_dedupe.specs.Fault.{dedupe_fault_number}
 use Rattle.wc_calls.specs.MemoryFaults.{dedupe_is_memory}
 use Rattle.wc_calls.specs.Renames.{renames_text}
 

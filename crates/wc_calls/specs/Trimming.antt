@@ -8,7 +8,7 @@ use Rattle.wc_gc.specs.Trim.{IsTrimFault}
 use Rattle.wc_gc.specs.declared.fault.GcFault.{GcFault}
 use Rattle.wc_gc.specs.declared.fault.GcFault.TheVariants.{MissingExport}
 use Rattle.wc_calls.specs.Answers.{IsFront, failed}
-use Rattle.wc_calls.specs.FaultNumbers.{gc_fault_number}
+use Rattle.wc_gc.specs.Fault.{gc_fault_number}
 use Rattle.wc_calls.specs.MemoryFaults.{gc_is_memory}
 use Rattle.wc_calls.specs.Places.{IsTrimPlaceText}
 use Rattle.wc_calls.specs.ExportNames.{position_of}

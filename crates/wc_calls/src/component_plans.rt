@@ -58,7 +58,7 @@ fn plan_for(alloc: Global, input: &WorldInput, out: &mut [u8]) -> Answer
 /// - `DONE`: the front of `out` has the plan as JSON, as `wc_record::plan_to_json` writes it; `length` is how many bytes
 ///   that has.
 /// - `TOO_SMALL`: the same would have `length` bytes, and `out` has fewer.
-/// - `FAULT`: why there is no plan, by its number (`message_fault_number`), and its text, and what it is about, as of
+/// - `FAULT`: why there is no plan, by its number (`MessageFault::number`), and its text, and what it is about, as of
 ///   `world`. It neither is nor carries a `Memory`. A fault of the plan itself is about a function, by its name
 ///   (`wc_record::function_to_json`).
 /// - `MEMORY`: an allocation failed.

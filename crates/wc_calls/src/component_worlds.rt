@@ -109,7 +109,7 @@ fn world_for(alloc: Global, input: &WorldInput, out: &mut [u8]) -> Answer
 ///   imports, and the adapters and libraries of the component's world in their order. After them it has that world as
 ///   JSON, as `wc_record::world_to_json` writes it, with the length of each adapter. `length` is how many bytes both have.
 /// - `TOO_SMALL`: the same would have `length` bytes, and `out` has fewer.
-/// - `FAULT`: why there is no component's world, by its number (`message_fault_number`). It neither is nor carries a
+/// - `FAULT`: why there is no component's world, by its number (`MessageFault::number`). It neither is nor carries a
 ///   `Memory`. Its text, as it is printed, has `position` bytes. Of a message that is not what it has to be, it has the path
 ///   to what is wrong, as `Json: adapters[0].length: not an index`. After the text is a JSON object that says what the fault
 ///   is about, if it is one of an import, an export, a section or a body (`wc_world::explain`), of page sizes, or of a

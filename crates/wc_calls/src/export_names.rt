@@ -5,7 +5,7 @@ ghost use Rattle.std.specs.List.{All};
 ghost use Rattle.std.specs.Option.{option_map};
 ghost use Rattle.std.specs.Str.{IsUtf8};
 ghost use Rattle.wc_gc.specs.LiveItems.{names_of};
-ghost use Rattle.wc_maps.specs.Names.{first_occurrences};
+ghost use Rattle.wc_texts.specs.Names.{first_occurrences};
 ghost use Rattle.wc_calls.specs.ExportNames.{texts, position_of};
 
 use std::alloc::{AllocError, Global};

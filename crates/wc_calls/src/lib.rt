@@ -33,7 +33,6 @@ mod encoders;
 mod explained;
 mod export_names;
 mod fault_answers;
-mod fault_numbers;
 mod import_chains;
 mod import_options;
 mod memory_faults;
@@ -49,11 +48,6 @@ mod validation;
 pub use answers::{Answer, BAD_ARGUMENT, DONE, FAULT, MEMORY, SAME, TOO_SMALL};
 pub use component_plans::plan;
 pub use component_worlds::world;
-pub use fault_numbers::{
-    dedupe_fault_number, encoder_fault_number, gc_fault_number, json_fault_number,
-    message_fault_number, plan_fault_number, problem_number, read_fault_number,
-    resolve_fault_number, validate_fault_number, world_fault_number,
-};
 pub use import_chains::why;
 pub use message_fault::MessageFault;
 pub use planned_worlds::planned_world;

@@ -6,12 +6,11 @@ ghost use Rattle.wc_dedupe.specs.Dedupe.{IsDeduped};
 ghost use Rattle.wc_dedupe.specs.Renames.{rename_values};
 ghost use Rattle.wc_calls.specs.Renames.{renames_text};
 ghost use Rattle.wc_calls.specs.Answers.{AreOthersZero, HasNoBytes, HasNoFault, IsFront, IsBytesStatus, IsPut, IsTooLong, done, failed, too_small, same, bad_argument, out_of_memory};
-ghost use Rattle.wc_calls.specs.FaultNumbers.{dedupe_fault_number};
+ghost use Rattle.wc_dedupe.specs.Fault.{dedupe_fault_number};
 ghost use Rattle.wc_calls.specs.MemoryFaults.{dedupe_is_memory};
 ghost use Rattle.wc_calls.specs.Renaming.{IsRenamed, IsRenamingFault};
 
 use crate::answers::{Answer, MEMORY, SAME, answer_without_bytes, fault_answer, put};
-use crate::fault_numbers::dedupe_fault_number;
 use crate::memory_faults::dedupe_is_memory;
 use crate::renames::renames_text;
 use std::alloc::Global;
@@ -27,7 +26,7 @@ use wc_dedupe::{DedupeFault, ModuleImportMap, Rename};
 ///   and its bytes (5.2.4).
 /// - `TOO_SMALL`: the same would have `length` bytes, and `out` has fewer.
 /// - `SAME`: no import repeats, or the bytes are a component's. So it is for every component.
-/// - `FAULT`: the fault of `ModuleImportMap::new`, by its number (`dedupe_fault_number`). It neither is nor
+/// - `FAULT`: the fault of `ModuleImportMap::new`, by its number (`DedupeFault::number`). It neither is nor
 ///   carries a `Memory`.
 /// - `MEMORY`: an allocation failed.
 ///
@@ -67,7 +66,7 @@ fn answer_dedupe_fault(fault: DedupeFault) -> Answer
     if dedupe_is_memory(fault) {
         return answer_without_bytes(MEMORY);
     }
-    fault_answer(dedupe_fault_number(fault), 0)
+    fault_answer(fault.number(), 0)
 }
 
 /// Writes a renamed module, and then its renames.

@@ -15,7 +15,6 @@ ghost use Rattle.wc_calls.specs.Trimming.{AreArguments, IsTrimFaultAnswer, IsTri
 
 use crate::answers::{Answer, BAD_ARGUMENT, FAULT, MEMORY, answer_without_bytes, put};
 use crate::export_names::{are_texts, name_set, optional_text, position_of};
-use crate::fault_numbers::gc_fault_number;
 use crate::memory_faults::gc_is_memory;
 use crate::places::trim_place_text;
 use std::alloc::{AllocError, Global};
@@ -32,7 +31,7 @@ const MAX_PAGE_SIZE_LOG2: u32 = 16;
 /// - `DONE`: the front of `out` has the bytes of the trimmed adapter, `length` of them, which are all a module.
 /// - `TOO_SMALL`: the trimmed adapter has `length` bytes, and `out` has fewer.
 /// - `BAD_ARGUMENT`: exactly where `required` is empty, a name is no text (UTF-8), or `page_size_log2` is more than 16.
-/// - `FAULT`: the fault of `run`, by its number (`gc_fault_number`). It neither is nor carries a `Memory`. Of a missing
+/// - `FAULT`: the fault of `run`, by its number (`GcFault::number`). It neither is nor carries a `Memory`. Of a missing
 ///   export `position` is where its name is first in `required`. `length` is how many bytes the JSON object has that says
 ///   what the fault is about (`wc_gc::explain`), as that of `world` without an adapter; it is in the front of `out`, if
 ///   `out` has so many. It is 0 where there is none.
@@ -200,7 +199,7 @@ fn put_trim_fault(fault: &GcFault, place: &[u8], required: &[&[u8]], out: &mut [
     let answer = put(&[], place, out);
     Answer {
         status: FAULT,
-        fault: gc_fault_number(fault),
+        fault: fault.number(),
         length: answer.length,
         module_length: 0,
         position: missing_position(fault, required),

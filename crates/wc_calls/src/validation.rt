@@ -350,7 +350,7 @@ fn validate_for(
 /// - `DONE`: the module is valid; if it is an adapter or a library, so is the main module.
 /// - `BAD_ARGUMENT`: the main module is valid; and `adapter` is no text (UTF-8), or the name of none of the message.
 /// - `FAULT`: the module is refused, or the main module is, or the message and the modules are no encoder. The fault is by
-///   its number (`message_fault_number`), and with its text and what it is about, as of `world`: `World` with `Main`, or
+///   its number (`MessageFault::number`), and with its text and what it is about, as of `world`: `World` with `Main`, or
 ///   with `Adapter` and the name; or one of the others, but for `Plan`. It neither is nor carries a `Memory`.
 /// - `MEMORY`: an allocation failed.
 ///

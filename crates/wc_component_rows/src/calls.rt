@@ -76,27 +76,38 @@ fn put_asked_place(
 }
 
 /// The lines of a place.
-fn place_lines(alloc: Global, place: Result<Option<WorldPlace>, AllocError>) -> Lines {
+fn place_lines(alloc: Global, place: &Result<Option<WorldPlace>, AllocError>) -> Lines {
     let mut lines = Lines::new(alloc);
     match place {
-        Ok(Some(place)) => put_world_place(&place, &mut lines),
+        Ok(Some(place)) => put_world_place(place, &mut lines),
         Ok(None) => lines.push_str("none\n"),
         Err(_) => lines.lack_memory(),
     }
     lines
 }
 
-/// Puts what a fault is about, as two calls answer it; once, where they agree.
-fn put_explained(alloc: Global, encoder: &ComponentEncoder, fault: &WorldFault, out: &mut Lines) {
-    let explained = place_lines(alloc, explain(alloc, encoder, fault));
-    out.push_lines(&explained);
-    if let Err(refused) = ComponentWorld::new_explained(alloc, encoder, &PlainOptions) {
-        let RefusedWorld { fault: _, place } = refused;
-        let found = place_lines(alloc, place);
+/// Puts the place that a world is refused with, unless it is as another call answered it.
+fn put_refused(
+    alloc: Global,
+    world: &Result<ComponentWorld<'_>, RefusedWorld>,
+    explained: &Lines,
+    out: &mut Lines,
+) {
+    if let Err(refused) = world {
+        let found = place_lines(alloc, &refused.place);
         if found.text() != explained.text() {
             out.push_lines(&found);
         }
     }
+}
+
+/// Puts what a fault is about, as two calls answer it; once, where they agree.
+fn put_explained(alloc: Global, encoder: &ComponentEncoder, fault: &WorldFault, out: &mut Lines) {
+    let place = explain(alloc, encoder, fault);
+    let explained = place_lines(alloc, &place);
+    out.push_lines(&explained);
+    let world = ComponentWorld::new_explained(alloc, encoder, &PlainOptions);
+    put_refused(alloc, &world, &explained, out);
 }
 
 /// `component_world PART..`, by plain options. `component_world explain`: why there is none, and what that is about.

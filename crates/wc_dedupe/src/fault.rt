@@ -1,26 +1,63 @@
 //! Why dedupe refuses bytes.
 
-ghost use Rattle.std.specs.Prelude.{◌≡◌};
+ghost use Rattle.std.specs.Prelude.{◌≡◌, ◌≤◌, Some};
 ghost use Rattle.wc_dedupe.specs.declared.fault.DedupeFault.TheVariants.{Memory, TooLarge};
+ghost use Rattle.wc_dedupe.specs.Fault.{dedupe_fault_number, dedupe_fault_text};
 
 use std::alloc::{AllocError, AllocFailed};
-use thiserror::Error;
+use std::error::Error as StdError;
+use std::fmt;
 use wc_read::ReadFault;
+use wc_texts::{CARRIED, FaultText, OUT_OF_MEMORY, Pieces, PutFailed, put_carried, show};
 use wc_write::WriteFault;
 
 /// Why the imports of a module could not be renamed.
-#[derive(Clone, Copy, Debug, PartialEq, Eq, Error)]
+#[derive(Clone, Copy, Debug, PartialEq, Eq)]
 pub enum DedupeFault {
     /// An allocation failed.
-    #[error("out of memory")]
     Memory,
     /// The bytes are no component, and can't be cut into sections or have a malformed import section.
-    #[error("Read: {0}")]
     Read(ReadFault),
     /// A section of the renamed module has a content of 2^32 bytes or more.
-    #[error("TooLarge")]
     TooLarge,
 }
+
+impl DedupeFault {
+    /// The number of the fault: its position in the enum, and 256 times the number of a fault that it carries. It
+    /// never changes.
+    pub fn number(self) -> u32
+        ensures number { result ≡ dedupe_fault_number self }
+        ensures bounded { result ≤ 4609 }
+    {
+        match self {
+            DedupeFault::Memory => 0,
+            DedupeFault::Read(fault) => 1 + CARRIED * fault.number(),
+            DedupeFault::TooLarge => 2,
+        }
+    }
+}
+
+impl FaultText for DedupeFault {
+    ghost text = { dedupe_fault_text };
+
+    fn put_pieces<P: Pieces>(&self, out: &mut P) -> Result<(), PutFailed> {
+        match self {
+            DedupeFault::Memory => out.put_piece(OUT_OF_MEMORY),
+            DedupeFault::Read(fault) => put_carried(out, "Read", fault),
+            DedupeFault::TooLarge => out.put_piece("TooLarge"),
+        }
+    }
+}
+
+impl fmt::Display for DedupeFault {
+    ghost output = { λ fault. Some (dedupe_fault_text fault) };
+
+    fn fmt<W: fmt::Write>(&self, f: &mut fmt::Formatter<W>) -> fmt::Result {
+        show(self, f)
+    }
+}
+
+impl StdError for DedupeFault {}
 
 impl From<AllocError> for DedupeFault {
     ghost from_gives = { λ _ e. e ≡ Memory };

@@ -45,7 +45,8 @@ fn entries_of<'a>(
     alloc: Global,
     names: &[(&'a str, &'a str)],
 ) -> Result<Vec<(&'a str, &'a str, usize)>, AllocError>
-    ensures { IfOk result (λ v. AreEntries (names_of names.now) (length (names_of names.now)) v.items) }
+    ensures { IfOk result (λ v.
+        AreEntries (names_of names.now) (length (names_of names.now)) v.items) }
 {
     let mut entries = Vec::with_capacity(alloc, names.len())?;
     for (index, name) in names.iter().enumerate() {

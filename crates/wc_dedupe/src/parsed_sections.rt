@@ -74,7 +74,8 @@ pub fn import_names<'a>(
     alloc: Global,
     parts: &[ParsedSection<'a>],
 ) -> Result<Vec<(&'a str, &'a str)>, AllocError>
-    ensures { IfOk result (λ v. names_of v.items ≡ originals (imports_of (parsed_values parts.now))) }
+    ensures { IfOk result (λ v. names_of v.items
+        ≡ originals (imports_of (parsed_values parts.now))) }
 {
     let mut names = Vec::new(alloc);
     for part in parts {

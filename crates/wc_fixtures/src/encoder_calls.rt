@@ -25,16 +25,7 @@ pub enum Call {
 
 /// The text of each fault, in the order of `EncoderFault`.
 fn put_faults(out: &mut Lines) {
-    let faults = [
-        EncoderFault::Memory,
-        EncoderFault::UnknownWorld,
-        EncoderFault::NotAnExport,
-        EncoderFault::TypeExported,
-        EncoderFault::InterfaceTwice,
-        EncoderFault::DependencyLater,
-        EncoderFault::ImportNameClash,
-    ];
-    for fault in faults {
+    for fault in EncoderFault::ALL {
         writeln!(out, "{fault}");
     }
 }

@@ -128,18 +128,7 @@ fn function_clone<'a>(words: &mut Words, out: &mut Lines) -> Result<(), Stop<'a>
 
 /// The text of each fault, in the order of `ResolveFault`.
 fn put_faults(out: &mut Lines) {
-    let faults = [
-        ResolveFault::Memory,
-        ResolveFault::IdRange,
-        ResolveFault::Cycle,
-        ResolveFault::Unnamed,
-        ResolveFault::KeyMismatch,
-        ResolveFault::NameClash,
-        ResolveFault::BadCharacter,
-        ResolveFault::ByValueResource,
-        ResolveFault::Empty,
-    ];
-    for fault in faults {
+    for fault in ResolveFault::ALL {
         writeln!(out, "{fault}");
     }
 }

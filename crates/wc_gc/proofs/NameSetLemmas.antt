@@ -10,7 +10,7 @@ use Rattle.std.specs.List.{list_any, filter}
 use Rattle.std.specs.Str.{bytes_eq}
 use Rattle.indexmap.specs.IndexSet.{insert_key}
 use Rattle.wc_gc.specs.LiveItems.{names_of}
-use Rattle.wc_maps.specs.Names.{first_occurrences}
+use Rattle.wc_texts.specs.Names.{first_occurrences}
 
 abbrev pub same_text : String Global → String Global → Bool
 same_text a b = bytes_eq (string_bytes a) (string_bytes b)

@@ -1,7 +1,7 @@
 -- What liveness answers: the reached items, or why there are none.
 use Rattle.std.specs.Prelude.{◌≡◌, ◌≢◌, ℕ, ◌<◌, List, [], length, map, Bool, false, AllPairs, IsTrue, Contains, IsSome, Some, None, String, string_bytes, ◌↔◌}
 use Rattle.std.specs.Prelude.{◌⊎◌}
-use Rattle.wc_maps.specs.Names.{first_occurrences}
+use Rattle.wc_texts.specs.Names.{first_occurrences}
 use Rattle.wc_read.specs.Fault.{SpellsNothing}
 use Rattle.wc_read.specs.Sections.{IsComponent}
 use Rattle.wc_read.specs.Modules.{ModuleValue, SpellsModule}

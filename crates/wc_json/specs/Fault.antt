@@ -1,7 +1,10 @@
--- Faults: what a value is read as, or the first fault in it, and how a function's result agrees with that; texts.
+-- Faults: what a value is read as, or the first fault in it, and how a function's result agrees with that; texts and
+-- numbers.
 use Rattle.std.specs.Prelude.{◌≡◌, ◌≢◌, ℕ, List, [], ◌∷◌, ◌++◌, ⊤, Result, Ok, Err, IfErr, codes, string_bytes}
 use Rattle.json.specs.declared.error.Error.{Error}
 use Rattle.json.specs.declared.error.Error.TheVariants.{Invalid, OutOfMemory, TooLong, DuplicateKey}
+use Rattle.wc_texts.specs.FaultNumbers.{carrying}
+use Rattle.wc_texts.specs.FaultTexts.{memory_text}
 use Rattle.wc_json.specs.declared.fault.Problem.{Problem}
 use Rattle.wc_json.specs.declared.fault.Problem.TheVariants.{Missing, NotAnObject, NotOneMember, NotAList, NotAText, NotAnIndex, Unknown, LeftOut, Outdated, NotAPackageName, NotABool}
 use Rattle.wc_json.specs.declared.fault.JsonFault.{JsonFault}
@@ -95,7 +98,28 @@ path_and_problem_text [] problem = problem
 path_and_problem_text (c ∷ path) problem = (c ∷ path) ++ (codes ": " ++ problem)
 
 abbrev pub json_fault_text : JsonFault → List ℕ
-json_fault_text Memory = codes "out of memory"
+json_fault_text Memory = memory_text
 json_fault_text NotJson = codes "not JSON"
 json_fault_text RepeatedMember = codes "repeated member"
 json_fault_text (Wrong path problem) = path_and_problem_text (string_bytes path) (problem_text problem)
+
+-- numbers: the position in the enum, and 256 times the number of what is carried
+
+abbrev pub problem_number : Problem → ℕ
+problem_number Missing = 0
+problem_number NotAnObject = 1
+problem_number NotOneMember = 2
+problem_number NotAList = 3
+problem_number NotAText = 4
+problem_number NotAnIndex = 5
+problem_number Unknown = 6
+problem_number LeftOut = 7
+problem_number Outdated = 8
+problem_number NotAPackageName = 9
+problem_number NotABool = 10
+
+abbrev pub json_fault_number : JsonFault → ℕ
+json_fault_number Memory = 0
+json_fault_number NotJson = 1
+json_fault_number RepeatedMember = 2
+json_fault_number (Wrong path problem) = carrying 3 (problem_number problem)

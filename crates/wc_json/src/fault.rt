@@ -1,11 +1,13 @@
 //! Why a text is refused.
 
-ghost use Rattle.std.specs.Prelude.{◌≡◌, Some};
+ghost use Rattle.std.specs.Prelude.{◌≡◌, ◌≤◌, Some};
+ghost use Rattle.wc_json.specs.Fault.{json_fault_number, json_fault_text, problem_number, problem_text};
 ghost use Rattle.wc_json.specs.declared.fault.JsonFault.TheVariants.{Memory};
 
 use std::alloc::{AllocError, AllocFailed};
 use std::error::Error as StdError;
 use std::fmt;
+use wc_texts::{CARRIED, FaultText, OUT_OF_MEMORY, Pieces, PutFailed, put_carried, show};
 
 /// The problem with a JSON value, or with a member that isn't there.
 #[derive(Clone, Copy, Debug, PartialEq, Eq)]
@@ -35,25 +37,53 @@ pub enum Problem {
     NotABool,
 }
 
-impl fmt::Display for Problem {
-    ghost use Rattle.wc_json.specs.Fault.{problem_text};
+impl Problem {
+    /// The number of the problem, its position in the enum. It never changes.
+    pub fn number(self) -> u32
+        ensures number { result ≡ problem_number self }
+        ensures bounded { result ≤ 10 }
+    {
+        match self {
+            Problem::Missing => 0,
+            Problem::NotAnObject => 1,
+            Problem::NotOneMember => 2,
+            Problem::NotAList => 3,
+            Problem::NotAText => 4,
+            Problem::NotAnIndex => 5,
+            Problem::Unknown => 6,
+            Problem::LeftOut => 7,
+            Problem::Outdated => 8,
+            Problem::NotAPackageName => 9,
+            Problem::NotABool => 10,
+        }
+    }
+}
 
+impl FaultText for Problem {
+    ghost text = { problem_text };
+
+    fn put_pieces<P: Pieces>(&self, out: &mut P) -> Result<(), PutFailed> {
+        match self {
+            Problem::Missing => out.put_piece("missing"),
+            Problem::NotAnObject => out.put_piece("not an object"),
+            Problem::NotOneMember => out.put_piece("not an object of one member"),
+            Problem::NotAList => out.put_piece("not a list"),
+            Problem::NotAText => out.put_piece("not a text"),
+            Problem::NotAnIndex => out.put_piece("not an index"),
+            Problem::Unknown => out.put_piece("unknown"),
+            Problem::LeftOut => out.put_piece("kind of type that is left out"),
+            Problem::Outdated => out.put_piece("member of an older form"),
+            Problem::NotAPackageName => out.put_piece("not a package name"),
+            Problem::NotABool => out.put_piece("not a truth value"),
+        }
+    }
+}
+
+impl fmt::Display for Problem {
     ghost output = { λ problem. Some (problem_text problem) };
 
     fn fmt<W: fmt::Write>(&self, f: &mut fmt::Formatter<W>) -> fmt::Result {
-        match self {
-            Problem::Missing => f.write_str("missing"),
-            Problem::NotAnObject => f.write_str("not an object"),
-            Problem::NotOneMember => f.write_str("not an object of one member"),
-            Problem::NotAList => f.write_str("not a list"),
-            Problem::NotAText => f.write_str("not a text"),
-            Problem::NotAnIndex => f.write_str("not an index"),
-            Problem::Unknown => f.write_str("unknown"),
-            Problem::LeftOut => f.write_str("kind of type that is left out"),
-            Problem::Outdated => f.write_str("member of an older form"),
-            Problem::NotAPackageName => f.write_str("not a package name"),
-            Problem::NotABool => f.write_str("not a truth value"),
-        }
+        show(self, f)
     }
 }
 
@@ -73,24 +103,46 @@ pub enum JsonFault {
     Wrong { path: String, problem: Problem },
 }
 
-impl fmt::Display for JsonFault {
-    ghost use Rattle.wc_json.specs.Fault.{json_fault_text};
-
-    ghost output = { λ fault. Some (json_fault_text fault) };
-
-    fn fmt<W: fmt::Write>(&self, f: &mut fmt::Formatter<W>) -> fmt::Result {
+impl JsonFault {
+    /// The number of the fault: its position in the enum, and of `Wrong` 256 times the number of the problem. The
+    /// path is no part of it. It never changes.
+    pub fn number(&self) -> u32
+        ensures number { result ≡ json_fault_number self.now }
+        ensures bounded { result ≤ 2563 }
+    {
         match self {
-            JsonFault::Memory => f.write_str("out of memory"),
-            JsonFault::NotJson => f.write_str("not JSON"),
-            JsonFault::RepeatedMember => f.write_str("repeated member"),
+            JsonFault::Memory => 0,
+            JsonFault::NotJson => 1,
+            JsonFault::RepeatedMember => 2,
+            JsonFault::Wrong { problem, .. } => 3 + CARRIED * problem.number(),
+        }
+    }
+}
+
+impl FaultText for JsonFault {
+    ghost text = { json_fault_text };
+
+    fn put_pieces<P: Pieces>(&self, out: &mut P) -> Result<(), PutFailed> {
+        match self {
+            JsonFault::Memory => out.put_piece(OUT_OF_MEMORY),
+            JsonFault::NotJson => out.put_piece("not JSON"),
+            JsonFault::RepeatedMember => out.put_piece("repeated member"),
             JsonFault::Wrong { path, problem } => {
                 if path.is_empty() {
-                    write!(f, "{problem}")
+                    problem.put_pieces(out)
                 } else {
-                    write!(f, "{path}: {problem}")
+                    put_carried(out, path, problem)
                 }
             }
         }
+    }
+}
+
+impl fmt::Display for JsonFault {
+    ghost output = { λ fault. Some (json_fault_text fault) };
+
+    fn fmt<W: fmt::Write>(&self, f: &mut fmt::Formatter<W>) -> fmt::Result {
+        show(self, f)
     }
 }
 

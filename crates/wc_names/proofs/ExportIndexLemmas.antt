@@ -30,7 +30,7 @@ use Rattle.wc_resolve.proofs.SearchLemmas.{contains_cons, contains_head, contain
 use Rattle.wc_resolve.proofs.ViewedLemmas.{all_unviewed}
 use Rattle.wc_resolve.proofs.WellFormedLemmas.{interface_names_in}
 use Rattle.wc_names.specs.Keys.{as_interface, item_under, key_eq}
-use Rattle.wc_maps.specs.Names.{under_name}
+use Rattle.wc_texts.specs.Names.{under_name}
 use Rattle.wc_names.proofs.KeyLemmas.{lookup_passes}
 
 -- keys that are equal by the test are equal

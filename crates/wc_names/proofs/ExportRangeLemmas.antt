@@ -19,7 +19,7 @@ use Rattle.wc_names.specs.First.{FirstOf}
 use Rattle.wc_names.specs.Imports.{ExternType, NameScope}
 use Rattle.wc_names.specs.Interfaces.{FoundInterface}
 use Rattle.wc_names.specs.Laws.{IsExportIn, IsInterfaceFunctionIn, IsWorldFunctionIn}
-use Rattle.wc_maps.specs.Names.{under_name}
+use Rattle.wc_texts.specs.Names.{under_name}
 use Rattle.wc_names.specs.Mangling.{Scheme}
 use Rattle.wc_names.proofs.ExportIndexLemmas.{all_filtered}
 use Rattle.wc_names.proofs.MeaningRangeLemmas.{function_names, listed_names, named_resource}

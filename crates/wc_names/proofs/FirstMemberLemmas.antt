@@ -13,7 +13,7 @@ use Rattle.std.proofs.lemmas.Slice.Eq.{bytes_eq-Decides}
 use Rattle.wc_resolve.specs.Views.{FunctionView, InterfaceView, KeyView}
 use Rattle.wc_resolve.specs.Kinds.{ResolveView}
 use Rattle.wc_resolve.proofs.LookupLemmas.{name_viewed}
-use Rattle.wc_maps.specs.Names.{under_name}
+use Rattle.wc_texts.specs.Names.{under_name}
 use Rattle.wc_resolve.specs.Roots.{id_index}
 use Rattle.wc_resolve.specs.declared.functions.Function.{Function}
 use Rattle.wc_resolve.specs.declared.ids.InterfaceId.{InterfaceId}

@@ -20,7 +20,7 @@ use Rattle.wc_resolve.specs.Kinds.{ResolveView}
 use Rattle.wc_names.specs.Finds.{Finds}
 use Rattle.wc_names.specs.First.{FirstOf}
 use Rattle.wc_names.specs.Keys.{as_interface, item_under, key_eq}
-use Rattle.wc_maps.specs.Names.{under_name}
+use Rattle.wc_texts.specs.Names.{under_name}
 use Rattle.wc_adapters.specs.Entries.{Entries}
 use Rattle.wc_names.proofs.SearchLemmas.{first_kind}
 use Rattle.wc_names.proofs.KeyLemmas.{package_unique, lookup_passes}

@@ -1,17 +1,21 @@
 -- Look-ups by keys and names, and what they find in a `Resolve` that is well-formed.
-use Rattle.std.proofs.Common.{◌≡◌, ◌≢◌, ℕ, zero, suc, ◌<◌, Bool, true, false, cond, List, [], ◌∷◌, map, length, Option, Some, None, refl, sym, ap, subst, ◌∙◌}
+use Rattle.std.proofs.Common.{◌≡◌, ◌≢◌, ℕ, zero, suc, ◌<◌, Bool, true, false, cond, List, [], ◌∷◌, map, length, String, Option, Some, None, refl, sym, ap, subst, ◌∙◌}
 use Rattle.std.specs.Prelude.{slice_get, All}
 use Rattle.std.specs.Map.{lookup}
 use Rattle.std.specs.Option.{option_and_then, option_map}
 use Rattle.std.specs.Str.{bytes_eq}
+use Rattle.std.specs.declared.alloc.Global.{Global}
+use Rattle.std.proofs.lemmas.Option.{slice_get-map}
 use Rattle.std.proofs.lemmas.List.Elements.{All-head, All-tail}
+use Rattle.wc_resolve.specs.declared.functions.Function.{Function}
 use Rattle.wc_resolve.specs.declared.worlds.WorldKey.{WorldKey}
 use Rattle.wc_resolve.specs.declared.worlds.WorldKey.TheVariants.{Name, Interface as InterfaceKey}
 use Rattle.wc_resolve.specs.declared.worlds.WorldItem.{WorldItem}
+use Rattle.wc_resolve.specs.LongFunctions.{function_of_interface}
 use Rattle.wc_resolve.specs.contracts.worlds.WorldKeyPartialEq.TheImpl.{eq-value as world_key_eq}
 use Rattle.wc_resolve.specs.Resolve.{package_name_at}
 use Rattle.wc_resolve.specs.Ranges.{AreIdsInRange, AreNamesIn, IsEntryIn, IsFunctionIn, IsItemIn, IsWorldIn}
-use Rattle.wc_resolve.specs.Views.{FunctionView, InterfaceView, ItemView, KeyView, PackageView, PackageNameView, WorldView, function_item, interface_item, plain_key, type_item, key_view, item_view, world_entry}
+use Rattle.wc_resolve.specs.Views.{FunctionView, InterfaceView, ItemView, KeyView, PackageView, PackageNameView, WorldView, function_item, interface_item, plain_key, type_item, function_entry, function_view, key_view, item_view, world_entry}
 use Rattle.wc_resolve.specs.WellFormed.{HaveDistinctNames}
 use Rattle.wc_resolve.specs.Kinds.{ResolveView}
 use Rattle.wc_resolve.proofs.ViewedLemmas.{all_unviewed}
@@ -20,7 +24,7 @@ use Rattle.wc_resolve.proofs.WellFormedLemmas.{all_get, interface_names_in}
 use Rattle.wc_adapters.proofs.PairLemmas.{pairs_head, pairs_tail}
 use Rattle.wc_adapters.specs.Entries.{Entries}
 use Rattle.wc_names.specs.Keys.{as_function, as_type, function_at, key_eq, item_under, type_named, world_entries}
-use Rattle.wc_maps.specs.Names.{under_name}
+use Rattle.wc_texts.specs.Names.{under_name}
 
 -- keys are equal where contracts see equal keys
 pub keys_viewed : (a b : WorldKey) → world_key_eq.it a b ≡ key_eq (key_view a) (key_view b)
@@ -33,6 +37,12 @@ keys_viewed (InterfaceKey i) (InterfaceKey j) = refl
 pub item_viewed : (key : WorldKey) (es : List (WorldKey × WorldItem))
     → option_map item_view (lookup (world_key_eq.it key) es) ≡ item_under (map world_entry es) (key_view key)
 item_viewed key es = lookup_viewed key_view item_view (world_key_eq.it key) (key_eq (key_view key)) (keys_viewed key) es
+
+-- the function at an index of a map, as it is found there
+pub function_found_at : (es : List (String Global × Function)) (index : ℕ) (name : String Global) (f : Function) → slice_get es index ≡ Some (name, f)
+    → function_of_interface (map function_entry es) index ≡ Some (function_view f)
+function_found_at es index name f at =
+    ap (option_map (λ (e : List ℕ × FunctionView). e.1)) (slice_get-map function_entry es index ∙ ap (option_map function_entry) at)
 
 -- no package after the first one has its name
 other_name : (p : PackageView) (ps : List PackageView) (k : ℕ) (w : PackageView) → HaveDistinctNames (p ∷ ps) → slice_get ps k ≡ Some w → p.name ≢ w.name

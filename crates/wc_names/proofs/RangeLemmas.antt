@@ -18,7 +18,7 @@ use Rattle.wc_adapters.specs.Entries.{Entries}
 use Rattle.wc_names.specs.First.{FirstOf}
 use Rattle.wc_names.specs.Interfaces.{FoundInterface, IsCanonicalEntry, IsEntryOf, IsIdMatch, IsMemberOf, NamesInterface, id_matches}
 use Rattle.wc_names.specs.Keys.{as_function, as_interface, function_at, if_resource, item_under, key_eq, resource_at, world_entries}
-use Rattle.wc_maps.specs.Names.{under_name}
+use Rattle.wc_texts.specs.Names.{under_name}
 use Rattle.wc_names.specs.Payloads.{HasPayload}
 use Rattle.wc_names.specs.Mangling.{Scheme, legacy, standard}
 use Rattle.wc_names.specs.Views.{typed}

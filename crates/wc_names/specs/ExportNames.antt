@@ -16,7 +16,7 @@ use Rattle.wc_names.specs.declared.export_names.ExportSyntax.TheVariants.{Standa
 use Rattle.wc_names.specs.First.{FirstOf}
 use Rattle.wc_names.specs.Interfaces.{FoundInterface}
 use Rattle.wc_names.specs.Keys.{as_function, as_interface, item_under, resource_at}
-use Rattle.wc_maps.specs.Names.{under_name}
+use Rattle.wc_texts.specs.Names.{under_name}
 use Rattle.wc_names.specs.Mangling.{Scheme, standard, legacy}
 use Rattle.wc_names.specs.Texts.{Lacks}
 

@@ -14,7 +14,7 @@ use Rattle.wc_resolve.specs.Kinds.{ResolveView}
 use Rattle.wc_adapters.specs.Entries.{Entries}
 use Rattle.wc_names.specs.First.{FirstOf}
 use Rattle.wc_names.specs.Keys.{as_interface, item_under}
-use Rattle.wc_maps.specs.Names.{under_name}
+use Rattle.wc_texts.specs.Names.{under_name}
 use Rattle.wc_names.specs.Mangling.{Scheme, standard, legacy}
 use Rattle.std.specs.declared.alloc.AllocError.{AllocError}
 use Rattle.wc_names.specs.Finds.{Finds}

@@ -6,7 +6,7 @@ use Rattle.std.specs.Str.{bytes_eq}
 use Rattle.wc_resolve.specs.Views.{KindView, resource_kind, KeyView, plain_key, interface_key, ItemView, interface_item, function_item, type_item, FunctionView, InterfaceView, WorldView}
 use Rattle.wc_resolve.specs.Kinds.{ResolveView, kind_at}
 use Rattle.wc_adapters.specs.Entries.{Entries}
-use Rattle.wc_maps.specs.Names.{under_name}
+use Rattle.wc_texts.specs.Names.{under_name}
 
 abbrev pub is_plain_key : List ℕ → KeyView → Bool
 is_plain_key n (plain_key m) = bytes_eq n m

@@ -5,7 +5,8 @@ ghost use Rattle.wc_names.specs.declared.async_values.AsyncValue.{AsyncValue};
 ghost use Rattle.wc_names.specs.declared.async_values.Operation.{Operation};
 ghost use Rattle.wc_names.specs.AsyncValues.{bracketed_text, operation_row, operation_text, HasNoParts, HasParts};
 
-use crate::texts::{after, split_at_first};
+use crate::texts::split_at_first;
+use wc_texts::after;
 
 /// A future or a stream (component model, "Asynchronous Value Types").
 #[derive(Clone, Copy, Debug, PartialEq, Eq)]

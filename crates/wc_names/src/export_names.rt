@@ -4,7 +4,8 @@ ghost use Rattle.std.specs.Prelude.{◌≡◌, ℕ, List, MatchOption, option_co
 ghost use Rattle.wc_names.specs.ExportNames.{IsExportName, destructor_member, IsNoExportName};
 ghost use Rattle.wc_names.specs.Finds.{Finds};
 
-use crate::texts::{after, before, split_at_first};
+use crate::texts::{before, split_at_first};
+use wc_texts::after;
 
 /// How the name of a member of an interface, or of the world itself, is put together.
 #[derive(Clone, Copy, Debug, PartialEq, Eq)]

@@ -1,13 +1,14 @@
 //! Look-ups of the items of a world by their keys, and of the functions and types of an interface by their names. Each
 //! answers what is under the key or the name, or `None` where nothing is.
 
-ghost use Rattle.std.specs.Prelude.{◌≡◌, ◌<◌, ◌↔◌, IfOk, IsTrue, length, map};
+ghost use Rattle.std.specs.Prelude.{◌≡◌, ◌<◌, ◌↔◌, IfOk, IfSome, IsTrue, Some, length, map};
 ghost use Rattle.std.specs.Option.{IsSome, option_and_then, option_map};
 ghost use Rattle.wc_resolve.specs.Dependencies.{id_of_interface};
+ghost use Rattle.wc_resolve.specs.LongFunctions.{function_of_interface};
 ghost use Rattle.wc_resolve.specs.Roots.{id_index};
 ghost use Rattle.wc_resolve.specs.Views.{function_entry, function_view, interface_entry, interface_key, item_view, key_view, plain_key, type_entry, world_entry};
 ghost use Rattle.wc_names.specs.Keys.{as_function, as_interface, as_type, item_under, resource_at};
-ghost use Rattle.wc_maps.specs.Names.{under_name};
+ghost use Rattle.wc_texts.specs.Names.{under_name};
 
 use std::alloc::{AllocError, Global};
 use wc_maps::Map;
@@ -135,6 +136,23 @@ pub fn function_under<'a>(functions: &'a Map<String, Function>, name: &str) -> O
         under_name (map function_entry functions.now.entries) name.now }
 {
     functions.get(name)
+}
+
+/// The function of a name, and its index.
+pub(crate) fn function_under_at<'a>(
+    functions: &'a Map<String, Function>,
+    name: &str,
+) -> Option<(usize, &'a Function)>
+    ensures function { option_map (λ p. function_view p.1.now) result ≡
+        under_name (map function_entry functions.now.entries) name.now }
+    ensures index { IfSome result (λ p.
+        function_of_interface (map function_entry functions.now.entries) p.0
+        ≡ Some (function_view p.1.now)) }
+{
+    match functions.get_full(name) {
+        Some((index, _name, function)) => Some((index, function)),
+        None => None,
+    }
 }
 
 /// The type, if its kind is a resource. An alias of a resource is none.

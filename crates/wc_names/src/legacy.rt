@@ -7,7 +7,7 @@ ghost use Rattle.wc_names.specs.Mangling.{legacy};
 use crate::environment::environment_import;
 use crate::interfaces::legacy_interface;
 use crate::payloads::async_value_import;
-use crate::texts::{after, pointer_type, slot};
+use crate::texts::{pointer_type, slot};
 use crate::{
     ExportNames, ExportSyntax, Import, InterfaceNames, MaybeAsyncLowered, NameIndexes,
     NameMangling, PayloadLookupContext,
@@ -19,6 +19,7 @@ use wc_read::{FuncType, ValType};
 use wc_resolve::{
     AbiVariant, Function, InterfaceId, Resolve, TypeId, WorldId, WorldItem, WorldKey,
 };
+use wc_texts::after;
 
 /// The scheme that is older than the standard one: `my:demo/host@1.2.3` is the module of an interface, and
 /// `[resource-drop]file` drops a resource `file`. `task_hook` is the name of the export that is called as tasks begin

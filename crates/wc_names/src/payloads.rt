@@ -1,23 +1,30 @@
 //! Built-ins of futures and streams, and what their names are looked up in.
 
-ghost use Rattle.std.specs.Prelude.{◌≡◌, ◌<◌, [], IfOk, IsTrue, length};
+ghost use Rattle.std.specs.Prelude.{◌≡◌, ◌<◌, [], IfOk, IfSome, IsTrue, length, slice_get};
 ghost use Rattle.std.specs.Option.{ForSome, option_map};
-ghost use Rattle.wc_resolve.specs.Ranges.{IsWorldIn};
+ghost use Rattle.wc_resolve.specs.Futures.{function_futures};
+ghost use Rattle.wc_resolve.specs.Kinds.{ResolveView};
+ghost use Rattle.wc_resolve.specs.Ranges.{IsFunctionIn, IsWorldIn};
 ghost use Rattle.wc_resolve.specs.Roots.{id_index};
 ghost use Rattle.wc_resolve.specs.Views.{function_view, key_view, world_view};
 ghost use Rattle.wc_names.specs.AsyncValues.{operation_row, unit_type};
 ghost use Rattle.wc_names.specs.Contexts.{context_scope, IsOwnNameImportIn, IsPayloadTypeIn, NamesImportIn};
+ghost use Rattle.wc_names.specs.ExportNames.{interface_function};
 ghost use Rattle.wc_names.specs.Finds.{Finds};
 ghost use Rattle.wc_names.specs.Keys.{function_named, resource_named, scope_key, type_named};
 ghost use Rattle.wc_names.specs.Mangling.{legacy};
+ghost use Rattle.wc_names.specs.Private.Places.{IsPlaced, named_view};
 ghost use Rattle.wc_names.specs.Views.{async_value, import_view, payload_type_view, payload_view};
 
 use crate::async_values::{AsyncValue, AsyncValueName, Operation, name_parts};
-use crate::keys::{function_under, if_resource, plain_function, plain_type, type_under};
-use crate::texts::{after, number};
+use crate::keys::{
+    function_under, function_under_at, if_resource, plain_function, plain_type, type_under,
+};
+use crate::texts::number;
 use crate::{Import, PayloadInfo, PayloadType};
 use std::alloc::{AllocError, Global};
-use wc_resolve::{Function, InterfaceId, Resolve, TypeId, World, WorldKey};
+use wc_resolve::{Function, FunctionPlace, InterfaceId, Resolve, TypeId, World, WorldKey};
+use wc_texts::after;
 
 /// Where the functions and resources that names refer to are looked up: in an interface, or among those that the world
 /// itself imports or exports. What is found is recorded under this key, or under its own name where there is none.
@@ -32,6 +39,14 @@ pub struct PayloadLookupContext<'a> {
     pub imported: bool,
     /// The key of the interface.
     pub key: Option<WorldKey>,
+}
+
+/// A function that a name is of.
+#[derive(Clone, Copy)]
+struct NamedFunction<'a> {
+    function: &'a Function,
+    /// Where the `Resolve` has it, if that is known.
+    place: Option<FunctionPlace>,
 }
 
 impl<'a> PayloadLookupContext<'a> {
@@ -58,6 +73,26 @@ impl<'a> PayloadLookupContext<'a> {
                     plain_function(alloc, &self.world.exports, name)
                 }
             }
+        }
+    }
+
+    /// The function of a name, as `function` has it, and where the `Resolve` has it.
+    fn named_function(
+        &self,
+        alloc: Global,
+        name: &str,
+    ) -> Result<Option<NamedFunction<'_>>, AllocError>
+        requires { ForSome self.now.id
+            (λ id. id.0 < length self.now.resolve.now.interfaces) }
+        ensures function { IfOk result (λ found. option_map named_view found ≡
+            function_named self.now.resolve.now (world_view self.now.world.now) self.now.imported
+            (context_scope self.now) name.now) }
+        ensures place { IfOk result
+            (λ found. IfSome found (IsPlaced self.now.resolve.now)) }
+    {
+        match self.id {
+            Some(id) => Ok(named_in(self.resolve, id, name)),
+            None => Ok(unplaced(self.function(alloc, name)?)),
         }
     }
 
@@ -115,6 +150,37 @@ impl<'a> PayloadLookupContext<'a> {
     }
 }
 
+/// The function of a name in an interface, and its place.
+fn named_in<'a>(resolve: &'a Resolve, id: InterfaceId, name: &str) -> Option<NamedFunction<'a>>
+    requires { id.0 < length resolve.now.interfaces }
+    ensures function { option_map named_view result
+        ≡ interface_function resolve.now id.0 name.now }
+    ensures place { IfSome result (IsPlaced resolve.now) }
+{
+    match function_under_at(&resolve.interface(id).functions, name) {
+        Some((index, function)) => Some(NamedFunction {
+            function,
+            place: Some(FunctionPlace::Interface(id, index)),
+        }),
+        None => None,
+    }
+}
+
+/// A function whose place is not known.
+fn unplaced<'a>(found: Option<&'a Function>) -> Option<NamedFunction<'a>>
+    ensures function { option_map named_view result
+        ≡ option_map (λ f. function_view f.now) found.entry }
+    ensures place { (r : ResolveView) → IfSome result (IsPlaced r) }
+{
+    match found {
+        Some(function) => Some(NamedFunction {
+            function,
+            place: None,
+        }),
+        None => None,
+    }
+}
+
 /// A future or a stream without a payload.
 fn unit_type(value: AsyncValue) -> PayloadType
     ensures { payload_type_view result ≡ unit_type value }
@@ -122,6 +188,19 @@ fn unit_type(value: AsyncValue) -> PayloadType
     match value {
         AsyncValue::Future => PayloadType::UnitFuture,
         AsyncValue::Stream => PayloadType::UnitStream,
+    }
+}
+
+/// The future or stream at an index of a function.
+fn nth_of(resolve: &Resolve, named: NamedFunction<'_>, index: u32) -> Option<TypeId>
+    requires function { IsFunctionIn (length resolve.now.types) (named_view named) }
+    requires place { IsPlaced resolve.now named }
+    ensures { option_map id_index result ≡
+        slice_get (function_futures resolve.now (named_view named.entry)) index }
+{
+    match named.place {
+        Some(place) => resolve.nth_future_or_stream_at(place, index),
+        None => named.function.nth_future_or_stream(resolve, index),
     }
 }
 
@@ -144,13 +223,13 @@ fn payload_type(
     let Some(index) = number(name.which) else {
         return Ok(None);
     };
-    let Some(function) = context.function(alloc, name.function)? else {
+    let Some(named) = context.named_function(alloc, name.function)? else {
         return Ok(None);
     };
-    match function.nth_future_or_stream(context.resolve, index) {
+    match nth_of(context.resolve, named, index) {
         Some(id) => Ok(Some(PayloadType::Typed {
             id,
-            function: String::from_str(alloc, &function.name)?,
+            function: String::from_str(alloc, &named.function.name)?,
         })),
         None => Ok(None),
     }

@@ -7,13 +7,7 @@ ghost use Rattle.wc_names.specs.Finds.{Finds};
 ghost use Rattle.wc_names.specs.Texts.{IsChoice, IsSlot, IsSplitAtFirst, Lacks, SpellsNumber, HasNoSlot, HasSlot};
 
 use wc_read::ValType;
-
-/// What comes after a beginning.
-pub(crate) fn after<'a>(name: &'a str, first: &str) -> Option<&'a str>
-    ensures { Finds (option_copied result) (λ (rest : List ℕ). name.now ≡ first.now ++ rest) }
-{
-    name.strip_prefix(first)
-}
+use wc_texts::after;
 
 /// What comes before an end.
 pub(crate) fn before<'a>(name: &'a str, last: &str) -> Option<&'a str>

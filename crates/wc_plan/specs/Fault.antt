@@ -1,12 +1,14 @@
--- Why a component's world has no plan.
-use Rattle.std.specs.Prelude.{◌≡◌, ℕ, List, ◌∷◌, ◌++◌, not, ◌&&◌, All, Option, Some, None, is_none, cond, string_bytes}
+-- Why a component's world has no plan; and the texts and the numbers of faults.
+use Rattle.std.specs.Prelude.{◌≡◌, ℕ, List, ◌∷◌, ◌++◌, not, ◌&&◌, All, Option, Some, None, is_none, cond, codes, string_bytes}
 use Rattle.wc_world.specs.Options.{memory_flag, realloc_flag}
 use Rattle.wc_world.specs.Slots.{all_imports, imports_of}
 use Rattle.wc_world.specs.Views.{ComponentWorldView, LoweringView}
 use Rattle.wc_plan.specs.Calls.{IsNameable, Wanted, wanted}
 use Rattle.wc_plan.specs.Plans.{has_memory, import_realloc, lowering_of, needs}
 use Rattle.wc_plan.specs.declared.fault.PlanFault.{PlanFault}
-use Rattle.wc_plan.specs.declared.fault.PlanFault.TheVariants.{NoMemory, NoRealloc, NoLowering}
+use Rattle.wc_texts.specs.FaultTexts.{carried_text, memory_text}
+use Rattle.wc_world.specs.Fault.{world_fault_text}
+use Rattle.wc_plan.specs.declared.fault.PlanFault.TheVariants.{Memory, NoMemory, NoRealloc, NoLowering, World, Output}
 
 -- the kinds of faults of a function
 pub data UseFault : Type 0 where
@@ -53,3 +55,21 @@ pub record IsFirstFault (w : ComponentWorldView) (f : PlanFault) : Type 0 where
 -- what is imported can be named
 abbrev pub AreNameable : ComponentWorldView → Type 0
 AreNameable w = All (IsNameable w.encoder.resolve) (imports_of (all_imports w.info w.adapters))
+
+-- the text of a fault
+abbrev pub plan_fault_text : PlanFault → List ℕ
+plan_fault_text Memory = memory_text
+plan_fault_text (NoMemory name) = codes "NoMemory"
+plan_fault_text (NoRealloc name) = codes "NoRealloc"
+plan_fault_text (NoLowering name) = codes "NoLowering"
+plan_fault_text (World f) = carried_text (codes "World") (world_fault_text f)
+plan_fault_text Output = codes "Output"
+
+-- the number of a fault, its position in the enum
+abbrev pub plan_fault_number : PlanFault → ℕ
+plan_fault_number Memory = 0
+plan_fault_number (NoMemory name) = 1
+plan_fault_number (NoRealloc name) = 2
+plan_fault_number (NoLowering name) = 3
+plan_fault_number (World f) = 4
+plan_fault_number Output = 5

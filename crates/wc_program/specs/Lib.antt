@@ -1,4 +1,3 @@
-pub mod FaultTexts
 pub mod Files
 pub mod Output
 pub mod Screen

@@ -7,7 +7,7 @@ ghost use Rattle.wc_program.specs.Files.{Holds, IsProblemOf, IsUnread, KeepsOthe
 
 use crate::printable::Printable;
 use std::io::{self, ErrorKind};
-use wc_write::{PutFailed, Sink};
+use wc_texts::{PutFailed, Sink};
 
 /// Files by their paths.
 pub trait FileStore {

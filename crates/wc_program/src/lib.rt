@@ -6,7 +6,6 @@
 //! `system_shell` is the shell of the system.
 #![tactic(auto)]
 
-mod fault_texts;
 mod files;
 mod output;
 mod printable;
@@ -15,10 +14,9 @@ mod screen;
 mod shell;
 mod system;
 
-pub use fault_texts::{OUT_OF_MEMORY, put_after, put_carried, read_fault_text};
 pub use files::{DirectoryStore, FileStore, ReadProblem, problem_text, read_file};
 pub use output::{Output, Printer};
-pub use printable::{Printable, TextBetween};
+pub use printable::{OUT_OF_MEMORY, Printable, TextBetween, put_after};
 pub use program::{FAILURE, NoArguments, Program, SUCCESS, WRONG_ARGUMENTS, print, run};
 pub use screen::Screen;
 pub use shell::Shell;

@@ -5,7 +5,7 @@ ghost use Rattle.std.specs.Io.KnownBytes.{Keeps};
 
 use std::alloc::Global;
 use std::io::{BufWriter, Write};
-use wc_write::{PutFailed, Sink};
+use wc_texts::{PutFailed, Sink};
 
 /// A sink that may buffer bytes until it is flushed.
 pub trait Output: Sink {

@@ -1,9 +1,12 @@
 //! Texts that can be printed.
 
 ghost use Rattle.std.specs.Prelude.{◌++◌, ℕ, List};
-ghost use Rattle.wc_write.specs.Puts.{Puts};
+ghost use Rattle.wc_texts.specs.Puts.{Puts};
 
-use wc_write::{PutFailed, Sink};
+use wc_texts::{PutFailed, Sink};
+
+/// The text of each fault `Memory`, as bytes.
+pub const OUT_OF_MEMORY: &[u8] = b"out of memory";
 
 /// A value with a text that is known, as a fault.
 pub trait Printable {
@@ -47,4 +50,17 @@ impl<T: Printable> Printable for TextBetween<'_, T> {
         self.text.put_text(out)?;
         out.put(self.after)
     }
+}
+
+/// Puts a prefix, and then a path or a name. It does not allocate.
+///
+/// # Errors
+///
+/// `PutFailed`: a put failed. How much was written is left open.
+pub fn put_after<S: Sink>(out: &mut S, prefix: &[u8], text: &str) -> Result<(), PutFailed>
+    ensures { Puts S.written S.is_failed out.old out.new
+        (prefix.now ++ text.now) result }
+{
+    out.put(prefix)?;
+    out.put(text.as_bytes())
 }

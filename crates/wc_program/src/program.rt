@@ -11,7 +11,7 @@ use crate::printable::Printable;
 use crate::screen::Screen;
 use crate::shell::Shell;
 use std::io::{self, ErrorKind};
-use wc_write::PutFailed;
+use wc_texts::PutFailed;
 
 /// The exit status of a program that did what its arguments say.
 pub const SUCCESS: u8 = 0;

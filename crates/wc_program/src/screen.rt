@@ -4,7 +4,7 @@ ghost use Rattle.std.specs.Prelude.{ℕ, List, None, Option, OnErr, OnOk, Some};
 
 use crate::output::Output;
 use crate::printable::Printable;
-use wc_write::PutFailed;
+use wc_texts::PutFailed;
 
 /// An output that prints a whole text in one call. Every `Output` is one.
 pub trait Screen {

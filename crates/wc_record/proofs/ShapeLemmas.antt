@@ -1,13 +1,18 @@
 -- The tokens of lists and objects.
 use Rattle.std.proofs.Common.{◌≡◌, ℕ, ◌+◌, ◌<◌, List, [], ◌∷◌, ◌++◌, map, length, get_or, drop, Result, Ok, Err, OnOk, Option, Some, None, refl, ap, sym, subst, append_assoc, append-nil, ◌∙◌}
+use Rattle.std.specs.List.{flat_map}
 use Rattle.std.specs.Option.{option_map}
 use Rattle.std.proofs.lemmas.List.{drop_more}
 use Rattle.json.specs.Json.{Json}
-use Rattle.json.specs.Token.{begin_array, end_array, begin_object, end_object, key}
+use Rattle.json.specs.Token.{Token, begin_array, end_array, begin_object, end_object, key}
 use Rattle.json.specs.Tree.{json_tokens, items_tokens, members_tokens}
 use Rattle.wc_json.specs.Shapes.{Field, array_of, items_of, members_of, nullable_json, object_of}
-use Rattle.wc_record.specs.Objects.{Puts, PutsField, PutsFields, PutsJson, fields_tokens, values_tokens}
+use Rattle.wc_record.specs.Objects.{Puts, PutsField, PutsFields, PutsJson, fields_tokens}
 use Rattle.json.specs.Written.{Written}
+
+-- the tokens of values, without the brackets around them
+abbrev pub values_tokens : List Json → List Token
+values_tokens js = flat_map json_tokens js
 
 pub items_tokens-items_of : (js : List Json) → items_tokens (items_of js) ≡ values_tokens js ++ end_array ∷ []
 items_tokens-items_of [] = refl

@@ -1,7 +1,6 @@
 pub mod Chains
 pub mod CoreTypes
 pub mod Exports
-pub mod FaultTexts
 pub mod Imports
 pub mod Laws
 pub mod Libraries

@@ -14,10 +14,7 @@ object_of_kind kind fs = object_of ((codes "kind", Json.string kind) ∷ fs)
 abbrev pub plain_kind : List ℕ → Json
 plain_kind kind = object_of_kind kind []
 
--- the tokens of values, and of members, without the brackets around them
-
-abbrev pub values_tokens : List Json → List Token
-values_tokens js = flat_map json_tokens js
+-- the tokens of members, without the brackets around them
 
 abbrev pub field_tokens : Field → List Token
 field_tokens f = key f.0 ∷ json_tokens f.1

@@ -4,14 +4,11 @@
 //! order.
 //!
 //! Ids are indices, as in the JSON that worlds are read from (`wc_json`).
-//!
-//! Faults have texts (`FaultText`), which programs print and calls on slices answer.
 #![tactic(auto)]
 
 mod chains;
 mod core_types;
 mod exports;
-mod fault_texts;
 mod imports;
 pub mod laws;
 mod libraries;
@@ -27,7 +24,6 @@ mod wit;
 mod worlds;
 
 pub use chains::import_chains_to_json;
-pub use fault_texts::FaultText;
 pub use places::{
     function_to_json, page_sizes_to_json, part_to_json, trim_place_to_json, world_place_to_json,
 };

@@ -115,9 +115,14 @@ pub parts_next : (types : List TypeView) (parts : List TypeId) (i : ℕ) (d : Ty
     → futures_from types (indices (drop i parts)) ≡ futures_of types (get_or parts i d).0 ++ futures_from types (indices (drop (i + 1) parts))
 parts_next types parts i d small = rw (add-one i) (ap (λ z. futures_from types (indices z)) (drop-cons parts i d small))
 
+pub next_read : (types : List TypeView) (parts : List TypeId) (i : ℕ) (part : TypeId) → i < length parts → part ≡ get_or parts i part
+    → futures_from types (indices (drop i parts)) ≡ futures_of types part.0 ++ futures_from types (indices (drop (i + 1) parts))
+next_read types parts i part small read =
+    parts_next types parts i part small ∙ ap (λ (z : TypeId). futures_of types z.0 ++ futures_from types (indices (drop (i + 1) parts))) (sym read)
+
 -- parts by how many there are up to each
 
-parts_split : (types : List TypeView) (i : ℕ) (parts : List TypeId) → futures_from types (indices parts) ≡ futures_from types (indices (take i parts)) ++ futures_from types (indices (drop i parts))
+pub parts_split : (types : List TypeView) (i : ℕ) (parts : List TypeId) → futures_from types (indices parts) ≡ futures_from types (indices (take i parts)) ++ futures_from types (indices (drop i parts))
 parts_split types zero parts = refl
 parts_split types (suc i) [] = refl
 parts_split types (suc i) (p ∷ parts) =
@@ -128,7 +133,7 @@ parts_split types (suc i) (p ∷ parts) =
 abbrev pub passed_length : List TypeView → List TypeId → ℕ → ℕ
 passed_length types parts i = length (futures_from types (indices (take i parts)))
 
-end_at : (types : List TypeView) (parts : List TypeId) (i b c : ℕ) → c ≡ min b (2 ^ 64 - 1) → i ≤ length parts → get_or (c ∷ ends_of types b parts) i 0 ≡ min (b + passed_length types parts i) (2 ^ 64 - 1)
+pub end_at : (types : List TypeView) (parts : List TypeId) (i b c : ℕ) → c ≡ min b (2 ^ 64 - 1) → i ≤ length parts → get_or (c ∷ ends_of types b parts) i 0 ≡ min (b + passed_length types parts i) (2 ^ 64 - 1)
 end_at types parts zero b c e small = omega (arith, e)
 end_at types [] (suc i) b c e small = absurd (omega (arith, small))
 end_at types (p ∷ parts) (suc i) b c e small =
@@ -163,46 +168,62 @@ pub ends_length : (types : List TypeView) (parts : List TypeId) (b : ℕ) → le
 ends_length types [] b = refl
 ends_length types (p ∷ parts) b = ap suc (ends_length types parts (b + length (futures_of types p.0)))
 
--- the part that has an index
-pub part_found : (types : List TypeView) (x : ℕ) (entry : EntryView) (i n left : ℕ) (part : TypeId) → IsFuturesEntry types x entry → i < length entry.parts → part ≡ get_or entry.parts i part → n < 2 ^ 32
-    → get_or (0 ∷ entry.ends) i 0 ≤ n → n < get_or entry.ends i 0 → left ≡ n - get_or (0 ∷ entry.ends) i 0 → IsPartWith types x n part.0 left
-part_found types x entry i n left part kept small read bound low next left_is =
-    let parts = entry.parts in
-    let before : get_or (0 ∷ entry.ends) i 0 ≡ passed_length types parts i = end_passed types parts entry.ends i n kept.ended (omega (arith, small)) low bound in
-    let end : get_or entry.ends i 0 ≡ min (0 + passed_length types parts (suc i)) (2 ^ 64 - 1) =
-    ap (λ (z : List ℕ). get_or (0 ∷ z) (suc i) 0) kept.ended ∙ end_at types parts (suc i) 0 0 refl (omega (arith, small)) in
-    let above : n < passed_length types parts (suc i) = below_cap (get_or entry.ends i 0) (passed_length types parts (suc i)) n end next in
+-- the part that has an index among those of some types
+pub record IsPartAt (types : List TypeView) (parts : List TypeId) (n : ℕ) (part : TypeId) (left : ℕ) : Type 0 where
+  pub there : Contains (indices parts) part.0
+  pub low : left ≤ n
+  pub more : left < length (futures_of types part.0)
+  pub same : slice_get (futures_from types (indices parts)) n ≡ slice_get (futures_of types part.0) left
+
+pub part_at : (types : List TypeView) (parts : List TypeId) (ends : List ℕ) (i n left : ℕ) (part : TypeId) → ends ≡ ends_of types 0 parts → i < length parts → part ≡ get_or parts i part → n < 2 ^ 32
+    → get_or (0 ∷ ends) i 0 ≤ n → n < get_or ends i 0 → left ≡ n - get_or (0 ∷ ends) i 0 → IsPartAt types parts n part left
+part_at types parts ends i n left part ended small read bound low next left_is =
+    let before : get_or (0 ∷ ends) i 0 ≡ passed_length types parts i = end_passed types parts ends i n ended (omega (arith, small)) low bound in
+    let end : get_or ends i 0 ≡ min (0 + passed_length types parts (suc i)) (2 ^ 64 - 1) =
+    ap (λ (z : List ℕ). get_or (0 ∷ z) (suc i) 0) ended ∙ end_at types parts (suc i) 0 0 refl (omega (arith, small)) in
+    let above : n < passed_length types parts (suc i) = below_cap (get_or ends i 0) (passed_length types parts (suc i)) n end next in
     let grown : passed_length types parts (suc i) ≡ passed_length types parts i + length (futures_of types part.0) =
     passed_next types parts i part small ∙ ap (λ (z : TypeId). passed_length types parts i + length (futures_of types z.0)) (sym read) in
     let more : left < length (futures_of types part.0) = omega (arith, before, above, grown, left_is, low) in
-    let there : Contains (indices parts) part.0 = subst (λ (z : TypeId). Contains (indices parts) z.0) (sym read) (part_there parts i part small) in
     let passed : IsPassed (futures_from types (indices parts)) (futures_from types (indices (drop i parts))) n left = record {
       front = futures_from types (indices (take i parts));
       split = parts_split types i parts;
       at = omega (arith, before, left_is, low);
     } in
-    let rest : futures_from types (indices (drop i parts)) ≡ futures_of types part.0 ++ futures_from types (indices (drop (i + 1) parts)) =
-    parts_next types parts i part small ∙ ap (λ (z : TypeId). futures_of types z.0 ++ futures_from types (indices (drop (i + 1) parts))) (sym read) in
-    let found : slice_get (futures_from types (indices parts)) n ≡ slice_get (futures_of types part.0) left =
-    passed_found (futures_from types (indices parts)) (futures_from types (indices (drop i parts))) (futures_of types part.0) (futures_from types (indices (drop (i + 1) parts))) n left passed rest more in
     record {
-      within = kept.within part.0 there;
-      shorter = part_shorter types x part.0 entry kept there;
+      there = subst (λ (z : TypeId). Contains (indices parts) z.0) (sym read) (part_there parts i part small);
       low = omega (arith, left_is);
       more = more;
-      same = part_entered types x part.0 n left entry kept found more;
+      same = passed_found (futures_from types (indices parts)) (futures_from types (indices (drop i parts))) (futures_of types part.0) (futures_from types (indices (drop (i + 1) parts))) n left passed
+          (next_read types parts i part small read) more;
+    }
+
+-- the part that has an index of a type
+pub part_found : (types : List TypeView) (x : ℕ) (entry : EntryView) (i n left : ℕ) (part : TypeId) → IsFuturesEntry types x entry → i < length entry.parts → part ≡ get_or entry.parts i part → n < 2 ^ 32
+    → get_or (0 ∷ entry.ends) i 0 ≤ n → n < get_or entry.ends i 0 → left ≡ n - get_or (0 ∷ entry.ends) i 0 → IsPartWith types x n part.0 left
+part_found types x entry i n left part kept small read bound low next left_is =
+    let at : IsPartAt types entry.parts n part left = part_at types entry.parts entry.ends i n left part kept.ended small read bound low next left_is in
+    record {
+      within = kept.within part.0 at.there;
+      shorter = part_shorter types x part.0 entry kept at.there;
+      low = at.low;
+      more = at.more;
+      same = part_entered types x part.0 n left entry kept at.same at.more;
     }
 
 -- all parts are passed
+pub all_passed : (types : List TypeView) (parts : List TypeId) (ends : List ℕ) (i n : ℕ) → ends ≡ ends_of types 0 parts → i ≤ length ends → length parts ≤ i → n < 2 ^ 32 → get_or (0 ∷ ends) i 0 ≤ n
+    → length (futures_from types (indices parts)) ≤ n
+all_passed types parts ends i n ended within past bound low =
+    let same : length ends ≡ length parts = ap (λ (z : List ℕ). length z) ended ∙ ends_length types parts 0 in
+    let before : get_or (0 ∷ ends) i 0 ≡ passed_length types parts i = end_passed types parts ends i n ended (omega (arith, same, within)) low bound in
+    let all : passed_length types parts i ≡ length (futures_from types (indices parts)) = ap (λ (z : List TypeId). length (futures_from types (indices z))) (take_all i parts past) in
+    omega (arith, before, all, low)
+
 pub parts_passed : (types : List TypeView) (x : ℕ) (entry : EntryView) (i n : ℕ) → IsFuturesEntry types x entry → i ≤ length entry.ends → length entry.parts ≤ i → n < 2 ^ 32
     → get_or (0 ∷ entry.ends) i 0 ≤ n → n < length (futures_of types x) → slice_get (futures_of types x) n ≡ Some x
 parts_passed types x entry i n kept within past bound low small =
-    let parts = entry.parts in
-    let same : length entry.ends ≡ length parts = ap (λ (z : List ℕ). length z) kept.ended ∙ ends_length types parts 0 in
-    let inside : i ≤ length parts = omega (arith, same, within) in
-    let before : get_or (0 ∷ entry.ends) i 0 ≡ passed_length types parts i = end_passed types parts entry.ends i n kept.ended inside low bound in
-    let all : passed_length types parts i ≡ length (futures_from types (indices parts)) = ap (λ (z : List TypeId). length (futures_from types (indices z))) (take_all i parts past) in
-    type_reached types x n entry kept (omega (arith, before, all, low)) small
+    type_reached types x n entry kept (all_passed types entry.parts entry.ends i n kept.ended within past bound low) small
 
 -- parameters that are left, and a result after them
 

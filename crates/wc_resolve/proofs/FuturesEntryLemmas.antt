@@ -115,10 +115,10 @@ replaced_more types id ids parts (Some part) is rest = record {
 }
 
 -- types with entries that are right
-abbrev AreRight : List TypeView → List EntryView → List TypeId → Type 0
+abbrev pub AreRight : List TypeView → List EntryView → List TypeId → Type 0
 AreRight types entries ids = (y : ℕ) → Contains (indices ids) y → (y < length types) × IsFuturesEntry types y (entry_at entries y)
 
-parts_right : (types : List TypeView) (entries : List EntryView) (ids : List TypeId) → AreRight types entries ids
+pub parts_right : (types : List TypeView) (entries : List EntryView) (ids : List TypeId) → AreRight types entries ids
     → AreReplaced types ids (filter_map (part_for entries) ids)
 parts_right types entries [] right = record { same = refl; within = λ p h. absurd (contains_none p h); longer = omega arith }
 parts_right types entries (id ∷ ids) right =
@@ -162,7 +162,7 @@ part_same : (types : List TypeView) (id : TypeId) (part : TypeId) (none : Bool) 
 part_same types id part true is some = (let bad : ⊥ = cc some in absurd bad)
 part_same types id part false is some = is.same
 
-ends_right : (types : List TypeView) (entries : List EntryView) (ids : List TypeId) → AreRight types entries ids → (b before : ℕ) → before ≡ min b max_count
+pub ends_right : (types : List TypeView) (entries : List EntryView) (ids : List TypeId) → AreRight types entries ids → (b before : ℕ) → before ≡ min b max_count
     → ends_from entries before ids ≡ ends_of types b (filter_map (part_for entries) ids)
 ends_right types entries [] right b before e = refl
 ends_right types entries (id ∷ ids) right b before e =

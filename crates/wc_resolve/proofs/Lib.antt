@@ -13,6 +13,8 @@ pub mod FlatTableLemmas
 pub mod TypeRuleLemmas
 pub mod FutureWalkLemmas
 pub mod FuturesAtLemmas
+pub mod ShortcutLemmas
+pub mod LongFunctionLemmas
 pub mod ResourcesByValueLemmas
 pub mod KeyLemmas
 pub mod LookupLemmas

@@ -32,7 +32,7 @@ usable_item r (type_item t) h k = tt
 
 -- the parts of definitions
 
-worlds_in : (r : ResolveView) → AreIdsInRange r → All (IsWorldIn r) r.worlds
+pub worlds_in : (r : ResolveView) → AreIdsInRange r → All (IsWorldIn r) r.worlds
 unfolding AreIdsInRange
 worlds_in r h = h.0
 
@@ -44,11 +44,11 @@ packages_in : (r : ResolveView) → AreIdsInRange r → All (IsPackageIn r) r.pa
 unfolding AreIdsInRange
 packages_in r h = h.3
 
-imports_in : (r : ResolveView) (w : WorldView) → IsWorldIn r w → All (IsEntryIn r) w.imports
+pub imports_in : (r : ResolveView) (w : WorldView) → IsWorldIn r w → All (IsEntryIn r) w.imports
 unfolding IsWorldIn
 imports_in r w h = h.0
 
-exports_in : (r : ResolveView) (w : WorldView) → IsWorldIn r w → All (IsEntryIn r) w.exports
+pub exports_in : (r : ResolveView) (w : WorldView) → IsWorldIn r w → All (IsEntryIn r) w.exports
 unfolding IsWorldIn
 exports_in r w h = h.1
 
@@ -56,7 +56,7 @@ key_in : (r : ResolveView) (x : KeyView × ItemView) → IsEntryIn r x → IsKey
 unfolding IsEntryIn
 key_in r x h = h.0
 
-item_in : (r : ResolveView) (x : KeyView × ItemView) → IsEntryIn r x → IsItemIn r x.1
+pub item_in : (r : ResolveView) (x : KeyView × ItemView) → IsEntryIn r x → IsItemIn r x.1
 unfolding IsEntryIn
 item_in r x h = h.1
 
@@ -80,7 +80,7 @@ types_in : (r : ResolveView) (v : InterfaceView) → AreNamesIn r v → All (λ 
 unfolding AreNamesIn
 types_in r v h = h.0
 
-functions_in : (r : ResolveView) (v : InterfaceView) → AreNamesIn r v → All (λ (e : List ℕ × FunctionView). IsFunctionIn (length r.types) e.1) v.functions
+pub functions_in : (r : ResolveView) (v : InterfaceView) → AreNamesIn r v → All (λ (e : List ℕ × FunctionView). IsFunctionIn (length r.types) e.1) v.functions
 unfolding AreNamesIn
 functions_in r v h = h.1
 

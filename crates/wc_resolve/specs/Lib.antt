@@ -5,6 +5,8 @@ pub mod Fault
 pub mod Flat
 pub mod TypeRules
 pub mod Futures
+pub mod LongFunctions
+pub mod Shortcuts
 pub mod Validate
 pub mod Laws
 pub mod Live

@@ -4,7 +4,7 @@ ghost use Rattle.std.specs.Prelude.{◌≡◌, IfOk, string_bytes};
 ghost use Rattle.std.specs.Option.{option_copied};
 ghost use Rattle.wc_resolve.specs.Resolve.{core_name};
 
-use crate::{TypeId, WitType};
+use crate::{InterfaceId, TypeId, WitType, WorldId};
 use std::alloc::{AllocError, Global};
 
 /// The kind of a function, and the resource of which it is a method, a static function or the constructor. Whether the
@@ -44,6 +44,15 @@ pub struct Function {
     pub kind: FunctionKind,
     pub params: Vec<(String, WitType)>,
     pub result: Option<WitType>,
+}
+
+/// Where a `Resolve` has a function: among those of an interface, or among the items that a world imports or exports;
+/// with its index there, from 0.
+#[derive(Clone, Copy, Debug, PartialEq, Eq)]
+pub enum FunctionPlace {
+    Interface(InterfaceId, usize),
+    Import(WorldId, usize),
+    Export(WorldId, usize),
 }
 
 impl Function {

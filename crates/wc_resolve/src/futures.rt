@@ -4,7 +4,7 @@ ghost use Rattle.std.specs.Prelude.{◌≡◌, ◌<◌, ◌≤◌, ◌^◌, ◌+
 ghost use Rattle.std.specs.Option.{option_map, option_map_or};
 ghost use Rattle.std.specs.declared.alloc.Global.{Global};
 ghost use Rattle.wc_resolve.specs.declared.types.WitType.{WitType};
-ghost use Rattle.wc_resolve.specs.Futures.{AreFuturesEntries, IsEntryFor, IsPartWith, carried_indices, count_of, entry_at, entry_from, entry_view, ends_from, function_futures, futures_from, futures_of, is_carrier, max_count, no_futures, only_part, part_for, with_itself};
+ghost use Rattle.wc_resolve.specs.Futures.{AreFuturesEntries, IsEntryFor, IsPartWith, carried_indices, count_of, ends_from, entry_at, entry_from, entry_view, function_futures, futures_from, futures_of, is_carrier, max_count, no_futures, only_part, part_for, with_itself};
 ghost use Rattle.wc_resolve.specs.Validate.{IsOrder};
 ghost use Rattle.wc_resolve.specs.Ranges.{IsFunctionIn, IsTypeIn};
 ghost use Rattle.wc_resolve.specs.Roots.{id_index, indices, param_roots, type_roots};
@@ -96,6 +96,16 @@ fn count_of(entries: &[FuturesEntry], ids: &[TypeId]) -> u64
     count
 }
 
+/// Whether some type has futures or streams.
+pub(crate) fn has_any(entries: &[FuturesEntry]) -> bool {
+    for entry in entries {
+        if entry.count != 0 {
+            return true;
+        }
+    }
+    false
+}
+
 /// The count, and one more for the type itself, at most `u64::MAX`.
 fn with_itself(is_carrier: bool, count: u64) -> u64
     ensures { result ≡ with_itself is_carrier count }
@@ -108,7 +118,7 @@ fn with_itself(is_carrier: bool, count: u64) -> u64
 }
 
 /// The types whose futures and streams are those of these types, one type's after another's.
-fn parts_for(
+pub(crate) fn parts_for(
     alloc: Global,
     entries: &[FuturesEntry],
     ids: &[TypeId],
@@ -122,7 +132,11 @@ fn parts_for(
 }
 
 /// How many futures and streams there are up to each of the types that have some, and with it, at most `u64::MAX`.
-fn ends_for(alloc: Global, entries: &[FuturesEntry], ids: &[TypeId]) -> Result<Vec<u64>, AllocError>
+pub(crate) fn ends_for(
+    alloc: Global,
+    entries: &[FuturesEntry],
+    ids: &[TypeId],
+) -> Result<Vec<u64>, AllocError>
     ensures { IfOk result
         (λ v. v.items ≡ ends_from (map entry_view entries.now) 0 ids.now) }
 {
@@ -244,7 +258,7 @@ fn list(alloc: Global, resolve: &Resolve, roots: Vec<TypeId>) -> Result<Vec<Type
 }
 
 /// How many of these numbers, in ascending order, are no more than `n`, found by halving.
-fn ends_passed(ends: &[u64], n: u64) -> usize
+pub(crate) fn ends_passed(ends: &[u64], n: u64) -> usize
     ensures within { result ≤ length ends.now }
     ensures passed { slice_index (0 ∷ ends.now) result ≤ n }
     ensures next { result < length ends.now → n < slice_index ends.now result }
@@ -263,7 +277,7 @@ fn ends_passed(ends: &[u64], n: u64) -> usize
 }
 
 /// How many there are before the part at an index, by how many there are up to each part.
-fn count_before(ends: &[u64], index: usize) -> u64
+pub(crate) fn count_before(ends: &[u64], index: usize) -> u64
     requires { index ≤ length ends.now }
     ensures { result ≡ slice_index (0 ∷ ends.now) index }
 {
@@ -289,8 +303,41 @@ fn part_with(resolve: &Resolve, id: TypeId, n: u64) -> Option<(TypeId, u64)>
     }
 }
 
+/// The target of a type's shortcut, if it has the future or stream at index `n` of the type, and its index there.
+fn target_with(resolve: &Resolve, id: TypeId, n: u64) -> Option<(TypeId, u64)>
+    requires there { id.0 < length resolve.now.types }
+    requires small { n < 2 ^ 32 }
+    ensures { IfSome result (λ p. IsPartWith resolve.now.types id.0 n p.0.0 p.1) }
+{
+    let shortcut = resolve.shortcut(id)?;
+    if n < shortcut.before {
+        return None;
+    }
+    let left = n - shortcut.before;
+    if left < resolve.futures_entry(shortcut.target).count {
+        Some((shortcut.target, left))
+    } else {
+        None
+    }
+}
+
+/// A type below a type that has the future or stream at index `n` of it, and its index there; `None` if the parts have no
+/// more than `n` together.
+fn step_with(resolve: &Resolve, id: TypeId, n: u64) -> Option<(TypeId, u64)>
+    requires there { id.0 < length resolve.now.types }
+    requires small { n < 2 ^ 32 }
+    ensures found { IfSome result (λ p. IsPartWith resolve.now.types id.0 n p.0.0 p.1) }
+    ensures itself { IfNone result (n < length (futures_of resolve.now.types id.0)
+        → slice_get (futures_of resolve.now.types id.0) n ≡ Some id.0) }
+{
+    match target_with(resolve, id, n) {
+        Some(target) => Some(target),
+        None => part_with(resolve, id, n),
+    }
+}
+
 /// The future or stream at index `n` of a type that has more than `n`.
-fn nth(resolve: &Resolve, id: TypeId, n: u64) -> TypeId
+pub(crate) fn nth(resolve: &Resolve, id: TypeId, n: u64) -> TypeId
     requires there { id.0 < length resolve.now.types }
     requires small { n < 2 ^ 32 }
     requires more { n < length (futures_of resolve.now.types id.0) }
@@ -298,7 +345,7 @@ fn nth(resolve: &Resolve, id: TypeId, n: u64) -> TypeId
 {
     let mut found = id;
     let mut left = n;
-    'parts: while let Some((part, rest)) = part_with(resolve, found, left) {
+    'parts: while let Some((part, rest)) = step_with(resolve, found, left) {
         found = part;
         left = rest;
     }

@@ -1,6 +1,6 @@
 //! Worlds, interfaces, types and packages that are well-formed, and the calls on them.
 
-ghost use Rattle.std.specs.Prelude.{◌≡◌, ◌↔◌, ◌<◌, false, IfErr, IfNone, IfOk, IfSome, IsTrue, OnOk, Some, length, slice_get, string_bytes};
+ghost use Rattle.std.specs.Prelude.{◌≡◌, ◌↔◌, ◌<◌, false, All, IfErr, IfNone, IfOk, IfSome, IsTrue, OnOk, Some, length, slice_get, string_bytes};
 ghost use Rattle.std.specs.Option.{IsSome, option_map};
 ghost use Rattle.semver.specs.Identifiers.{parts_text};
 ghost use Rattle.wc_resolve.specs.Contents.{holds_string, holds_string_or_list};
@@ -12,11 +12,13 @@ ghost use Rattle.wc_resolve.specs.TypeRules.{Follows};
 ghost use Rattle.wc_resolve.specs.Futures.{IsFuturesEntry, entry_view, futures_of, futures_rule};
 ghost use Rattle.wc_resolve.specs.Laws.{FlatTypesUnique, FuturesUnique, ListingsUnique, TextsFollow, TextsUnique};
 ghost use Rattle.wc_resolve.specs.Live.{listing_of, listing_rule};
+ghost use Rattle.wc_resolve.specs.LongFunctions.{IsLongFunction, function_at_place};
 ghost use Rattle.wc_resolve.specs.ResolveParts.{parts_view};
 ghost use Rattle.wc_resolve.specs.Resolve.{HasNoPackage, IsPackageAt, canonical_id, external_id, full_id, if_named, implemented, key_text, qualified_name};
 ghost use Rattle.wc_resolve.specs.Ranges.{AreNamesIn, IsItemIn, IsKeyIn};
 ghost use Rattle.wc_resolve.specs.Refusals.{IsRefusal};
 ghost use Rattle.wc_resolve.specs.Roots.{id_index};
+ghost use Rattle.wc_resolve.specs.Shortcuts.{IsShortcut};
 ghost use Rattle.wc_resolve.specs.Signature.{flatten_functype, signature_view};
 ghost use Rattle.wc_resolve.specs.WellFormed.{IsUsable, IsWellFormed};
 
@@ -25,14 +27,16 @@ use crate::contents::type_has_text;
 use crate::explain::Refusal;
 use crate::futures::FuturesEntry;
 use crate::interface_ids::{canonical_member_id, member_id};
+use crate::long_functions::{LongFunction, function_of};
 use crate::packages::name_index;
+use crate::shortcuts::{Shortcut, shortcut_of};
 use crate::signature::signature_of;
 use crate::validate::resources::is_usable;
 use crate::validate::{Tables, check};
 use crate::{
-    AbiVariant, Function, Interface, InterfaceId, Package, PackageId, PackageName, ResolveFault,
-    TypeDef, TypeDefKind, TypeId, TypeOwner, WasmSignature, WitType, World, WorldId, WorldItem,
-    WorldKey,
+    AbiVariant, Function, FunctionPlace, Interface, InterfaceId, Package, PackageId, PackageName,
+    ResolveFault, TypeDef, TypeDefKind, TypeId, TypeOwner, WasmSignature, WitType, World, WorldId,
+    WorldItem, WorldKey,
 };
 use std::alloc::{AllocError, Global};
 use std::marker::Model;
@@ -189,7 +193,28 @@ impl Resolve {
         requires { id.0 < length self.now.types }
         ensures { IsFuturesEntry self.now.types id.0 (entry_view result.now) }
     {
-        &self.kept.futures[id.0 as usize]
+        &self.kept.futures.entries[id.0 as usize]
+    }
+
+    /// The shortcut of a type to one below it, if it has one.
+    pub(crate) fn shortcut(&self, id: TypeId) -> Option<Shortcut>
+        ensures { IfSome result (IsShortcut self.now.types id.0) }
+    {
+        shortcut_of(&self.kept.futures.shortcuts, id)
+    }
+
+    /// What is kept of the functions that have more than a few parameters.
+    pub(crate) fn long_functions(&self) -> &[LongFunction]
+        ensures { All (IsLongFunction self.now) result.now }
+    {
+        &self.kept.futures.long_functions
+    }
+
+    /// The function at a place, if there is one.
+    pub(crate) fn function_at(&self, place: FunctionPlace) -> Option<&Function>
+        ensures { option_map (λ f. function_view f.now) result ≡ function_at_place self.now place }
+    {
+        function_of(&self.parts, place)
     }
 
     /// States that the flat types of each type are those of the Canonical ABI ("Flattening"), by the flat types of the

@@ -8,7 +8,7 @@ ghost use Rattle.wc_resolve.specs.Flat.{AreFlattened, lists};
 ghost use Rattle.wc_resolve.specs.Futures.{AreFuturesEntries, entry_view};
 ghost use Rattle.wc_resolve.specs.Explain.{AreFlagsFor, DoAllFollow, IsBreach};
 ghost use Rattle.wc_resolve.specs.Refusals.{AreChecked, IsRefusal, IsRuleBroken};
-ghost use Rattle.wc_resolve.specs.Validate.{AreTables, IsOrder};
+ghost use Rattle.wc_resolve.specs.Validate.{AreFuturesTables, AreTables, IsOrder};
 ghost use Rattle.wc_resolve.specs.Ranges.{AreIdsInRange};
 ghost use Rattle.wc_resolve.specs.Resources.{AreResourceFlags};
 
@@ -28,6 +28,8 @@ use crate::contents::find_texts;
 use crate::explain::{Part, Refusal};
 use crate::flattening::flatten_all;
 use crate::futures::{FuturesEntry, futures_entries};
+use crate::long_functions::{LongFunction, long_functions};
+use crate::shortcuts::{Shortcut, shortcuts_along};
 use crate::{PackageName, Parts, ResolveFault, WasmType};
 use first::{first_interface, first_package, first_type, first_world};
 use order::{OrderFault, children_first};
@@ -47,6 +49,17 @@ pub(crate) struct Checked {
     package_names: Set<PackageName>,
 }
 
+/// What is kept of futures and streams.
+#[derive(Drop)]
+pub(crate) struct FuturesTables {
+    /// For each type its futures and streams.
+    pub(crate) entries: Vec<FuturesEntry>,
+    /// For each type a shortcut to one below it, if it has one.
+    pub(crate) shortcuts: Vec<Option<Shortcut>>,
+    /// The functions that have more than a few parameters, in the order of their places.
+    pub(crate) long_functions: Vec<LongFunction>,
+}
+
 /// The tables that a `Resolve` keeps beside its parts.
 #[derive(Drop)]
 pub(crate) struct Tables {
@@ -56,8 +69,8 @@ pub(crate) struct Tables {
     pub(crate) resources: Vec<bool>,
     /// For each type its flat types, as many as are kept (`KEPT_FLAT_TYPES`).
     pub(crate) flats: Vec<Vec<WasmType>>,
-    /// For each type its futures and streams.
-    pub(crate) futures: Vec<FuturesEntry>,
+    /// The futures and streams of types and functions.
+    pub(crate) futures: FuturesTables,
     /// For each type whether it holds a string.
     pub(crate) strings: Vec<bool>,
     /// For each type whether it holds a string or a list.
@@ -160,6 +173,26 @@ fn futures_of_parts(
     futures_entries(alloc, &parts.types, order)
 }
 
+/// What is kept of futures and streams.
+fn futures_tables(
+    alloc: Global,
+    parts: &Parts,
+    order: &[usize],
+) -> Result<FuturesTables, AllocError>
+    requires ranges { AreIdsInRange (parts_view parts.now) }
+    requires order { IsOrder (parts_view parts.now).types order.now }
+    ensures { IfOk result (AreFuturesTables (parts_view parts.now)) }
+{
+    let entries = futures_of_parts(alloc, parts, order)?;
+    let shortcuts = shortcuts_along(alloc, &entries, order)?;
+    let long_functions = long_functions(alloc, parts, &entries)?;
+    Ok(FuturesTables {
+        entries,
+        shortcuts,
+        long_functions,
+    })
+}
+
 /// For each type whether it holds a string.
 fn strings_of_parts(alloc: Global, parts: &Parts, order: &[usize]) -> Result<Vec<bool>, AllocError>
     requires { IsOrder (parts_view parts.now).types order.now }
@@ -214,7 +247,7 @@ pub(crate) fn check(alloc: Global, parts: &Parts) -> Result<Tables, Refusal>
 {
     let checked = well_formed(alloc, parts)?;
     let flats = flatten_parts(alloc, parts, &checked.order)?;
-    let futures = futures_of_parts(alloc, parts, &checked.order)?;
+    let futures = futures_tables(alloc, parts, &checked.order)?;
     let strings = strings_of_parts(alloc, parts, &checked.order)?;
     let texts = texts_of_parts(alloc, parts, &checked.order)?;
     Ok(Tables {

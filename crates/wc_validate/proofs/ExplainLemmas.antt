@@ -27,7 +27,7 @@ use Rattle.wc_validate.specs.declared.exports.classify.ExportContext.{ExportCont
 use Rattle.wc_validate.specs.declared.refused.RefusedModule.{RefusedModule}
 use Rattle.wc_validate.specs.declared.validate.ValidationInput.{ValidationInput as CodeInput}
 use Rattle.wc_validate.specs.declared.fault.ValidateFault.{ValidateFault}
-use Rattle.wc_validate.specs.declared.fault.ValidateFault.TheVariants.{Memory, NotAFunction, SignatureMismatch, NoRootImport, RootNotFunction, BadSyntax, UnknownInterface, UnknownIntrinsic, MissingFunction, NoSuchExport, TypedReference, WholeDiffers, Mixed, SeveralMemoryImports, DuplicateImport, AdapterTypesDiffer}
+use Rattle.wc_validate.specs.declared.fault.ValidateFault.TheVariants.{Memory, Read, NotAModule, AdapterModuleDidNotExport, NotAFunction, SignatureMismatch, NoRootImport, RootNotFunction, BadSyntax, UnknownInterface, UnknownIntrinsic, MissingFunction, NoSuchExport, TypedReference, WholeDiffers, Mixed, SeveralMemoryImports, DuplicateImport, AdapterTypesDiffer}
 use Rattle.wc_validate.specs.declared.imports.record.ImportContext.{ImportContext}
 use Rattle.wc_validate.specs.declared.imports.recorder.Recorder.{Recorder}
 use Rattle.wc_validate.specs.declared.name_fault.NameFault.{NameFault}
@@ -43,7 +43,7 @@ use Rattle.wc_validate.specs.Imports.Classify.{IsClassified, IsNameFault}
 use Rattle.wc_validate.specs.Imports.Entries.{Entry, adapter_type_of, by_modules, first_by, single, whole}
 use Rattle.wc_validate.specs.Imports.Record.{ImportScope, AreEntries, IsEntry, IsEntryCause, IsFaultOfImport, IsValidAfter, entry_faults, extern_type, library_entry}
 use Rattle.wc_validate.specs.NameScope.{name_scope_of}
-use Rattle.wc_validate.specs.Explain.{IsExportPlace, IsFirstMismatched, IsImportPlace, IsModulePlace, IsOfImport, IsPlaceOfImport, IsTypedAt, DifferenceView, PlaceView, difference_of, an_export, an_import, place_view, subject_view}
+use Rattle.wc_validate.specs.Explain.{IsExportPlace, IsFirstMismatched, IsImportPlace, IsModulePlace, IsPlaceOfImport, IsTypedAt, DifferenceView, PlaceView, difference_of, an_export, an_import, place_view, subject_view}
 use Rattle.wc_validate.specs.Private.Explain.{AreDifferingTypes, AreMismatchedTypes, AreTypesIn, HasRecordedImports, IsAdapterFunction, function_view, IsExportStopAt, IsPlaceIn, IsStopAt, IsStopPlaced}
 use Rattle.wc_validate.specs.Private.ValidationInputs.{validation_input_of}
 use Rattle.wc_validate.specs.Refused.{IsMemoryRefusal, IsPlaceOrNone, IsRefusedAt}
@@ -102,8 +102,15 @@ stop_at s imports index d r f below p h = (
   },
 )
 
--- which faults an import can have
-cause_of_import : (before : List Entry) (x : Entry) (k : ValidateFault) → IsEntryCause before x k → IsOfImport k
+-- the faults that carry nothing and are of a part of a module, as those of imports are
+abbrev pub IsPlainFault : ValidateFault → Type 0
+IsPlainFault Memory = ⊥
+IsPlainFault (Read f) = ⊥
+IsPlainFault NotAModule = ⊥
+IsPlainFault (AdapterModuleDidNotExport e) = ⊥
+IsPlainFault f = Unit {0}
+
+cause_of_import : (before : List Entry) (x : Entry) (k : ValidateFault) → IsEntryCause before x k → IsPlainFault k
 cause_of_import before (whole m which) WholeDiffers h = tt
 cause_of_import before (whole m which) Mixed h = tt
 cause_of_import before (whole m which) f h = absurd h
@@ -113,7 +120,7 @@ cause_of_import before (single m name i) DuplicateImport h = tt
 cause_of_import before (single m name i) AdapterTypesDiffer h = tt
 cause_of_import before (single m name i) f h = absurd h
 
-name_of_import : (e : NameScope) (a : CoreImport) (f : ValidateFault) → IsNameFault e a (import_fault_kind f) → IsOfImport f
+name_of_import : (e : NameScope) (a : CoreImport) (f : ValidateFault) → IsNameFault e a (import_fault_kind f) → IsPlainFault f
 name_of_import e a NotAFunction h = tt
 name_of_import e a SignatureMismatch h = tt
 name_of_import e a NoRootImport h = tt
@@ -126,11 +133,11 @@ name_of_import e a NoSuchExport h = tt
 name_of_import e a TypedReference h = tt
 name_of_import e a f h = absurd h
 
-pub fault_of_import : (s : ImportScope) (before : List Entry) (i : ImportValue) (f : ValidateFault) → IsFaultOfImport s before i f → IsOfImport f
+pub fault_of_import : (s : ImportScope) (before : List Entry) (i : ImportValue) (f : ValidateFault) → IsFaultOfImport s before i f → IsPlainFault f
 fault_of_import s before i f (inl h) = name_of_import s.name_scope h.1 f h.3
 fault_of_import s before i f (inr h) =
     let kind = kind_of (λ k (g : ValidateFault). IsEntryCause before h.0 k × (g ≡ k)) entry_faults f h.2 in
-    subst IsOfImport (sym kind.1.1) (cause_of_import before h.0 kind.0 kind.1.0)
+    subst IsPlainFault (sym kind.1.1) (cause_of_import before h.0 kind.0 kind.1.0)
 
 -- an import as the place of the fault that it is refused with
 pub place_at : (s : ImportScope) (imports : List Import) (index : ℕ) (d : Import) (subject : Subject) (types : Option DifferenceView) (f : ValidateFault)

@@ -16,11 +16,10 @@ use Rattle.wc_names.specs.Views.{interface_func}
 use Rattle.wc_names.specs.WitIntrinsics.{wit_intrinsics, IsWitIntrinsic}
 use Rattle.wc_names.proofs.SearchLemmas.{NoneOf}
 use Rattle.wc_validate.proofs.ClassificationLemmas.{classified_as}
-use Rattle.wc_validate.specs.Private.Imports.Lookups.{lookup_scope_in}
 use Rattle.wc_validate.specs.Private.Imports.Kinds.{MeansFunction, MeansIntrinsic, export_kinds, function_import}
 use Rattle.wc_validate.specs.NameScope.{imported_function}
 use Rattle.wc_validate.proofs.ImportInterfaceLemmas.{interface_unique}
-use Rattle.wc_validate.proofs.ImportRootLemmas.{function_unique, none_append, none_mapped, classified_mapped}
+use Rattle.wc_validate.proofs.ImportRootLemmas.{lookup_scope_in, function_unique, none_append, none_mapped, classified_mapped}
 
 module _ {F : Type 0} (kind : F → FaultKind) (s : Scheme) (e : NameScope) (formed : IsWellFormed e.resolve) (text name : List ℕ) (ty : FuncTypeValue) where
   abbrev imported : CoreFunction

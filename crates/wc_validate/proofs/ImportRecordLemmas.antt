@@ -12,8 +12,7 @@ use Rattle.wc_validate.specs.declared.name_fault.NameFault.TheVariants as naming
 use Rattle.wc_read.specs.Types.{func_type_value}
 use Rattle.wc_validate.specs.Fault.{of_name}
 use Rattle.wc_validate.specs.declared.imports.recorder.Recorder.{Recorder}
-use Rattle.wc_validate.specs.Private.Explain.{IsStopAt}
-use Rattle.wc_validate.specs.Private.Imports.Contexts.{IsImportRecorded, IsImportRefusal, IsImportsRefusal}
+use Rattle.wc_validate.specs.Private.Imports.Contexts.{IsImportRecorded, IsImportRefusal}
 use Rattle.wc_validate.specs.Imports.Entries.{Entry, single}
 use Rattle.wc_validate.specs.Imports.Record.{ImportScope, library_entry, IsCoreImport, IsEntry, AreEntries, IsFaultOfImport, IsImportFault}
 use Rattle.wc_validate.specs.Private.Imports.Recorder.{IsRecordedAfter, IsRefusedAfter}
@@ -83,7 +82,3 @@ refused_after s b (j ∷ js) (suc n) i (x ∷ xs) f there h k =
       h.1,
       refused_after s (b ++ x ∷ []) js n i xs f there h.2 (subst (λ z. IsFaultOfImport s z i f) (sym (append_assoc b (x ∷ []) xs)) k),
     )
-
-pub stop_is_refusal : (s : ImportScope) (is : List ImportValue) (index : ℕ) (f : ValidateFault) → IsStopAt s is index f → IsImportsRefusal s is f
-stop_is_refusal s is index Memory h = tt
-stop_is_refusal s is index f h = refused_after s [] is index h.0 h.1 f h.2.there h.2.recorded h.2.refused

@@ -7,7 +7,7 @@ use Rattle.wc_resolve.specs.Views.{plain_key}
 use Rattle.wc_names.specs.declared.imports.Import.{Import}
 use Rattle.wc_names.specs.First.{FirstOf}
 use Rattle.wc_names.specs.Imports.{NameScope, root_builtin, root_function, root_intrinsic, root_other_item, root_unknown, IsKind, NamesFunctionAs, function_type, import_abi}
-use Rattle.wc_names.specs.Keys.{world_scope, item_under}
+use Rattle.wc_names.specs.Keys.{Scope, world_scope, item_under}
 use Rattle.wc_names.specs.Meanings.{Meaning, means, refuses, root_not_function}
 use Rattle.wc_names.specs.Mangling.{Scheme, standard, legacy, root_module, NamesFunction}
 use Rattle.wc_validate.specs.Classifications.{FaultKind, IsClassification, IsImportClassification, of_imports}
@@ -15,9 +15,13 @@ use Rattle.wc_names.specs.WitIntrinsics.{wit_intrinsics, IsWitIntrinsic}
 use Rattle.wc_names.proofs.SearchLemmas.{NoneOf, none_of}
 use Rattle.wc_validate.proofs.ClassificationLemmas.{classified_as, group_err, group_some}
 use Rattle.wc_validate.specs.Private.Imports.Builtins.{IsAnyBuiltin, MeansBuiltin}
-use Rattle.wc_validate.specs.Private.Imports.Lookups.{lookup_scope_in}
+use Rattle.wc_validate.specs.Private.Imports.Lookups.{LookupScope}
 use Rattle.wc_validate.specs.Private.Imports.Kinds.{MeansFunction, MeansIntrinsic, function_import}
 use Rattle.wc_validate.specs.NameScope.{imported_function}
+
+-- the lookup scope of the imports or exports of the world that names are looked up in
+abbrev pub lookup_scope_in : NameScope → Bool → Scope → LookupScope
+lookup_scope_in e imported scope = record { resolve = e.resolve; world = e.world; imported = imported; scope = scope }
 
 -- the first of other kinds that hold of the same
 pub first_mapped : {K L O : Type 0} (H : K → O → Type 0) (G : L → O → Type 0) (f : K → L) → ((k : K) (o : O) → H k o → G (f k) o)

@@ -13,10 +13,9 @@ use Rattle.wc_validate.specs.Classifications.{FaultKind, IsReason, refused_name,
 use Rattle.wc_names.specs.WitIntrinsics.{wit_intrinsics, IsWitIntrinsic}
 use Rattle.wc_names.proofs.SearchLemmas.{NoneOf, not_first}
 use Rattle.wc_validate.proofs.ClassificationLemmas.{group_next, classified_fault, classified_next, classified_nothing, classified_unchecked}
-use Rattle.wc_validate.specs.Private.Imports.Lookups.{lookup_scope_in}
 use Rattle.wc_validate.specs.Private.Imports.Kinds.{MeansAmong, MeansByScheme, MeansEnvironment, MeansIntrinsic, export_kinds, export_root_kinds, interface_kinds, other_kinds, root_kinds}
 use Rattle.wc_validate.specs.NameScope.{imported_function}
-use Rattle.wc_validate.proofs.ImportRootLemmas.{group_total, none_append, none_mapped, classified_mapped}
+use Rattle.wc_validate.proofs.ImportRootLemmas.{lookup_scope_in, group_total, none_append, none_mapped, classified_mapped}
 
 module _ {F : Type 0} (kind : F → FaultKind) (s : Scheme) (e : NameScope) (name : List ℕ) (ty : FuncTypeValue) where
   root_named : ¬ NoneOf (IsKind s e (imported_function (root_module s) name ty)) root_kinds

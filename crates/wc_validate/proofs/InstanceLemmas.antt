@@ -8,7 +8,7 @@ use Rattle.std.proofs.lemmas.List.{map-append}
 use Rattle.std.proofs.lemmas.List.Elements.{filter-append, filter_map-append}
 use Rattle.wc_adapters.specs.Adapters.{WhichView}
 use Rattle.wc_validate.specs.Imports.Entries.{Entry, single, whole, entry_module, InstanceRecord, names_of, single_of, whole_of, instance_record, by_modules, Records, IsAllRecorded}
-use Rattle.wc_maps.specs.Names.{first_occurrences}
+use Rattle.wc_texts.specs.Names.{first_occurrences}
 use Rattle.wc_validate.specs.Imports.Instances.{add_to, put_in, IsFree}
 use Rattle.wc_names.specs.Views.{ImportView}
 

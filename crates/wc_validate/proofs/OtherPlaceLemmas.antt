@@ -20,30 +20,30 @@ use Rattle.wc_validate.specs.declared.refused.RefusedModule.{RefusedModule}
 use Rattle.wc_validate.specs.declared.validate.ValidatedModule.{ValidatedModule}
 use Rattle.wc_validate.specs.Exports.Map.{ExportRecord}
 use Rattle.wc_validate.specs.Exports.Record.{core_exports}
-use Rattle.wc_validate.specs.Explain.{IsExplained, IsFirstLacking, IsFirstUnexported, IsMissingPlace, IsModulePlace, IsNoPlace, IsOfImport, IsPlace, IsUnplaced, PlaceView, place_view}
+use Rattle.wc_validate.specs.Explain.{IsExplained, IsFirstLacking, IsFirstUnexported, IsMissingPlace, IsModulePlace, IsNoPlace, IsPlace, IsUnplaced, PlaceView, place_view}
 use Rattle.wc_validate.specs.Private.Explain.{IsKeptIf, IsNotExported, IsOtherFault, IsSameFault}
 use Rattle.wc_validate.specs.Refused.{HasNoPlace}
 use Rattle.wc_validate.specs.Requirements.{IsFirstUnmet, IsShortfall, Requirement, callbacks, exported_type, interface_functions, is_called_back, item_requirement, key_requirements, one_memory, requirements, type_requirement, typed_function, world_function}
 use Rattle.wc_validate.specs.Texts.{name_not_exported}
 use Rattle.wc_validate.specs.Validate.{IsRecordOf, IsValidateCause, ModuleRecord, ValidationInput, module_record}
 use Rattle.wc_validate.proofs.ExclusionLemmas.{no_component}
-use Rattle.wc_validate.proofs.ExplainLemmas.{fault_of_import}
+use Rattle.wc_validate.proofs.ExplainLemmas.{IsPlainFault, fault_of_import}
 use Rattle.wc_validate.proofs.MissingLemmas.{functions_cut, keys_cut, no_unmet, not_all, short_of_first, skip_met, two_memories}
 
 some_same : {X : Type 0} {x y : X} → Some x ≡ Some y → x ≡ y
 some_same e = cc e
 
--- an import's fault carries nothing, so that it is the same where it says the same
-same_import : (g f : ValidateFault) → IsOfImport g → IsSameFault g f → f ≡ g
-same_import (AdapterModuleDidNotExport e) f h k = absurd h
-same_import g f h k = k
+-- a fault that carries nothing is the same where it says the same
+same_plain : (g f : ValidateFault) → IsPlainFault g → IsSameFault g f → f ≡ g
+same_plain (AdapterModuleDidNotExport e) f h k = absurd h
+same_plain g f h k = k
 
-other_import : (g f : ValidateFault) → IsOfImport g → IsOtherFault g f → f ≢ g
-other_import Memory f h k = absurd h
-other_import (Read e) f h k = absurd h
-other_import NotAModule f h k = absurd h
-other_import (AdapterModuleDidNotExport e) f h k = absurd h
-other_import g f h k = k
+other_plain : (g f : ValidateFault) → IsPlainFault g → IsOtherFault g f → f ≢ g
+other_plain Memory f h k = absurd h
+other_plain (Read e) f h k = absurd h
+other_plain NotAModule f h k = absurd h
+other_plain (AdapterModuleDidNotExport e) f h k = absurd h
+other_plain g f h k = k
 
 -- which faults are of memories and callbacks
 memory_short : (xs : List CoreExport) (f : ValidateFault) → IsShortfall xs one_memory f → f ≡ SeveralMemoryExports
@@ -247,7 +247,7 @@ module _ (j : ValidationInput) (m : ModuleValue) (g f : ValidateFault) (p : Plac
   same_place : IsModulePlace j m g p → IsSameFault g f → IsModulePlace j m f p
   same_place (inl h) same =
       let own = fault_of_import h.0 h.2.before h.2.value g h.2.first.refused in
-      subst (λ z. IsModulePlace j m z p) (sym (same_import g f own same)) (inl h)
+      subst (λ z. IsModulePlace j m z p) (sym (same_plain g f own same)) (inl h)
   same_place (inr (inl h)) same =
       let is : f ≡ SignatureMismatch = subst (λ z. IsSameFault z f) h.4.is_mismatch same in
       subst (λ z. IsModulePlace j m z p) (h.4.is_mismatch ∙ sym is) (inr (inl h))
@@ -265,7 +265,7 @@ module _ (j : ValidationInput) (m : ModuleValue) (g f : ValidateFault) (p : Plac
   no_place : IsModulePlace j m g p → IsOtherFault g f → IsNoPlace j m f
   no_place (inl h) other =
       let own = fault_of_import h.0 h.2.before h.2.value g h.2.first.refused in
-      inl (h.0, h.1, (h.2.index, h.2.value, h.2.before, g, h.2.first, other_import g f own other))
+      inl (h.0, h.1, (h.2.index, h.2.value, h.2.before, g, h.2.first, other_plain g f own other))
   no_place (inr (inl h)) other =
       inr (
         h.0,

@@ -14,10 +14,10 @@ use Rattle.wc_validate.specs.Imports.Record.{ImportScope, IsImportFault}
 use Rattle.wc_validate.specs.Exports.Map.{ExportRecord}
 use Rattle.wc_validate.specs.Exports.Record.{AreExports, core_exports}
 use Rattle.wc_validate.specs.Laws.{PlacesAreCauses}
-use Rattle.wc_validate.specs.Explain.{IsExportPlace, IsImportPlace, IsMissingPlace, IsModulePlace, IsOfImport, PlaceView}
+use Rattle.wc_validate.specs.Explain.{IsExportPlace, IsImportPlace, IsMissingPlace, IsModulePlace, PlaceView}
 use Rattle.wc_validate.specs.Requirements.{IsFirstUnmet, IsShortfall, IsUnmetFault, Requirement, callbacks, interface_functions, is_called_back, key_requirements, one_memory, requirements, type_requirement, typed_function, world_function}
 use Rattle.wc_validate.specs.Validate.{IsValidateCause, IsCauseOfExports, IsCauseOfImports, IsImportScopeFor, IsModuleCause, IsNameScopeOf, ValidationInput}
-use Rattle.wc_validate.proofs.ExplainLemmas.{fault_of_import, first_mismatch}
+use Rattle.wc_validate.proofs.ExplainLemmas.{IsPlainFault, fault_of_import, first_mismatch}
 use Rattle.wc_validate.proofs.ImportRecordLemmas.{refused_after}
 use Rattle.wc_validate.proofs.MissingLemmas.{key_unmet, function_unmet, not_all, two_memories}
 use Rattle.wc_validate.proofs.RequirementLemmas.{first_left, first_right}
@@ -34,10 +34,10 @@ imports_cause : (j : ValidationInput) (m : ModuleValue) (f : ValidateFault) (s :
 imports_cause j m Memory s scope h = tt
 imports_cause j m f s scope h = (s, scope, h)
 
-import_refusal : (f : ValidateFault) → IsOfImport f → IsOfModule f
-import_refusal (Read g) h = h
-import_refusal NotAModule h = h
-import_refusal f h = tt
+plain_of_module : (f : ValidateFault) → IsPlainFault f → IsOfModule f
+plain_of_module (Read g) h = h
+plain_of_module NotAModule h = h
+plain_of_module f h = tt
 
 -- what is required
 module _ (r : ResolveView) (xs : List CoreExport) (recorded : ExportRecord) (exports : Entries) (keys : List KeyView)
@@ -116,7 +116,7 @@ module _ (j : ValidationInput) (m : ModuleValue) (f : ValidateFault) (p : PlaceV
   module_cause : IsModulePlace j m f p → IsModuleCause j m f × IsOfModule f
   module_cause (inl h) = (
     inl (imports_cause j m f h.0 h.1 (import_fault h.0 h.2)),
-    import_refusal f (fault_of_import h.0 h.2.before h.2.value f h.2.first.refused),
+    plain_of_module f (fault_of_import h.0 h.2.before h.2.value f h.2.first.refused),
   )
   module_cause (inr (inl h)) = (
     inr (h.0, h.1, export_cause h.2 h.3 h.4),

@@ -15,7 +15,7 @@ use Rattle.wc_names.specs.Imports.{NameScope}
 use Rattle.wc_names.specs.Laws.{ExportsInRange, IsExportIn, IsImportIn}
 use Rattle.wc_names.specs.Views.{ImportView}
 use Rattle.wc_validate.specs.Imports.Entries.{Entry, single, whole, by_modules, entry_module, instance_record, single_of, whole_of}
-use Rattle.wc_maps.specs.Names.{first_occurrences}
+use Rattle.wc_texts.specs.Names.{first_occurrences}
 use Rattle.wc_validate.specs.Exports.Map.{ExportRecord}
 use Rattle.wc_validate.specs.Imports.Map.{imports_in, singles_of}
 use Rattle.wc_validate.specs.Imports.Record.{ImportScope, AreEntries, IsEntry}

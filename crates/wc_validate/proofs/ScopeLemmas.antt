@@ -9,7 +9,7 @@ use Rattle.wc_resolve.specs.Views.{KeyView, plain_key, ItemView, function_item, 
 use Rattle.wc_resolve.specs.WellFormed.{IsFree, IsUsable, IsWellFormed}
 use Rattle.wc_resolve.specs.Kinds.{ResolveView, DoAllTypesPass, DoesInterfacePass, DoesItemPass, DoesWorldPass, SignatureHasOnly}
 use Rattle.wc_names.specs.Keys.{as_type, function_at, item_under, type_named, world_entries}
-use Rattle.wc_maps.specs.Names.{under_name}
+use Rattle.wc_texts.specs.Names.{under_name}
 use Rattle.wc_resolve.proofs.WellFormedLemmas.{all_get}
 use Rattle.wc_names.proofs.RangeLemmas.{as_function_is}
 use Rattle.wc_names.proofs.KeyLemmas.{entries_in_range as entries_in}

@@ -12,7 +12,7 @@ use Rattle.wc_names.specs.Views.{ImportView, adapter_export, main_module_memory}
 use Rattle.wc_validate.specs.declared.fault.ValidateFault.TheVariants.{AdapterTypesDiffer, DuplicateImport, SeveralMemoryImports}
 use Rattle.wc_validate.specs.Imports.AdapterTypes.{first_some}
 use Rattle.wc_validate.specs.Imports.Entries.{Entry, single, whole, InstanceRecord, IsAllRecorded, IsNameRecorded, adapter_type_in, adapter_type_of, all_of, by_modules, entry_module, first_by, instance_record, memory_of, memory_type_of, names_of, single_of, whole_of}
-use Rattle.wc_maps.specs.Names.{first_occurrences}
+use Rattle.wc_texts.specs.Names.{first_occurrences}
 use Rattle.wc_validate.specs.Imports.Map.{imports_in, singles_of}
 use Rattle.wc_validate.specs.Imports.Record.{IsValidAfter}
 use Rattle.wc_validate.proofs.ContainedLemmas.{all_by, first_there, flat_there, found_there, kept_from, kept_there, looked_up, mapped_there, some_same}

@@ -38,7 +38,8 @@ use Rattle.wc_validate.specs.declared.fault.ValidateFault.{ValidateFault}
 use Rattle.wc_validate.specs.declared.fault.ValidateFault.TheVariants.{Memory, Read, NotAModule}
 use Rattle.wc_validate.specs.declared.imports.record.ImportContext.{ImportContext}
 use Rattle.wc_validate.specs.declared.imports.recorder.Recorder.{Recorder}
-use Rattle.wc_validate.specs.Private.Imports.Contexts.{AreRecorded, IsImportsRefusal, IsTypeIn, import_scope}
+use Rattle.wc_validate.specs.Private.Explain.{IsStopAt}
+use Rattle.wc_validate.specs.Private.Imports.Contexts.{AreRecorded, IsTypeIn, import_scope}
 use Rattle.wc_validate.specs.Imports.Entries.{Entry, Records}
 use Rattle.wc_validate.specs.Fault.{import_fault_kind, of_read}
 use Rattle.wc_validate.specs.Imports.Record.{ImportScope, IsEntryFault, IsImportFault}
@@ -52,13 +53,14 @@ use Rattle.wc_validate.specs.declared.requirements.RequiredExports.{RequiredExpo
 use Rattle.wc_validate.specs.declared.validate.ValidatedModule.{ValidatedModule}
 use Rattle.wc_validate.specs.Exports.Map.{ExportRecord, export_entry}
 use Rattle.wc_validate.specs.Private.Exports.Classify.{AreNamesBy}
-use Rattle.wc_validate.specs.Exports.Record.{AreExports, AreRecordedBy, AreRefusedBy, IsExportsFault, core_exports, exports_in}
+use Rattle.wc_validate.specs.Exports.Record.{AreExports, AreRecordedBy, IsExportsFault, core_exports, exports_in}
 use Rattle.wc_validate.specs.Requirements.{IsFirstUnmet, IsShortfall, IsUnmetFault, Requirement, callbacks, interface_functions, one_memory, requirements, typed_function, world_function}
 use Rattle.wc_validate.specs.Private.ValidationInputs.{HasRecordedExports, HasRefusedExports}
 use Rattle.wc_validate.specs.Private.Requirements.{AreMetBy, IsUnmetBy}
 use Rattle.wc_validate.specs.declared.refused.RefusedModule.{RefusedModule}
 use Rattle.wc_validate.specs.Refused.{IsMemoryRefusal}
 use Rattle.wc_validate.specs.Validate.{IsCauseOfExports, IsCauseOfImports, IsValidateCause, IsExportsRecord, IsImportsCause, IsImportsRecord, IsModuleCause, IsRecordOf, IsImportScopeFor, IsNameScopeOf, ValidationInput, module_record}
+use Rattle.wc_validate.proofs.ImportRecordLemmas.{refused_after}
 
 -- what names are looked up in, for an encoder
 names_are : (es : List (String Global × Adapter)) → map adapter_name es ≡ map (λ (a : List ℕ × AdapterView). a.0) (map adapter_entry es)
@@ -97,14 +99,16 @@ module _ (e : EncoderView) (c : ImportContext) (renames : Option (List RenameVie
       let h = subst (λ z. AreRecorded (import_scope c library) (import_values z) r) same recorded in
       (import_scope c library, import_scope_for, (h.0, h.1, is ∙ h.2.instances))
 
-  cause_here : (f : ValidateFault) → IsImportsRefusal (import_scope c library) (import_values imports) f
+  cause_here : (index : ℕ) (f : ValidateFault) → IsStopAt (import_scope c library) (import_values imports) index f
       → IsImportsCause e renames library (map func_type_value types) (import_values imports) f
-  cause_here Memory h = tt
-  cause_here f h = (import_scope c library, import_scope_for, h)
+  cause_here index Memory h = tt
+  cause_here index f h =
+      let s = import_scope c library in
+      (s, import_scope_for, refused_after s [] (import_values imports) index h.0 h.1 f h.2.there h.2.recorded h.2.refused)
 
-  pub cause_is : (f : ValidateFault) → IsImportsRefusal (import_scope c library) (import_values passed) f
+  pub cause_is : (index : ℕ) (f : ValidateFault) → IsStopAt (import_scope c library) (import_values passed) index f
       → IsImportsCause e renames library (map func_type_value types) (import_values imports) f
-  cause_is f h = cause_here f (subst (λ z. IsImportsRefusal (import_scope c library) (import_values z) f) same h)
+  cause_is index f h = cause_here index f (subst (λ z. IsStopAt (import_scope c library) (import_values z) index f) same h)
 
 pub recorded_memory : (s : ImportScope) (is : List ImportValue) (r : Recorder) → AreRecorded s is r
     → memory_in (map instance_entry r.instances.entries) ≡ r.memory
@@ -249,7 +253,8 @@ module _ (e : EncoderView) (q : RequiredExports) (m : Module) (c : ExportContext
     missing_cause Memory h = tt
     missing_cause f h = (name_scope_of c.names, has, inr (map export_entry recorded, are_exports, h))
 
-  pub exports_cause : (passed : List Export) → passed ≡ m.exports.items → (f : ValidateFault) → AreRefusedBy c (exports_in m passed) f
+  pub exports_cause : (passed : List Export) → passed ≡ m.exports.items → (f : ValidateFault)
+      → IsExportsFault (name_scope_of c.names) c.standard.keys (exports_in m passed) f
       → HasRefusedExports e q (module_value m) f
   exports_cause passed same Memory h = tt
   exports_cause passed same f h = (

@@ -7,7 +7,7 @@ use Rattle.std.proofs.lemmas.List.{map-append}
 use Rattle.std.proofs.lemmas.List.Elements.{filter_map-append}
 use Rattle.wc_adapters.specs.Adapters.{WhichView}
 use Rattle.wc_validate.specs.Imports.Entries.{Entry, whole, entry_module, InstanceRecord, all_of, names_of, single_of, whole_of, instance_record, by_modules, Records}
-use Rattle.wc_maps.specs.Names.{first_occurrences}
+use Rattle.wc_texts.specs.Names.{first_occurrences}
 use Rattle.wc_validate.specs.Imports.Instances.{IsWholePut}
 use Rattle.wc_validate.proofs.InstanceLemmas.{self, same, other, NoneIs, among, seen, unseen, new_module, old_module, append_none, recorded, lone_whole, found_once}
 

@@ -16,7 +16,7 @@ use Rattle.wc_names.specs.Imports.{CoreImport, NameScope, Classified, func_type}
 use Rattle.wc_names.specs.Meanings.{means}
 use Rattle.wc_names.specs.Views.{ImportView, adapter_export}
 use Rattle.wc_validate.specs.declared.fault.ValidateFault.{ValidateFault}
-use Rattle.wc_validate.specs.declared.fault.ValidateFault.TheVariants.{NotAFunction, SignatureMismatch, NoRootImport, RootNotFunction, BadSyntax, UnknownInterface, UnknownIntrinsic, MissingFunction, NoSuchExport, TypedReference, WholeDiffers, Mixed, SeveralMemoryImports, DuplicateImport, AdapterTypesDiffer, SeveralMemoryExports, MissingCallback}
+use Rattle.wc_validate.specs.declared.fault.ValidateFault.TheVariants.{SignatureMismatch, AdapterTypesDiffer, SeveralMemoryExports, MissingCallback}
 use Rattle.wc_validate.specs.declared.place.Place.{Place}
 pub use Rattle.wc_validate.specs.Place.{SubjectView, an_import, an_export, missing_function, missing_export, subject_view, DifferenceView, difference_of, difference_view, PlaceView, place_view}
 use Rattle.wc_validate.specs.Imports.Entries.{Entry, Records, single, first_by, adapter_type_of}
@@ -32,25 +32,6 @@ pub record IsFirstRefused (s : ImportScope) (imports : List ImportValue) (index 
   pub there : slice_get imports index ≡ Some i
   pub recorded : AreEntries s [] (take index imports) before
   pub refused : IsFaultOfImport s before i f
-
--- the faults that an import can have
-abbrev pub IsOfImport : ValidateFault → Type 0
-IsOfImport NotAFunction = Unit {0}
-IsOfImport SignatureMismatch = Unit {0}
-IsOfImport NoRootImport = Unit {0}
-IsOfImport RootNotFunction = Unit {0}
-IsOfImport BadSyntax = Unit {0}
-IsOfImport UnknownInterface = Unit {0}
-IsOfImport UnknownIntrinsic = Unit {0}
-IsOfImport MissingFunction = Unit {0}
-IsOfImport NoSuchExport = Unit {0}
-IsOfImport TypedReference = Unit {0}
-IsOfImport WholeDiffers = Unit {0}
-IsOfImport Mixed = Unit {0}
-IsOfImport SeveralMemoryImports = Unit {0}
-IsOfImport DuplicateImport = Unit {0}
-IsOfImport AdapterTypesDiffer = Unit {0}
-IsOfImport f = ⊥
 
 -- the first import that is refused has another fault
 abbrev pub IsOtherRefused : ImportScope → List ImportValue → ValidateFault → Type 0

@@ -1,16 +1,21 @@
--- Faults: which are of names, and which come of reading; and what a part of the classification answers.
-use Rattle.std.specs.Prelude.{Option, Some, None, Result}
+-- Faults: which are of names, and which come of reading; what a part of the classification answers; and their texts and
+-- numbers.
+use Rattle.std.specs.Prelude.{ℕ, List, Option, Some, None, Result, codes}
 use Rattle.wc_read.specs.declared.fault.ReadFault.{ReadFault}
 use Rattle.wc_read.specs.declared.fault.ReadFault.TheVariants as read
 use Rattle.wc_read.specs.declared.types.FuncType.{FuncType}
 use Rattle.wc_read.specs.Types.{FuncTypeValue, func_type_value}
 use Rattle.wc_validate.specs.declared.fault.ValidateFault.{ValidateFault}
-use Rattle.wc_validate.specs.declared.fault.ValidateFault.TheVariants.{Memory, Read, NotAModule, NotAFunction, SignatureMismatch, NoRootImport, RootNotFunction, BadSyntax, UnknownInterface, UnknownIntrinsic, MissingFunction, NoSuchExport, TypedReference}
 use Rattle.wc_validate.specs.declared.name_fault.NameFault.{NameFault}
 use Rattle.wc_validate.specs.declared.name_fault.NameFault.TheVariants as naming
 use Rattle.wc_names.specs.declared.imports.Import.{Import}
 use Rattle.wc_names.specs.Meanings.{Meaning, not_a_function, no_root_import, root_not_function, bad_syntax, unknown_interface, unknown_intrinsic, missing_function, no_such_export, typed_reference}
 use Rattle.wc_validate.specs.Classifications.{FaultKind, out_of_memory, wrong_signature, refused_name, other_fault, IsImportClassification}
+use Rattle.wc_read.specs.Fault.{read_fault_number, read_fault_text}
+use Rattle.wc_texts.specs.FaultNumbers.{carrying}
+use Rattle.wc_texts.specs.FaultTexts.{carried_text, memory_text}
+use Rattle.wc_validate.specs.Texts.{name_not_exported, not_exported_text}
+use Rattle.wc_validate.specs.declared.fault.ValidateFault.TheVariants.{Memory, Read, NotAModule, NotAFunction, SignatureMismatch, NoRootImport, RootNotFunction, BadSyntax, UnknownInterface, UnknownIntrinsic, MissingFunction, NoSuchExport, WholeDiffers, Mixed, SeveralMemoryImports, DuplicateImport, AdapterTypesDiffer, SeveralMemoryExports, MissingCallback, MissingInterfaceExport, MissingWorldExport, AdapterModuleDidNotExport, AdapterExportType, TypedReference}
 
 -- the fault that a fault of reading is: a component is no module
 abbrev pub of_read : ReadFault → ValidateFault
@@ -69,3 +74,57 @@ IsClassifiedBy Means ty result = IsImportClassification fault_kind Means (func_t
 -- a function is classified where its type is part of what the name means
 abbrev pub IsFunctionClassified : (FuncTypeValue → Meaning → Type 0) → FuncType → Result (Option Import) NameFault → Type 0
 IsFunctionClassified MeansOf ty result = IsClassifiedBy (MeansOf (func_type_value ty)) ty result
+
+-- the text of a fault
+abbrev pub validate_fault_text : ValidateFault → List ℕ
+validate_fault_text Memory = memory_text
+validate_fault_text (Read f) = carried_text (codes "Read") (read_fault_text f)
+validate_fault_text NotAModule = codes "NotAModule"
+validate_fault_text NotAFunction = codes "NotAFunction"
+validate_fault_text SignatureMismatch = codes "SignatureMismatch"
+validate_fault_text NoRootImport = codes "NoRootImport"
+validate_fault_text RootNotFunction = codes "RootNotFunction"
+validate_fault_text BadSyntax = codes "BadSyntax"
+validate_fault_text UnknownInterface = codes "UnknownInterface"
+validate_fault_text UnknownIntrinsic = codes "UnknownIntrinsic"
+validate_fault_text MissingFunction = codes "MissingFunction"
+validate_fault_text NoSuchExport = codes "NoSuchExport"
+validate_fault_text WholeDiffers = codes "WholeDiffers"
+validate_fault_text Mixed = codes "Mixed"
+validate_fault_text SeveralMemoryImports = codes "SeveralMemoryImports"
+validate_fault_text DuplicateImport = codes "DuplicateImport"
+validate_fault_text AdapterTypesDiffer = codes "AdapterTypesDiffer"
+validate_fault_text SeveralMemoryExports = codes "SeveralMemoryExports"
+validate_fault_text MissingCallback = codes "MissingCallback"
+validate_fault_text MissingInterfaceExport = codes "MissingInterfaceExport"
+validate_fault_text MissingWorldExport = codes "MissingWorldExport"
+validate_fault_text (AdapterModuleDidNotExport missing) = not_exported_text (name_not_exported missing)
+validate_fault_text AdapterExportType = codes "AdapterExportType"
+validate_fault_text TypedReference = codes "TypedReference"
+
+-- the number of a fault, its position in the enum; where it carries another fault, that and 256 times the number of the other
+abbrev pub validate_fault_number : ValidateFault → ℕ
+validate_fault_number Memory = 0
+validate_fault_number (Read f) = carrying 1 (read_fault_number f)
+validate_fault_number NotAModule = 2
+validate_fault_number NotAFunction = 3
+validate_fault_number SignatureMismatch = 4
+validate_fault_number NoRootImport = 5
+validate_fault_number RootNotFunction = 6
+validate_fault_number BadSyntax = 7
+validate_fault_number UnknownInterface = 8
+validate_fault_number UnknownIntrinsic = 9
+validate_fault_number MissingFunction = 10
+validate_fault_number NoSuchExport = 11
+validate_fault_number WholeDiffers = 12
+validate_fault_number Mixed = 13
+validate_fault_number SeveralMemoryImports = 14
+validate_fault_number DuplicateImport = 15
+validate_fault_number AdapterTypesDiffer = 16
+validate_fault_number SeveralMemoryExports = 17
+validate_fault_number MissingCallback = 18
+validate_fault_number MissingInterfaceExport = 19
+validate_fault_number MissingWorldExport = 20
+validate_fault_number (AdapterModuleDidNotExport missing) = 21
+validate_fault_number AdapterExportType = 22
+validate_fault_number TypedReference = 23

@@ -1,8 +1,9 @@
--- The texts of the one fault whose text is stated, and of what faults are about.
+-- The texts of the fault that carries a name, and of what faults are about.
 use Rattle.std.specs.Prelude.{ℕ, List, [], ◌∷◌, ◌++◌, Option, Some, None, true, false, codes, decimal, flat_map, string_bytes}
 use Rattle.wc_read.specs.declared.types.ValType.{ValType}
 use Rattle.wc_read.specs.declared.types.ValType.TheVariants.{I32, I64, F32, F64, V128, FuncRef, ExternRef, FuncRefNonNull, ExternRefNonNull, TypeRef}
 use Rattle.wc_read.specs.Types.{FuncTypeValue}
+use Rattle.wc_texts.specs.FaultTexts.{quoted_text}
 use Rattle.wc_validate.specs.declared.fault.AdapterModuleDidNotExport.{AdapterModuleDidNotExport}
 use Rattle.wc_validate.specs.Place.{DifferenceView, PlaceView, SubjectView, an_import, an_export, missing_function, missing_export}
 
@@ -11,7 +12,7 @@ abbrev pub name_not_exported : AdapterModuleDidNotExport → List ℕ
 name_not_exported e = string_bytes e.0
 
 abbrev pub not_exported_text : List ℕ → List ℕ
-not_exported_text name = codes "adapter module did not export `" ++ (name ++ codes "`")
+not_exported_text = quoted_text (codes "adapter module did not export")
 
 -- a name in quotation marks, as it is
 abbrev pub quoted : List ℕ → List ℕ

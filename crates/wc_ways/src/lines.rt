@@ -79,8 +79,9 @@ fn reached_way(
 ) -> Result<String, AllocError>
     requires walk { IsWalk walk.now }
     requires there { item_index < length walk.now.chains.now.order.items }
-    ensures { IfOk result (λ s. (x : ItemIndex) → slice_get walk.now.chains.now.order.items item_index
-        ≡ Some x → IsItemWay (words_of walk.now.form) (original_in walk.now)
+    ensures { IfOk result (λ s. (x : ItemIndex)
+        → slice_get walk.now.chains.now.order.items item_index ≡ Some x
+        → IsItemWay (words_of walk.now.form) (original_in walk.now)
         (function_value function.now) (import_value import.now) x (string_bytes s)) }
 {
     let chain = walk.chains.chain(alloc, item_index)?;

@@ -21,7 +21,7 @@ use Rattle.wc_validate.specs.Imports.Map.{required_in}
 use Rattle.wc_validate.specs.Validate.{IsRecordOf, ModuleRecord, main_input}
 use Rattle.wc_validate.specs.declared.refused.RefusedModule.{RefusedModule}
 use Rattle.wc_world.specs.Trimming.{HasOtherName, NamedAdapter, is_adapter_needed, is_needed, needed_adapters}
-use Rattle.wc_world.specs.Causes.{IsComponentWorldCause, IsFaultOf, IsFirst, IsFirstFault, IsFirstStop, IsMemory, IsMemoryOf, IsReachedMemory, IsValidAdapter}
+use Rattle.wc_world.specs.Causes.{IsComponentWorldCause, IsFaultOf, IsFirst, IsFirstFault, IsMemory, IsMemoryOf, IsReachedMemory, IsStopOf, IsValidAdapter}
 use Rattle.wc_world.specs.Private.Refused.{IsFirstRefusal, IsMainRefusal, IsModuleRefusal, IsNeededStopAt}
 use Rattle.wc_world.specs.Refused.{IsMemoryRefusal, IsRefusedAt}
 use Rattle.wc_world.specs.Views.{NamedWorldAdapter}
@@ -194,7 +194,7 @@ first_cases e main xs P Q h =
       | inr q ↦ inr (record { front = h.front; adapter = h.adapter; back = h.back; cut = h.cut; are_valid = h.are_valid; here = q })
     ]
 
-first_stop : (e : EncoderView) (main : ModuleRecord) (x : RefusedWorld) → IsFirstRefusal e main x → IsFirstStop e main x.fault
+first_stop : (e : EncoderView) (main : ModuleRecord) (x : RefusedWorld) → IsFirstRefusal e main x → IsFirst e main (needed_adapters e main) (λ a. IsStopOf e main a x.fault)
 first_stop e main x h = record { front = h.front; adapter = h.adapter; back = h.back; cut = h.cut; are_valid = h.are_valid; here = h.here.1.0 }
 
 pub first_or_memory : (e : EncoderView) (main : ModuleRecord) (x : RefusedWorld) → IsRecordOf (main_input e e.module_import_map) e.module_bytes main → IsMemoryRefusal x ⊎ IsFirstRefusal e main x

@@ -1,5 +1,5 @@
--- The live types of one element: those that are not live yet, and pass a test, stand for all that pass it.
-use Rattle.std.proofs.Common.{◌≡◌, ◌∙◌, ℕ, inl, inr, Bool, true, false, not, eqb, cond, List, [], ◌∷◌, ◌++◌, filter, Result, Ok, Err, OnOk, refl, sym, ap, subst, append-nil, append_assoc}
+-- The live types of one element: those that are not known yet, and pass a test, stand for all that pass it.
+use Rattle.std.proofs.Common.{◌≡◌, ◌∙◌, ℕ, inl, inr, Bool, true, false, not, eqb, cond, List, [], ◌∷◌, ◌++◌, filter, refl, sym, ap, subst, append-nil, append_assoc}
 use Rattle.std.specs.Prelude.{◌||◌, ◌&&◌}
 use Rattle.std.specs.List.{Contains, flat_map}
 use Rattle.std.proofs.lemmas.Bool.{cases_Bool, eqb-true}
@@ -46,23 +46,23 @@ beside_found r live start types roots none complete adds =
     (subst (λ s. AddsListings r s (live ++ types) roots) empty adds (subst (IsComplete r.types) (sym (append-nil live)) complete)).1 in
     append_cancel_left live types (filter (is_new live) (live_from r roots)) (found ∙ union_beside live [] (flat_map (listing_of r.types) roots))
 
--- what is live already adds nothing
-module _ (r : ResolveView) (live : List ℕ) (complete : IsComplete r.types live) (passes : ℕ → Bool) where
-  known_adds_none : (all : List ℕ) (x : ℕ) (rest : List ℕ) → is_in live x ≡ true → ((c : ℕ) → Contains live c → Contains all c) → list_union all rest ≡ list_union all (listing_of r.types x ++ rest)
-  known_adds_none all x rest there has =
-      let own : Contains live x = Contains-from_any eqb-true x live there in
-      let same : list_union all (listing_of r.types x) ≡ all = list_union_there all (listing_of r.types x) (λ c h. has c (listing_there r.types live complete x c own h)) in
+-- what is known already adds nothing, since of it those that pass are live
+module _ (r : ResolveView) (live known : List ℕ) (complete : IsComplete r.types live) (passes : ℕ → Bool) (own : (x : ℕ) → Contains known x → passes x ≡ true → Contains live x) where
+  known_adds_none : (all : List ℕ) (x : ℕ) (rest : List ℕ) → is_in known x ≡ true → passes x ≡ true → ((c : ℕ) → Contains live c → Contains all c) → list_union all rest ≡ list_union all (listing_of r.types x ++ rest)
+  known_adds_none all x rest there kept has =
+      let mine : Contains live x = own x (Contains-from_any eqb-true x known there) kept in
+      let same : list_union all (listing_of r.types x) ≡ all = list_union_there all (listing_of r.types x) (λ c h. has c (listing_there r.types live complete x c mine h)) in
       ap (λ z. list_union z rest) (sym same) ∙ sym (list_union_append all (listing_of r.types x) rest)
 
   skipped : (all xs : List ℕ) → ((c : ℕ) → Contains live c → Contains all c)
-      → list_union all (flat_map (listing_of r.types) (filter passes (filter (is_new live) xs))) ≡ list_union all (flat_map (listing_of r.types) (filter passes xs))
+      → list_union all (flat_map (listing_of r.types) (filter passes (filter (is_new known) xs))) ≡ list_union all (flat_map (listing_of r.types) (filter passes xs))
   skipped all [] has = refl
   skipped all (x ∷ xs) has =
       let f : ℕ → List ℕ = listing_of r.types in
-      let rest : List ℕ = filter passes (filter (is_new live) xs) in
-      elim (cases_Bool (is_in live x)) [
+      let rest : List ℕ = filter passes (filter (is_new known) xs) in
+      elim (cases_Bool (is_in known x)) [
         | inl there ↦ elim (cases_Bool (passes x)) [
-          | inl kept ↦ rw (there, kept) (skipped all xs has ∙ known_adds_none all x (flat_map f (filter passes xs)) there has)
+          | inl kept ↦ rw (there, kept) (skipped all xs has ∙ known_adds_none all x (flat_map f (filter passes xs)) there kept has)
           | inr left ↦ rw (there, left) (skipped all xs has)
         ]
         | inr new ↦ elim (cases_Bool (passes x)) [
@@ -75,11 +75,10 @@ module _ (r : ResolveView) (live : List ℕ) (complete : IsComplete r.types live
       ]
 
 -- so the new ones stand for all
-pub new_for_all : {T E : Type 0} (result : Result T E) (r : ResolveView) (passes : ℕ → Bool) (live new types roots : List ℕ) → types ≡ filter (is_new live) (live_from r roots)
-    → OnOk result (AddsListings r live new (filter passes types)) → OnOk result (AddsListings r live new (filter passes (live_from r roots)))
-new_for_all (Ok v) r passes live new types roots is adds = λ complete.
+pub new_for_all : (r : ResolveView) (passes : ℕ → Bool) (live known new types roots : List ℕ) → ((x : ℕ) → Contains known x → passes x ≡ true → Contains live x) → types ≡ filter (is_new known) (live_from r roots)
+    → AddsListings r live new (filter passes types) → AddsListings r live new (filter passes (live_from r roots))
+new_for_all r passes live known new types roots own is adds = λ complete.
     let p = adds complete in (
       p.0,
-      p.1 ∙ (ap (λ z. list_union live (flat_map (listing_of r.types) (filter passes z))) is ∙ skipped r live complete passes live (live_from r roots) (λ c h. h)),
+      p.1 ∙ (ap (λ z. list_union live (flat_map (listing_of r.types) (filter passes z))) is ∙ skipped r live known complete passes own live (live_from r roots) (λ c h. h)),
     )
-new_for_all (Err e) r passes live new types roots is adds = tt

@@ -27,7 +27,7 @@ use Rattle.wc_encoder.specs.EncoderParts.{EncoderView, IsWorldOf, world_imports}
 use Rattle.wc_adapters.specs.Entries.{Entries}
 use Rattle.wc_names.specs.Laws.{IsImportIn}
 use Rattle.wc_names.specs.Keys.{as_type, item_under}
-use Rattle.wc_maps.specs.Names.{under_name}
+use Rattle.wc_texts.specs.Names.{under_name}
 use Rattle.wc_names.specs.Payloads.{HasPayload}
 use Rattle.wc_names.specs.declared.imports.Import.{Import}
 use Rattle.wc_names.specs.declared.imports.Import.TheVariants as variant

@@ -5,7 +5,7 @@ use Rattle.std.specs.Str.{bytes_eq}
 use Rattle.std.specs.String.{string_eq}
 use Rattle.std.specs.declared.alloc.Global.{Global}
 use Rattle.std.proofs.lemmas.List.{map-append}
-use Rattle.wc_maps.specs.Names.{first_occurrences}
+use Rattle.wc_texts.specs.Names.{first_occurrences}
 use Rattle.wc_validate.proofs.InstanceLemmas.{new_module, old_module}
 use Rattle.wc_world.specs.Trimming.{HasNames}
 use Rattle.wc_world.proofs.ImportedItemLemmas.{added_last, bytes_turned}

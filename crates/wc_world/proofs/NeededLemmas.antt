@@ -14,7 +14,7 @@ use Rattle.wc_names.specs.Exports.{CoreExport}
 use Rattle.wc_names.specs.ExportViews.{ExportView}
 use Rattle.wc_names.specs.Imports.{NameScope}
 use Rattle.wc_names.specs.Keys.{item_under}
-use Rattle.wc_maps.specs.Names.{first_occurrences}
+use Rattle.wc_texts.specs.Names.{first_occurrences}
 use Rattle.wc_validate.specs.Exports.Map.{ExportRecord}
 use Rattle.wc_validate.specs.Imports.Map.{required_in}
 use Rattle.wc_validate.specs.Exports.Record.{core_exports}

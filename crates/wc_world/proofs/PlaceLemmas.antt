@@ -23,7 +23,7 @@ use Rattle.wc_validate.specs.declared.fault.ValidateFault.TheVariants as validat
 use Rattle.wc_validate.specs.declared.place.Place.{Place}
 use Rattle.wc_world.specs.Trimming.{NamedAdapter, is_adapter_needed, required_names}
 use Rattle.wc_world.specs.Places.{IsNeededUnder, IsNotTrimmed, IsTrimUnreached, IsValidationPlace, IsWorldExplained}
-use Rattle.wc_world.specs.Private.Adapters.{IsInputFault, IsInputRecord, IsInputTrimmedText, IsNeeded, main_of, named_adapter, required_of}
+use Rattle.wc_world.specs.Private.Adapters.{IsInputRecord, IsInputTrimmedText, IsNeeded, main_of, named_adapter, required_of}
 use Rattle.wc_world.specs.Private.Places.{IsInputMinimized, IsMinimizedAnswer, IsNamedAnswer, IsRefusal, IsTrimAnswer, IsTrimRefusal, IsValidationAnswer, input_of}
 use Rattle.wc_world.specs.Private.Refused.{IsInputRefusal}
 use Rattle.wc_world.specs.World.{adapter_trim_input}
@@ -36,7 +36,7 @@ use Rattle.wc_world.specs.declared.places.ModulePlace.{ModulePlace}
 use Rattle.wc_world.specs.declared.places.ModulePlace.TheVariants as place
 use Rattle.wc_world.specs.declared.places.WorldPlace.{WorldPlace}
 use Rattle.wc_world.specs.declared.refused.RefusedWorld.{RefusedWorld}
-use Rattle.wc_world.proofs.RefusedLemmas.{input_fault}
+use Rattle.wc_world.proofs.RefusedLemmas.{IsInputFault, input_fault}
 
 -- a place in it
 pub main_answer : (e : EncoderView) (f : ValidateFault) (renames : Option (List RenameView)) (bytes : List ℕ) (o : Option Place) → renames ≡ e.module_import_map → bytes ≡ e.module_bytes

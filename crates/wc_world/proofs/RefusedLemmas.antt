@@ -1,5 +1,5 @@
 -- Refusals: of what a module is refused for, to what a component is.
-use Rattle.std.proofs.Common.{◌≡◌, ℕ, List, MatchOption, Option, Some, None, Result, Ok, Err, IfErr, IfOk, IsErrAnd, String, string_bytes, sym, subst, inl, inr}
+use Rattle.std.proofs.Common.{◌≡◌, ◌⊎◌, ℕ, List, MatchOption, Option, Some, None, Result, Ok, Err, IfErr, IfOk, IsErrAnd, String, string_bytes, sym, subst, inl, inr}
 use Rattle.std.specs.Option.{option_map}
 use Rattle.std.specs.declared.alloc.AllocError.{AllocError}
 use Rattle.std.specs.declared.alloc.Global.{Global}
@@ -13,7 +13,7 @@ use Rattle.wc_validate.specs.declared.fault.ValidateFault.{ValidateFault}
 use Rattle.wc_validate.specs.declared.refused.RefusedModule.{RefusedModule}
 use Rattle.wc_world.specs.Causes.{IsStopOf}
 use Rattle.wc_world.specs.Places.{IsInAdapter, IsInMain, IsMinimizedPlace, IsNeededUnder, IsOfAdapter, IsOriginalPlace, IsTrimPlace, IsTrimUnplaced, IsValidationPlace}
-use Rattle.wc_world.specs.Private.Adapters.{IsInputFault}
+use Rattle.wc_world.specs.Private.Adapters.{main_of, named_adapter}
 use Rattle.wc_world.specs.Private.Refused.{IsInputRefusal, IsMainRefusal, IsModuleRefusal, IsNamedRefusal, IsOfNoPlace, IsPlaceFound, IsPlaceOf, IsPlaceWith, IsPlacedBy}
 use Rattle.wc_world.specs.Refused.{HasNoPlace, IsMemoryRefusal, IsPlaceOrNone, IsRefusedAt}
 use Rattle.wc_world.specs.Trimming.{NamedAdapter}
@@ -54,7 +54,10 @@ pub named_refusal : {X : Type 0} (make : String Global → WorldFault) (kind : X
 named_refusal make kind name found P x at_memory at_name (inl memory) = at_memory memory
 named_refusal make kind name found P x at_memory at_name (inr (s, named, is, at)) = at_name s named is at
 
--- its fault
+-- why an adapter is not in the world of a component, or that an allocation failed: the fault of its refusal
+abbrev pub IsInputFault : AdapterInput → WorldFault → Type 0
+IsInputFault g f = (f ≡ Memory) ⊎ IsStopOf g.encoder.now (main_of g) (named_adapter g) f
+
 pub input_fault : (g : AdapterInput) (x : RefusedWorld) → IsInputRefusal g x → IsInputFault g x.fault
 input_fault g x (inl memory) = inl memory.0
 input_fault g x (inr stop) = inr stop.0

@@ -27,7 +27,7 @@ use Rattle.wc_gc.specs.RestrictionLaws as trimming
 use Rattle.wc_gc.specs.TrimmedText.{IsTrimmed}
 use Rattle.wc_gc.specs.Unfolding.{edited_from}
 use Rattle.wc_gc.proofs.ImportOriginLemmas.{zip_weaker}
-use Rattle.wc_maps.specs.Names.{first_occurrences}
+use Rattle.wc_texts.specs.Names.{first_occurrences}
 use Rattle.wc_validate.specs.Imports.Record.{extern_type}
 use Rattle.wc_validate.specs.Exports.Record.{item_type}
 use Rattle.wc_validate.specs.Restriction as recording

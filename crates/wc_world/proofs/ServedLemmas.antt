@@ -23,7 +23,7 @@ use Rattle.wc_adapters.specs.Entries.{Entries}
 use Rattle.wc_adapters.proofs.PairLemmas.{pairs_head, pairs_tail}
 use Rattle.wc_names.specs.Laws.{IsImportAbi, IsImportIn}
 use Rattle.wc_names.specs.Keys.{key_eq}
-use Rattle.wc_maps.specs.Names.{under_name}
+use Rattle.wc_texts.specs.Names.{under_name}
 use Rattle.wc_names.specs.Views.{ImportView, interface_func, world_func}
 use Rattle.wc_world.specs.FunctionsLowered.{IsLoweredIn, abi_eq, is_lowering_key, lowering_at, lowering_in}
 use Rattle.wc_world.specs.Lowering.{Lowerer, all_entries, called_lowering, entries_from, function_lowerings, interface_entry, interface_lowerings, is_import_of}

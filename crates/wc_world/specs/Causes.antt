@@ -99,9 +99,6 @@ IsFirstFault e main f = IsFirst e main (needed_adapters e main) (λ x. IsFaultOf
 abbrev pub IsReachedMemory : EncoderView → ModuleRecord → WorldFault → Type 0
 IsReachedMemory e main f = IsFirst e main (needed_adapters e main) (λ x. IsMemoryOf e main x f)
 
-abbrev pub IsFirstStop : EncoderView → ModuleRecord → WorldFault → Type 0
-IsFirstStop e main f = IsFirst e main (needed_adapters e main) (λ x. IsStopOf e main x f)
-
 -- the cause of a fault of the adapters: of the first needed one that has one, the main module being valid
 pub record IsAdaptersCause (e : EncoderView) (f : WorldFault) : Type 0 where
   pub main : ModuleRecord

@@ -16,7 +16,7 @@ use Rattle.wc_encoder.specs.EncoderParts.{EncoderView, IsWorldOf, world_exports,
 use Rattle.wc_adapters.specs.Entries.{Entries}
 use Rattle.wc_names.specs.Laws.{IsImportIn}
 use Rattle.wc_names.specs.Keys.{as_type, item_under}
-use Rattle.wc_maps.specs.Names.{under_name}
+use Rattle.wc_texts.specs.Names.{under_name}
 use Rattle.wc_names.specs.Views.{ImportView, PayloadTypeView, PayloadView, async_value, exported_resource_drop, exported_resource_new, exported_resource_rep, exported_task_return, imported_resource_drop, interface_func, typed, world_func}
 use Rattle.wc_validate.specs.Imports.Entries.{Records}
 use Rattle.wc_validate.specs.Imports.Map.{imports_in}

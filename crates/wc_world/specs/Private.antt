@@ -5,3 +5,4 @@ pub mod Refused
 pub mod LoweringContext
 pub mod ImportedItems
 pub mod LiveAdditions
+pub mod Settled

@@ -15,7 +15,7 @@ use Rattle.wc_encoder.specs.EncoderParts.{EncoderView, world_exports}
 use Rattle.wc_adapters.specs.Entries.{Entries}
 use Rattle.wc_names.specs.ExportViews.{ExportView}
 use Rattle.wc_names.specs.Keys.{item_under}
-use Rattle.wc_maps.specs.Names.{first_occurrences}
+use Rattle.wc_texts.specs.Names.{first_occurrences}
 use Rattle.wc_validate.specs.Exports.Map.{ExportRecord, first_name, first_that, is_adapter_realloc, is_memory, memory_of, own_or_general}
 use Rattle.wc_validate.specs.Imports.Map.{required_in}
 use Rattle.wc_validate.specs.Requirements.{functions_of}

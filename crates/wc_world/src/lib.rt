@@ -23,6 +23,7 @@ mod places;
 mod refused;
 mod required;
 mod restricted;
+mod settled;
 mod trimming;
 mod used;
 mod world;

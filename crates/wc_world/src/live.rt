@@ -5,24 +5,26 @@ ghost use Rattle.std.specs.Option.{option_map, option_to_list};
 ghost use Rattle.wc_resolve.specs.Dependencies.{id_of_interface, interface_owning};
 ghost use Rattle.wc_resolve.specs.Live.{AddsListings, IsComplete};
 ghost use Rattle.wc_resolve.specs.Ranges.{IsFunctionIn, IsItemIn, IsTypeIn};
-ghost use Rattle.wc_resolve.specs.Roots.{id_index, item_roots};
+ghost use Rattle.wc_resolve.specs.Roots.{id_index};
 ghost use Rattle.wc_resolve.specs.Views.{function_view, item_view, key_view, world_view};
 ghost use Rattle.wc_resolve.specs.Kinds.{ResolveView};
 ghost use Rattle.wc_encoder.specs.Dependencies.{AreItemsIn};
 ghost use Rattle.wc_adapters.specs.Entries.{entries_of};
 ghost use Rattle.wc_names.specs.Keys.{as_type, item_under};
-ghost use Rattle.wc_maps.specs.Names.{under_name};
+ghost use Rattle.wc_texts.specs.Names.{under_name};
 ghost use Rattle.wc_names.specs.Laws.{IsImportIn};
 ghost use Rattle.wc_names.specs.Payloads.{HasPayload};
 ghost use Rattle.wc_names.specs.Views.{import_view, payload_type_view, payload_view};
 ghost use Rattle.wc_validate.specs.Requirements.{functions_of};
 ghost use Rattle.wc_validate.specs.Validate.{module_record};
-ghost use Rattle.wc_world.specs.Live.{AddsTypeOnOk, AreImportsIn, AreImportsOf, AreListed, AreLive, AreRootsIn, adapter_roots, builtin_roots, by_owner, elsewhere_from, export_roots, exports_roots, import_payload, import_resource, import_roots, imported_types, is_from_elsewhere, is_used, live_types_of, module_roots, named_function_roots, payload_roots, result_roots, roots_under};
+ghost use Rattle.wc_world.specs.Live.{AddsTypeOnOk, AreImportsIn, AreImportsOf, AreListed, AreLive, AreRootsIn, adapter_roots, builtin_roots, by_owner, export_roots, exports_roots, import_payload, import_resource, import_roots, imported_types, is_from_elsewhere, is_used, live_types_of, module_roots, named_function_roots, payload_roots, result_roots, roots_under};
 ghost use Rattle.wc_world.specs.Private.LiveAdditions.{AddsAfterOnOk, HaveListings, imports_roots};
+ghost use Rattle.wc_world.specs.Private.Settled.{AreSettled};
 ghost use Rattle.wc_world.specs.Used.{used_view};
 ghost use Rattle.wc_world.specs.WorldViews.{adapters_view, live_view};
 
 use crate::adapter::WorldAdapter;
+use crate::settled::settle_all;
 use crate::used::UsedInterfaces;
 use std::alloc::{AllocError, Global};
 use wc_encoder::ComponentEncoder;
@@ -47,7 +49,7 @@ pub(crate) struct LiveContext<'a> {
 }
 
 /// The interface that owns a type.
-fn interface_owning(resolve: &Resolve, ty: TypeId) -> Option<InterfaceId>
+pub(crate) fn interface_owning(resolve: &Resolve, ty: TypeId) -> Option<InterfaceId>
     requires { ty.0 < length resolve.now.types }
     ensures { option_map id_of_interface result ≡ interface_owning resolve.now ty.0 }
 {
@@ -387,44 +389,34 @@ fn add_from_elsewhere(
     Ok(())
 }
 
-/// Adds the live types of an exported interface that are from elsewhere. Types that are live already are not visited.
-/// `types` is a list that is used again for each interface: for its memory alone.
-fn add_interface(
-    context: &LiveContext<'_>,
-    id: InterfaceId,
-    item: &WorldItem,
-    types: &mut LiveTypes,
-    live: &mut LiveTypes,
-) -> Result<(), AllocError>
-    requires there { IsItemIn context.now.resolve.now (item_view item.now) }
-    requires complete { IsComplete context.now.resolve.now.types live.old }
-    ensures { let r = context.now.resolve.now in OnOk result (AddsListings r live.old live.new
-        (elsewhere_from r (used_view context.now.used.now) id.0
-        (item_roots r (item_view item.now)))) }
-{
-    let resolve = context.resolve;
-    resolve.well_formedness();
-    types.clear();
-    types.add_world_item_beside(live, resolve, item)?;
-    add_from_elsewhere(resolve, context.used, id, types, live)
-}
-
-/// Adds the types of an export. `types` is a list that is used again.
+/// Adds the types of an export; of an interface its live types that are from elsewhere. Types that are settled are not
+/// visited, and those that are visited are settled then where they can be. `types` is a list that is used again for each
+/// interface: for its memory alone.
 fn add_export(
     context: &LiveContext<'_>,
     item: &WorldItem,
+    settled: &mut LiveTypes,
     types: &mut LiveTypes,
     live: &mut LiveTypes,
 ) -> Result<(), AllocError>
     requires there { IsItemIn context.now.resolve.now (item_view item.now) }
     requires complete { IsComplete context.now.resolve.now.types live.old }
-    ensures { let r = context.now.resolve.now in OnOk result (AddsListings r live.old live.new
+    requires settled { AreSettled context.now.resolve.now live.old settled.old }
+    ensures adds { let r = context.now.resolve.now in OnOk result (AddsListings r live.old live.new
         (export_roots r (used_view context.now.used.now) (item_view item.now))) }
+    ensures settled { OnOk result (AreSettled context.now.resolve.now live.new settled.new) }
 {
+    let resolve = context.resolve;
     match item {
-        WorldItem::Interface { id, .. } => add_interface(context, *id, item, types, live),
-        WorldItem::Function(_) => live.add_world_item(context.resolve, item),
-        WorldItem::TypeItem { .. } => live.add_world_item(context.resolve, item),
+        WorldItem::Interface { id, .. } => {
+            resolve.well_formedness();
+            types.clear();
+            types.add_world_item_beside(settled, resolve, item)?;
+            add_from_elsewhere(resolve, context.used, *id, types, live)?;
+            settle_all(resolve, live, types, settled)
+        }
+        WorldItem::Function(_) => live.add_world_item(resolve, item),
+        WorldItem::TypeItem { .. } => live.add_world_item(resolve, item),
     }
 }
 
@@ -440,9 +432,10 @@ fn add_exports(
     ensures { let r = context.now.resolve.now in OnOk result (AddsListings r live.old live.new
         (exports_roots r (used_view context.now.used.now) (entries_of exports.now))) }
 {
+    let mut settled = LiveTypes::new(alloc);
     let mut types = LiveTypes::new(alloc);
     for (_key, item) in exports.iter() {
-        add_export(context, item, &mut types, live)?;
+        add_export(context, item, &mut settled, &mut types, live)?;
     }
     Ok(())
 }

@@ -6,5 +6,4 @@ pub mod Modules
 pub mod Values
 pub mod BuiltValues
 pub mod Laws
-pub mod Sink
-pub mod Puts
+pub mod Fault

@@ -11,7 +11,8 @@ use Rattle.wc_validate.specs.Explain.{DifferenceView, PlaceView, SubjectView, an
 use Rattle.wc_gc.specs.TrimPlace.{place_text as trim_place_text}
 use Rattle.wc_world.specs.declared.places.ModulePlace.{ModulePlace}
 use Rattle.wc_world.specs.declared.places.ModulePlace.TheVariants as place
-use Rattle.wc_world.specs.Places.{IsWorldExplained}
+use Rattle.wc_world.specs.Places.{IsWorldPlace}
+use Rattle.wc_world.specs.Refused.{HasNoPlace}
 use Rattle.wc_world.specs.declared.fault.WorldFault.{WorldFault}
 use Rattle.wc_resolve.specs.declared.explain.Part.{Part}
 use Rattle.wcplan_command.specs.Nearest.{near_place}
@@ -23,12 +24,12 @@ use Rattle.wcplan_command.specs.declared.fault.ProgramFault.TheVariants.{Resolve
 
 -- a fault of a component's world is about a place, and of what is named there this is the nearest that is there
 pub record IsAbout (e : EncoderView) (f : WorldFault) (x : Explained) : Type 0 where
-  pub place : IsWorldExplained e f (Some x.place)
+  pub place : IsWorldPlace e f x.place
   pub near : option_map string_bytes x.nearest ≡ near_place e f x.place.place
 
 -- what is answered of a fault; nothing only where it has no place
 abbrev pub IsExplanation : EncoderView → WorldFault → Option Explained → Type 0
-IsExplanation e f answer = MatchOption answer (IsWorldExplained e f None) (IsAbout e f)
+IsExplanation e f answer = MatchOption answer (HasNoPlace e f) (IsAbout e f)
 
 -- a line under the text of a fault, after the end of the line before
 abbrev pub detail_line : List ℕ → List ℕ

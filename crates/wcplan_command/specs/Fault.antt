@@ -1,27 +1,32 @@
 -- The fault for the fault of a call inside; and the texts of faults.
 use Rattle.std.specs.Prelude.{ℕ, List, ◌++◌, codes, decimal, string_bytes, Option, Some, None, ⊤}
 use Rattle.std.specs.Option.{option_map}
-use Rattle.wc_program.specs.FaultTexts.{carried_text, dedupe_fault_text, gc_fault_text, memory_text}
 use Rattle.wc_program.specs.Files.{problem_text}
 use Rattle.wc_json.specs.Escape.{escaped}
 use Rattle.wc_json.specs.Fault.{json_fault_text}
+use Rattle.wc_dedupe.specs.Fault.{dedupe_fault_text}
 use Rattle.wc_dedupe.specs.declared.fault.DedupeFault.{DedupeFault}
 use Rattle.wc_dedupe.specs.declared.fault.DedupeFault.TheVariants.{Memory as dedupe_memory}
+use Rattle.wc_encoder.specs.Fault.{encoder_fault_text}
 use Rattle.wc_encoder.specs.declared.fault.EncoderFault.{EncoderFault}
 use Rattle.wc_encoder.specs.declared.fault.EncoderFault.TheVariants.{Memory as encoder_memory}
+use Rattle.wc_gc.specs.Fault.{gc_fault_text}
 use Rattle.wc_gc.specs.declared.fault.GcFault.{GcFault}
 use Rattle.wc_gc.specs.declared.fault.GcFault.TheVariants.{Memory as gc_memory}
 use Rattle.wc_json.specs.declared.fault.JsonFault.{JsonFault}
 use Rattle.wc_json.specs.declared.fault.JsonFault.TheVariants.{Memory as json_memory}
+use Rattle.wc_plan.specs.Fault.{plan_fault_text}
 use Rattle.wc_plan.specs.declared.fault.PlanFault.{PlanFault}
+use Rattle.wc_resolve.specs.Fault.{resolve_fault_text}
 use Rattle.wc_plan.specs.declared.fault.PlanFault.TheVariants.{Memory as plan_memory, Output as plan_output}
 use Rattle.wc_selection.specs.Fault.{quoted, request_fault_text}
 use Rattle.wc_selection.specs.Texts.{text_of}
 use Rattle.wc_selection.specs.declared.fault.RequestFault.{RequestFault}
 use Rattle.wc_selection.specs.declared.fault.RequestFault.TheVariants.{Memory as request_memory}
+use Rattle.wc_texts.specs.FaultTexts.{carried_text, memory_text}
+use Rattle.wc_world.specs.Fault.{world_fault_text}
 use Rattle.wc_world.specs.declared.fault.WorldFault.{WorldFault}
 use Rattle.wc_world.specs.declared.fault.WorldFault.TheVariants.{PageSize}
-use Rattle.wc_record.specs.FaultTexts.{encoder_fault_text, plan_fault_text, resolve_fault_text, world_fault_text}
 use Rattle.wcplan_command.specs.declared.fault.SelectionFault.{SelectionFault}
 use Rattle.wcplan_command.specs.declared.fault.SelectionFault.TheVariants.{Memory as selection_memory, Request, RepeatedAdapter, UnknownAdapter, EmptyDirectory, FileName, MainFile}
 use Rattle.wcplan_command.specs.declared.fault.ProgramFault.{ProgramFault}

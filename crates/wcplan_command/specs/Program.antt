@@ -24,7 +24,7 @@ use Rattle.wc_resolve.specs.Fault.{IsResolveCause}
 use Rattle.wc_resolve.specs.WellFormed.{IsWellFormed as IsResolve}
 use Rattle.wc_resolve.specs.Kinds.{ResolveView}
 use Rattle.wc_resolve.specs.declared.fault.ResolveFault.TheVariants.{Memory as resolve_memory}
-use Rattle.wc_program.specs.FaultTexts.{memory_text}
+use Rattle.wc_texts.specs.FaultTexts.{memory_text}
 use Rattle.wc_program.specs.Files.{Held, Holds, StoreChange, Writes}
 use Rattle.wc_program.specs.Program.{Prints, EndsByArguments, EndsByReason, failure, success, wrong_arguments}
 use Rattle.wc_program.specs.declared.files.ReadProblem.{ReadProblem}

@@ -1,7 +1,8 @@
 //! What a fault of a component's world is about.
 
-ghost use Rattle.std.specs.Prelude.{IfOk, Some};
-ghost use Rattle.wc_world.specs.Places.{IsWorldExplained};
+ghost use Rattle.std.specs.Prelude.{IfOk};
+ghost use Rattle.wc_world.specs.Places.{IsWorldPlace};
+ghost use Rattle.wc_world.specs.Refused.{IsRefusedAt};
 ghost use Rattle.wcplan_command.specs.Details.{IsExplanation};
 ghost use Rattle.wcplan_command.specs.Private.Runs.{IsOfWorld};
 
@@ -9,7 +10,7 @@ use crate::fault::ProgramFault;
 use crate::nearest::near_place;
 use std::alloc::{AllocError, Global};
 use wc_encoder::ComponentEncoder;
-use wc_world::{WorldFault, WorldPlace, explain};
+use wc_world::{RefusedWorld, WorldFault, WorldPlace};
 
 /// What a fault of a component's world is about.
 #[derive(Debug, Drop)]
@@ -21,51 +22,42 @@ pub struct Explained {
     pub nearest: Option<String>,
 }
 
-/// The fault of a command whose component has no world, for the one that `ComponentWorld::new` answered:
-/// with what it is about, or that there was no memory for this.
+/// The fault of a command whose component has no world, for what `ComponentWorld::new_explained` answered: with what it is
+/// about, or that there was no memory for this.
 pub(crate) fn world_fault<'a>(
     alloc: Global,
     encoder: &ComponentEncoder,
-    fault: WorldFault,
+    refused: RefusedWorld,
 ) -> ProgramFault<'a>
-    ensures { IsOfWorld encoder.now fault result }
+    requires { IsRefusedAt encoder.now refused }
+    ensures { IsOfWorld encoder.now refused.fault result }
 {
+    let RefusedWorld { fault, place } = refused;
     if let WorldFault::Memory = fault {
         return ProgramFault::Memory;
     }
-    match explain_fault(alloc, encoder, &fault) {
-        Ok(explained) => ProgramFault::World(fault, Ok(explained)),
+    match place {
+        Ok(Some(place)) => {
+            let explained = with_nearest(alloc, encoder, &fault, place);
+            ProgramFault::World(fault, explained)
+        }
+        Ok(None) => ProgramFault::World(fault, Ok(None)),
         Err(AllocError) => ProgramFault::World(fault, Err(AllocError)),
     }
 }
 
-/// What a fault is about that `ComponentWorld::new` answered for an encoder. `None` where it is about
-/// no import, no export and no part of an adapter (`wc_world::explain`).
+/// A place, with what is there in place of a name that isn't.
 ///
 /// # Errors
 ///
 /// `AllocError`: an allocation failed.
-fn explain_fault(
-    alloc: Global,
-    encoder: &ComponentEncoder,
-    fault: &WorldFault,
-) -> Result<Option<Explained>, AllocError>
-    ensures { IfOk result (IsExplanation encoder.now fault.now) }
-{
-    match explain(alloc, encoder, fault)? {
-        Some(place) => with_nearest(alloc, encoder, fault, place),
-        None => Ok(None),
-    }
-}
-
-/// A place, with what is there in place of a name that isn't.
 fn with_nearest(
     alloc: Global,
     encoder: &ComponentEncoder,
     fault: &WorldFault,
     place: WorldPlace,
 ) -> Result<Option<Explained>, AllocError>
-    requires { IsWorldExplained encoder.now fault.now (Some place) }
+    requires { IsWorldPlace encoder.now fault.now place }
     ensures { IfOk result (IsExplanation encoder.now fault.now) }
 {
     let nearest = near_place(alloc, encoder, fault, &place.place)?;

@@ -3,9 +3,9 @@
 ghost use Rattle.std.specs.Prelude.{◌≡◌, ◌++◌, IfNone, IfOk, IfSome, Some, codes, string_bytes};
 ghost use Rattle.std.specs.Option.{option_map};
 ghost use Rattle.wc_json.specs.Escape.{escaped};
-ghost use Rattle.wc_program.specs.FaultTexts.{carried_text};
 ghost use Rattle.wc_program.specs.Files.{problem_text};
 ghost use Rattle.wc_selection.specs.Texts.{text_of};
+ghost use Rattle.wc_texts.specs.FaultTexts.{carried_text};
 ghost use Rattle.wcplan_command.specs.Details.{fault_lines};
 ghost use Rattle.wcplan_command.specs.Fault.{NeedsText, no_export_text, no_world_text, page_size_text, program_fault_text, repeated_text, selection_fault_text, world_text};
 
@@ -20,11 +20,10 @@ use wc_gc::GcFault;
 use wc_json::{JsonFault, escaped};
 use wc_plan::PlanFault;
 use wc_program::{OUT_OF_MEMORY, ReadProblem, problem_text};
-use wc_record::FaultText;
 use wc_resolve::ResolveFault;
 use wc_selection::RequestFault;
+use wc_texts::{FaultText, PutFailed, text_of};
 use wc_world::WorldFault;
-use wc_write::PutFailed;
 
 /// Why the worlds don't have what the arguments name, or why adapters or their files can't be named so. `run_command`
 /// says which of several causes is named; `Memory` may come in place of any.
@@ -150,8 +149,8 @@ pub enum ProgramFault<'a> {
 
 impl ProgramFault<'_> {
     /// The text of the fault, which the program prints in a line: a path after what could not be done with it, the text of a
-    /// `SelectionFault`, or the name of a fault, `: `, and the text of the one that it carries. `Display` of that writes the
-    /// same, as is tested. Texts from outside in it are escaped (`wc_json::escaped`).
+    /// `SelectionFault`, or the name of a fault, `: `, and the text of the one that it carries, as `Display` of that writes
+    /// it. Texts from outside in it are escaped (`wc_json::escaped`).
     ///
     /// # Errors
     ///
@@ -310,7 +309,7 @@ fn carried_text<F: FaultText>(alloc: Global, name: &str, fault: &F) -> Result<St
     ensures { IfOk result (λ text. string_bytes text
         ≡ carried_text name.now (escaped (F.text fault.now))) }
 {
-    let text = fault.to_text(alloc)?;
+    let text = text_of(alloc, fault)?;
     let text = escaped(alloc, &text)?;
     format!(in alloc; "{name}: {text}")
 }

@@ -215,9 +215,9 @@ fn run_encoder<'a, F: DirectoryStore, O: Screen>(
 {
     // So what modules import can be named.
     worlds_nameable(encoder);
-    match ComponentWorld::new(alloc, encoder, &PlainOptions) {
+    match ComponentWorld::new_explained(alloc, encoder, &PlainOptions) {
         Ok(world) => run_world(alloc, command, &world, files, out),
-        Err(fault) => Err(world_fault(alloc, encoder, fault)),
+        Err(refused) => Err(world_fault(alloc, encoder, refused)),
     }
 }
 

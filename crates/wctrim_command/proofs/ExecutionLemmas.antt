@@ -3,7 +3,7 @@ use Rattle.std.proofs.Common.{◌≡◌, ◌≢◌, ℕ, List, [], ◌∷◌, St
 use Rattle.std.specs.Io.KnownBytes.{Appends}
 use Rattle.wc_dedupe.specs.Renaming.{RenameView}
 use Rattle.wc_gc.specs.LiveItems.{names_of, trim_input_for_names}
-use Rattle.wc_maps.specs.Names.{first_occurrences}
+use Rattle.wc_texts.specs.Names.{first_occurrences}
 use Rattle.wc_gc.specs.Parts.{SettingsView}
 use Rattle.wc_gc.specs.TrimmedText.{IsTrimmed}
 use Rattle.wc_dedupe.specs.Dedupe.{IsDeduped, renames_in}

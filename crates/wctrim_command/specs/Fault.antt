@@ -8,7 +8,10 @@ use Rattle.wc_gc.specs.declared.fault.GcFault.{GcFault}
 use Rattle.wc_gc.specs.declared.fault.GcFault.TheVariants.{Memory as gc_memory}
 use Rattle.wctrim_command.specs.declared.fault.ToolFault.{ToolFault}
 use Rattle.wctrim_command.specs.declared.fault.ToolFault.TheVariants.{Memory, Dedupe, Trim, Read, Output}
-use Rattle.wc_program.specs.FaultTexts.{memory_text, carried_text, read_fault_text, dedupe_fault_text, gc_fault_text}
+use Rattle.wc_dedupe.specs.Fault.{dedupe_fault_text}
+use Rattle.wc_gc.specs.Fault.{gc_fault_text}
+use Rattle.wc_read.specs.Fault.{read_fault_text}
+use Rattle.wc_texts.specs.FaultTexts.{carried_text, memory_text}
 
 abbrev pub of_dedupe : DedupeFault → ToolFault
 of_dedupe dedupe_memory = Memory

@@ -2,7 +2,7 @@
 use Rattle.std.specs.Prelude.{ℕ, List, ◌++◌, codes}
 use Rattle.std.specs.List.{flat_map}
 use Rattle.wc_dedupe.specs.Renaming.{RenameView}
-use Rattle.wc_program.specs.FaultTexts.{colon}
+use Rattle.wc_texts.specs.FaultTexts.{colon}
 
 -- between an import's name and its new one
 abbrev pub arrow : List ℕ

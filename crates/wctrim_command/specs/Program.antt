@@ -1,7 +1,7 @@
 -- The program: what it prints, what becomes of files, and its exit status.
 use Rattle.std.specs.Prelude.{◌≡◌, ◌≢◌, ℕ, ◌⊎◌, List, [], ◌++◌, codes, String, Option, Some, None}
 use Rattle.std.specs.declared.alloc.Global.{Global}
-use Rattle.wc_program.specs.FaultTexts.{memory_text}
+use Rattle.wc_texts.specs.FaultTexts.{memory_text}
 use Rattle.wc_program.specs.Files.{Held, Holds, Writes, KeepsOthers, FileChange}
 use Rattle.wc_program.specs.Program.{success, failure, wrong_arguments, Prints, EndsByArguments, EndsByReason}
 use Rattle.wc_program.specs.Screen.{Printing, nothing, printed, failed}

@@ -8,7 +8,7 @@ ghost use Rattle.wc_read.specs.Modules.{ModuleValue, SpellsModule};
 ghost use Rattle.wc_dedupe.specs.Renaming.{RenameView};
 ghost use Rattle.wc_dedupe.specs.Dedupe.{IsDeduped};
 ghost use Rattle.wc_gc.specs.LiveItems.{names_of, trim_input_for_names};
-ghost use Rattle.wc_maps.specs.Names.{first_occurrences};
+ghost use Rattle.wc_texts.specs.Names.{first_occurrences};
 ghost use Rattle.wctrim_command.specs.Command.{dedupe, scan, command_view, IsExecutable};
 ghost use Rattle.wc_gc.specs.Parts.{settings};
 ghost use Rattle.wc_gc.specs.TrimmedText.{IsTrimmed};

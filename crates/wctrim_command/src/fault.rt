@@ -1,33 +1,30 @@
 //! Why a command could not be executed.
 
-ghost use Rattle.std.specs.Prelude.{◌≡◌};
+ghost use Rattle.std.specs.Prelude.{◌≡◌, Some};
 ghost use Rattle.wctrim_command.specs.declared.fault.ToolFault.TheVariants.{Memory, Output};
+ghost use Rattle.wctrim_command.specs.Fault.{tool_fault_text};
 
 use std::alloc::AllocError;
-use thiserror::Error;
+use std::error::Error as StdError;
+use std::fmt;
 use wc_dedupe::DedupeFault;
 use wc_gc::GcFault;
-use wc_program::{OUT_OF_MEMORY, Printable, put_carried};
+use wc_program::Printable;
 use wc_read::ReadFault;
-use wc_write::{PutFailed, Sink};
+use wc_texts::{FaultText, OUT_OF_MEMORY, Pieces, PutFailed, Sink, put_carried, show};
 
-/// Why a command could not be executed. The text that `Display` writes is that of `Printable`, as is tested.
-#[derive(Debug, Drop, Error)]
+/// Why a command could not be executed.
+#[derive(Debug, Drop)]
 pub enum ToolFault {
     /// An allocation failed.
-    #[error("out of memory")]
     Memory,
     /// The imports of the module could not be renamed. It carries why, never `Memory`.
-    #[error("Dedupe: {0}")]
     Dedupe(DedupeFault),
     /// The adapter could not be trimmed. It carries why, never `Memory`.
-    #[error("Trim: {0}")]
     Trim(GcFault),
     /// The bytes are no module. It carries why, never `Memory`.
-    #[error("Read: {0}")]
     Read(ReadFault),
     /// The lines could not be written.
-    #[error("Output")]
     Output,
 }
 
@@ -86,18 +83,34 @@ impl From<PutFailed> for ToolFault {
     }
 }
 
-impl Printable for ToolFault {
-    ghost use Rattle.wctrim_command.specs.Fault.{tool_fault_text};
-
+impl FaultText for ToolFault {
     ghost text = { tool_fault_text };
 
-    fn put_text<S: Sink>(&self, out: &mut S) -> Result<(), PutFailed> {
+    fn put_pieces<P: Pieces>(&self, out: &mut P) -> Result<(), PutFailed> {
         match self {
-            ToolFault::Memory => out.put(OUT_OF_MEMORY),
-            ToolFault::Dedupe(fault) => put_carried(out, b"Dedupe", fault),
-            ToolFault::Trim(fault) => put_carried(out, b"Trim", fault),
-            ToolFault::Read(fault) => put_carried(out, b"Read", fault),
-            ToolFault::Output => out.put(b"Output"),
+            ToolFault::Memory => out.put_piece(OUT_OF_MEMORY),
+            ToolFault::Dedupe(fault) => put_carried(out, "Dedupe", fault),
+            ToolFault::Trim(fault) => put_carried(out, "Trim", fault),
+            ToolFault::Read(fault) => put_carried(out, "Read", fault),
+            ToolFault::Output => out.put_piece("Output"),
         }
     }
 }
+
+impl Printable for ToolFault {
+    ghost text = { tool_fault_text };
+
+    fn put_text<S: Sink>(&self, out: &mut S) -> Result<(), PutFailed> {
+        self.put_pieces(out)
+    }
+}
+
+impl fmt::Display for ToolFault {
+    ghost output = { λ fault. Some (tool_fault_text fault) };
+
+    fn fmt<W: fmt::Write>(&self, f: &mut fmt::Formatter<W>) -> fmt::Result {
+        show(self, f)
+    }
+}
+
+impl StdError for ToolFault {}

@@ -1,7 +1,7 @@
 //! The lines that print renamed imports.
 
 ghost use Rattle.wc_dedupe.specs.Renames.{rename_view, rename_values};
-ghost use Rattle.wc_write.specs.Puts.{Puts, PutsAny};
+ghost use Rattle.wc_texts.specs.Puts.{Puts, PutsAny};
 ghost use Rattle.wctrim_command.specs.Lines.{line_of, lines_of};
 
 use wc_dedupe::Rename;

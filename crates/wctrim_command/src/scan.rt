@@ -4,7 +4,7 @@ ghost use Rattle.std.specs.Prelude.{◌≡◌, map, flat_map};
 ghost use Rattle.wc_read.specs.Imports.{import_value};
 ghost use Rattle.wc_read.specs.Exports.{export_value};
 ghost use Rattle.wc_read.specs.Modules.{module_value};
-ghost use Rattle.wc_write.specs.Puts.{Puts, PutsAny};
+ghost use Rattle.wc_texts.specs.Puts.{Puts, PutsAny};
 ghost use Rattle.wctrim_command.specs.Scan.{kind_of, import_line, export_line, scan_lines};
 
 use crate::lines::{LINE_FEED, SPACE};

@@ -2,8 +2,9 @@
 use Rattle.std.specs.Prelude.{ℕ, List, ◌++◌, codes, Option, Some, None}
 use Rattle.wc_gc.specs.declared.fault.GcFault.{GcFault}
 use Rattle.wc_gc.specs.declared.fault.GcFault.TheVariants.{Memory as gc_memory}
+use Rattle.wc_gc.specs.Fault.{gc_fault_text}
 use Rattle.wc_json.specs.Escape.{escaped}
-use Rattle.wc_program.specs.FaultTexts.{gc_fault_text, memory_text}
+use Rattle.wc_texts.specs.FaultTexts.{memory_text}
 use Rattle.wcwhy_command.specs.Arguments.{PatternView, pattern_view}
 use Rattle.wcwhy_command.specs.Texts.{word}
 use Rattle.wcwhy_command.specs.declared.fault.WhyFault.{WhyFault}

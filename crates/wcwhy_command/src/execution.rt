@@ -2,7 +2,7 @@
 
 ghost use Rattle.std.specs.Prelude.{◌≡◌, IfErr, IfOk, IsErrOf, OnOk, map, true};
 ghost use Rattle.wc_gc.specs.LiveItems.{names_of};
-ghost use Rattle.wc_maps.specs.Names.{first_occurrences};
+ghost use Rattle.wc_texts.specs.Names.{first_occurrences};
 ghost use Rattle.wc_program.specs.Screen.{Becomes, output_ends};
 ghost use Rattle.wcwhy_command.specs.Arguments.{command_view, text_of};
 ghost use Rattle.wcwhy_command.specs.Program.{IsPrintCause, IsPrintedOf};

@@ -1,8 +1,8 @@
 //! Why the program could not do what its arguments say.
 
 ghost use Rattle.std.specs.Prelude.{◌≡◌, ◌++◌, IfOk, codes, string_bytes};
+ghost use Rattle.wc_gc.specs.Fault.{gc_fault_text};
 ghost use Rattle.wc_json.specs.Escape.{escaped};
-ghost use Rattle.wc_program.specs.FaultTexts.{carried_text, gc_fault_text, missing_text};
 ghost use Rattle.wcwhy_command.specs.Arguments.{pattern_view};
 ghost use Rattle.wcwhy_command.specs.Fault.{unknown_text, why_fault_text};
 
@@ -11,8 +11,7 @@ use crate::texts::word;
 use std::alloc::{AllocError, Global};
 use wc_gc::GcFault;
 use wc_json::escaped;
-use wc_program::read_fault_text;
-use wc_write::PutFailed;
+use wc_texts::PutFailed;
 
 /// Why the program could not do what its arguments say. `run_command` says which of several causes is named; `Memory`
 /// may come in place of any.
@@ -62,42 +61,8 @@ fn path_text(alloc: Global, path: &str) -> Result<String, AllocError>
 fn adapter_text(alloc: Global, fault: &GcFault) -> Result<String, AllocError>
     ensures { IfOk result (λ text. string_bytes text ≡ escaped (gc_fault_text fault.now)) }
 {
-    let text = gc_text(alloc, fault)?;
+    let text = format!(in alloc; "{fault}")?;
     escaped(alloc, &text)
-}
-
-/// The text of a fault of trimming, as all programs print it.
-fn gc_text(alloc: Global, fault: &GcFault) -> Result<String, AllocError>
-    ensures { IfOk result (λ text. string_bytes text ≡ gc_fault_text fault.now) }
-{
-    match fault {
-        GcFault::Memory => String::from_str(alloc, "out of memory"),
-        GcFault::Read(fault) => read_text(alloc, read_fault_text(*fault)),
-        GcFault::MissingExport(name) => missing_text(alloc, name),
-        GcFault::UnsupportedSection => String::from_str(alloc, "UnsupportedSection"),
-        GcFault::LiveBody => String::from_str(alloc, "LiveBody"),
-        GcFault::SeveralNamed => String::from_str(alloc, "SeveralNamed"),
-        GcFault::LiveTable => String::from_str(alloc, "LiveTable"),
-        GcFault::SeveralMemories => String::from_str(alloc, "SeveralMemories"),
-        GcFault::LocalMemory => String::from_str(alloc, "LocalMemory"),
-        GcFault::ReallocType => String::from_str(alloc, "ReallocType"),
-        GcFault::ReallocMemory => String::from_str(alloc, "ReallocMemory"),
-        GcFault::TooLarge => String::from_str(alloc, "TooLarge"),
-    }
-}
-
-/// `Read: ` and the text of a fault of reading.
-fn read_text(alloc: Global, text: &str) -> Result<String, AllocError>
-    ensures { IfOk result (λ t. string_bytes t ≡ carried_text (codes "Read") text.now) }
-{
-    format!(in alloc; "Read: {text}")
-}
-
-/// The text of MissingExport, which names the export.
-fn missing_text(alloc: Global, name: &str) -> Result<String, AllocError>
-    ensures { IfOk result (λ text. string_bytes text ≡ missing_text name.now) }
-{
-    format!(in alloc; "adapter module does not have export `{name}`")
 }
 
 /// The fault for an adapter that has none of the imports that an option asks for.

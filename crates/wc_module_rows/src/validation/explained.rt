@@ -4,7 +4,6 @@ use std::alloc::{AllocError, Global};
 use wc_dedupe::ModuleImportMap;
 use wc_encoder::{Adapter, ComponentEncoder};
 use wc_lines::lines::Lines;
-use wc_lines::values::put_place;
 use wc_maps::Map;
 use wc_read::FuncType;
 use wc_validate::{
@@ -13,22 +12,30 @@ use wc_validate::{
     validate_module_explained,
 };
 
+/// Appends what a fault is about.
+fn put_found(lines: &mut Lines, place: &Result<Option<Place>, AllocError>) {
+    match place {
+        Ok(Some(place)) => writeln!(lines, "{place}"),
+        Ok(None) => lines.push_str("none\n"),
+        Err(_) => lines.lack_memory(),
+    }
+}
+
 /// The lines of a fault, and of what it is about.
 fn fault_lines(
     alloc: Global,
     fault: &ValidateFault,
-    place: Result<Option<Place>, AllocError>,
+    place: &Result<Option<Place>, AllocError>,
 ) -> Lines {
     let mut lines = Lines::new(alloc);
     writeln!(lines, "fault {fault}");
-    put_place(&mut lines, place);
+    put_found(&mut lines, place);
     lines
 }
 
 /// The lines of a module that is refused.
-fn refused_lines(alloc: Global, refused: RefusedModule) -> Lines {
-    let RefusedModule { fault, place } = refused;
-    fault_lines(alloc, &fault, place)
+fn refused_lines(alloc: Global, refused: &RefusedModule) -> Lines {
+    fault_lines(alloc, &refused.fault, &refused.place)
 }
 
 /// Appends lines, unless they are as those that another call answered.
@@ -56,22 +63,26 @@ impl MainModule<'_> {
     /// The lines of this fault, and of the place that `explain_module` answers of it.
     fn explained(&self, alloc: Global, fault: &ValidateFault) -> Lines {
         let place = explain_module(alloc, self.encoder, self.bytes, self.renames, fault);
-        fault_lines(alloc, fault, place)
+        fault_lines(alloc, fault, &place)
     }
+}
+
+/// Appends why a module is refused as an encoder's main one, and what that is about, as two calls answer it.
+fn put_main(alloc: Global, checked: &MainModule<'_>, refused: &RefusedModule, out: &mut Lines) {
+    let explained = checked.explained(alloc, &refused.fault);
+    let lines = refused_lines(alloc, refused);
+    out.push_lines(&lines);
+    put_unlike(out, &explained, &lines);
 }
 
 /// Why a module is refused as an encoder's main one, and what that is about, as two calls answer it; once, where they agree.
 pub(crate) fn explain_main(alloc: Global, checked: &MainModule<'_>, out: &mut Lines) {
     let encoder = checked.encoder;
     encoder.well_formedness();
-    match validate_module_explained(alloc, encoder, checked.bytes, checked.renames) {
+    let answer = validate_module_explained(alloc, encoder, checked.bytes, checked.renames);
+    match &answer {
         Ok(_) => out.push_str("ok\n"),
-        Err(refused) => {
-            let explained = checked.explained(alloc, &refused.fault);
-            let lines = refused_lines(alloc, refused);
-            out.push_lines(&lines);
-            put_unlike(out, &explained, &lines);
-        }
+        Err(refused) => put_main(alloc, checked, refused, out),
     }
 }
 
@@ -152,30 +163,40 @@ impl AdapterModule<'_> {
             self.adapter.library_info.as_ref(),
             fault,
         );
-        fault_lines(alloc, fault, place)
+        fault_lines(alloc, fault, &place)
     }
 }
 
 /// Appends what a module is refused for among interfaces, unless that is as another call answered it.
 fn put_among(alloc: Global, checked: &AdapterModule<'_>, others: &Lines, out: &mut Lines) {
-    match checked.explained_among(alloc) {
+    let answer = checked.explained_among(alloc);
+    match &answer {
         None => out.lack_memory(),
         Some(Ok(_)) => out.push_str("ok\n"),
         Some(Err(refused)) => put_unlike(out, &refused_lines(alloc, refused), others),
     }
 }
 
+/// Appends why a module is refused as one of an encoder's adapters, and what that is about, as three calls answer it.
+fn put_adapter(
+    alloc: Global,
+    checked: &AdapterModule<'_>,
+    refused: &RefusedModule,
+    out: &mut Lines,
+) {
+    let explained = checked.explained(alloc, &refused.fault);
+    let lines = refused_lines(alloc, refused);
+    out.push_lines(&lines);
+    put_unlike(out, &explained, &lines);
+    put_among(alloc, checked, &lines, out);
+}
+
 /// Why a module is refused as one of an encoder's adapters, and what that is about, as three calls answer it; once, where
 /// they agree.
 pub(crate) fn explain_adapter(alloc: Global, checked: &AdapterModule<'_>, out: &mut Lines) {
-    match checked.validated_explained(alloc) {
+    let answer = checked.validated_explained(alloc);
+    match &answer {
         Ok(_) => out.push_str("ok\n"),
-        Err(refused) => {
-            let explained = checked.explained(alloc, &refused.fault);
-            let lines = refused_lines(alloc, refused);
-            out.push_lines(&lines);
-            put_unlike(out, &explained, &lines);
-            put_among(alloc, checked, &lines, out);
-        }
+        Err(refused) => put_adapter(alloc, checked, refused, out),
     }
 }

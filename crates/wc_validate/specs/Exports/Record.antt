@@ -84,12 +84,9 @@ IsExportRecorded e keys x old new = (o : Option ExportView) × IsExportEntry e k
 abbrev pub IsRecordedBy : ExportContext → CoreExport → ExportRecord → ExportRecord → Type 0
 IsRecordedBy c x old new = IsExportRecorded (name_scope_of c.names) c.standard.keys x old new
 
--- all exports were recorded by a context, or why they were not all
+-- all exports were recorded by a context
 abbrev pub AreRecordedBy : ExportContext → List CoreExport → ExportRecord → Type 0
 AreRecordedBy c xs recorded = AreExports (name_scope_of c.names) c.standard.keys xs recorded
-
-abbrev pub AreRefusedBy : ExportContext → List CoreExport → ValidateFault → Type 0
-AreRefusedBy c xs f = IsExportsFault (name_scope_of c.names) c.standard.keys xs f
 
 -- the items of exports are those of the module
 abbrev pub AreExportsIn : Module → List Export → Type 0

@@ -11,7 +11,7 @@ ghost use Rattle.wc_validate.specs.NameScope.{HasItsWorld, name_scope_of};
 use crate::externs::Extern;
 use crate::name_fault::NameFault;
 use crate::name_scope::Names;
-use crate::prefixes::{STANDARD_MARKER, after};
+use crate::prefixes::STANDARD_MARKER;
 use crate::signatures::{
     checked, function_mismatch, has_function_type, has_post_return_type, post_return_mismatch,
 };
@@ -19,6 +19,7 @@ use std::alloc::{AllocError, Global};
 use wc_names::{Export, ExportNames, Legacy, NameMangling, Standard};
 use wc_read::{FuncType, MemoryType, ValType};
 use wc_resolve::{AbiVariant, Function, InterfaceId, WorldKey};
+use wc_texts::after;
 
 /// What an export is named for: a key, an interface if it is of one, and a function.
 type Target<'a> = (&'a WorldKey, Option<InterfaceId>, &'a Function);

@@ -13,11 +13,11 @@ use crate::imports::intrinsics::{exported_intrinsic, imported_intrinsic, lowered
 use crate::imports::items::ImportedFunction;
 use crate::name_fault::NameFault;
 use crate::name_scope::{Lookup, Names};
-use crate::prefixes::after;
 use std::alloc::{AllocError, Global};
 use wc_maps::Map;
 use wc_names::{Import, InterfaceNames, NameMangling, PayloadLookupContext};
 use wc_resolve::{InterfaceId, Resolve, WorldItem, WorldKey};
+use wc_texts::after;
 
 /// What an interface is looked up among: what a world imports, or what it exports, with an index of the interfaces, if
 /// there is one.

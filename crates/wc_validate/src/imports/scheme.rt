@@ -13,9 +13,10 @@ use crate::imports::items::ImportedFunction;
 use crate::imports::root::root_import;
 use crate::name_fault::NameFault;
 use crate::name_scope::{Interfaces, Lookup, Names};
-use crate::prefixes::{STANDARD_MARKER, after};
+use crate::prefixes::STANDARD_MARKER;
 use std::alloc::Global;
 use wc_names::{Import, Legacy, NameMangling, PayloadLookupContext, Standard};
+use wc_texts::after;
 
 /// The built-in that a name is of from the root of exports.
 fn export_root<N: NameMangling>(

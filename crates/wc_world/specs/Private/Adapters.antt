@@ -1,5 +1,5 @@
 -- An adapter or a library as an encoder has it, and the main module for which it is trimmed.
-use Rattle.std.specs.Prelude.{◌≡◌, ◌⊎◌, ℕ, List, Option, true}
+use Rattle.std.specs.Prelude.{◌≡◌, ℕ, List, Option, true}
 use Rattle.std.specs.Borrow.{Bor}
 use Rattle.wc_read.specs.Types.{FuncTypeValue}
 use Rattle.wc_adapters.specs.Adapters.{adapter_view}
@@ -7,13 +7,10 @@ use Rattle.wc_adapters.specs.declared.adapters.LibraryInfo.{LibraryInfo}
 use Rattle.wc_validate.specs.Imports.Map.{required_in}
 use Rattle.wc_validate.specs.Validate.{IsRecordOf, ModuleRecord, ValidationInput, adapter_input_of, module_record}
 use Rattle.wc_world.specs.Trimming.{NamedAdapter, is_adapter_needed, validation_input_of}
-use Rattle.wc_world.specs.Causes.{IsStopOf}
 use Rattle.wc_world.specs.Restricted.{IsTrimFor}
 use Rattle.wc_world.specs.Views.{WorldAdapterView}
 use Rattle.wc_world.specs.World.{IsAdapterOf, IsTrimmedOrLibrary, settings_of, adapter_trim_input, IsTrimmedAdapter}
 use Rattle.wc_world.specs.declared.adapters.AdapterInput.{AdapterInput}
-use Rattle.wc_world.specs.declared.fault.WorldFault.{WorldFault}
-use Rattle.wc_world.specs.declared.fault.WorldFault.TheVariants.{Memory}
 use Rattle.wc_world.specs.WorldViews.{required_view}
 
 abbrev pub named_adapter : AdapterInput → NamedAdapter
@@ -56,7 +53,3 @@ IsAdapterOfInput g a = IsAdapterOf g.encoder.now (main_of g) (named_adapter g) (
 
 abbrev pub IsInputTrimmedOrLibrary : AdapterInput → WorldAdapterView → Type 0
 IsInputTrimmedOrLibrary g a = IsTrimmedOrLibrary g.encoder.now (main_of g) (named_adapter g) a (named_adapter g).1.library_info
-
--- why the adapter is not in the world of a component; or an allocation failed
-abbrev pub IsInputFault : AdapterInput → WorldFault → Type 0
-IsInputFault g f = (f ≡ Memory) ⊎ IsStopOf g.encoder.now (main_of g) (named_adapter g) f

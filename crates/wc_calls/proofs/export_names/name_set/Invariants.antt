@@ -1,6 +1,6 @@
 use Rattle.std.proofs.Common.{◌≡◌, take}
 use Rattle.wc_gc.specs.LiveItems.{names_of}
-use Rattle.wc_maps.specs.Names.{first_occurrences}
+use Rattle.wc_texts.specs.Names.{first_occurrences}
 use Rattle.wc_calls.specs.ExportNames.{texts}
 use Rattle.wc_calls.proofs.export_names.name_set.Given as goal
 

@@ -13,7 +13,7 @@ returns c =
     c.put-answer.ensures.done c.put-answer.ensures.too_small c.put-answer.ensures.unchanged c.put-answer.ensures.statuses in
     record {
       status = refl;
-      number = c.message_fault_number.ensures;
+      number = c.number.ensures;
       size = c.put-answer.ensures.length ∙ ap (λ t. length (t ++ place)) is;
       cut = ap length c.requires;
       no_module = refl;

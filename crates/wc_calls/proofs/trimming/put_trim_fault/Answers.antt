@@ -8,7 +8,7 @@ returns c =
     c.put-answer.ensures.done c.put-answer.ensures.too_small c.put-answer.ensures.unchanged c.put-answer.ensures.statuses in
     record {
       status = refl;
-      number = c.gc_fault_number.ensures.number;
+      number = c.number.ensures.number;
       position = c.missing_position.ensures;
       size = c.put-answer.ensures.length;
       no_module = refl;

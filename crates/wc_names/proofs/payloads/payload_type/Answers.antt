@@ -1,6 +1,7 @@
 use Rattle.std.proofs.Common.{sym}
-use Rattle.wc_resolve.specs.Views.{function_view, world_view}
+use Rattle.wc_resolve.specs.Views.{world_view}
 use Rattle.wc_names.specs.Contexts.{context_scope}
+use Rattle.wc_names.specs.Private.Places.{named_view}
 use Rattle.wc_names.proofs.PayloadLemmas.{no_number, not_listed}
 use Rattle.wc_names.proofs.KeyLemmas.{function_in_range}
 use Rattle.wc_names.proofs.TextLemmas.{texts_differ}
@@ -12,15 +13,15 @@ returns-in_default c =
     (context_scope c.args.context.now) c.args.name.now.value c.args.name.now.which.now c.args.name.now.function.now
     (texts_differ _ _ c.if-eq.ensures) c.in_default.ensures
 
-pub nth_future_or_stream-requires : goal.nth_future_or_stream-requires
-nth_future_or_stream-requires c =
+pub nth_of-requires-clause-function : goal.nth_of-requires-clause-function
+nth_of-requires-clause-function c =
     function_in_range c.args.context.now.resolve.now (world_view c.args.context.now.world.now) c.args.context.now.imported
-    (context_scope c.args.context.now).interface c.args.name.now.function.now (function_view c.in-Some-2.function.now)
-    c.well_formedness.ensures.in_range c.requires.world (sym (rw c.in-Some-2.is at c.in_ok-function.ensures))
+    (context_scope c.args.context.now).interface c.args.name.now.function.now (named_view c.in-Some-2.named)
+    c.well_formedness.ensures.in_range c.requires.world (sym (rw c.in-Some-2.is at c.in_ok-named.ensures.function))
 
 pub returns-in-None : goal.returns-in-None
 returns-in-None c =
     not_listed c.args.context.now.resolve.now (world_view c.args.context.now.world.now) c.args.context.now.imported
     (context_scope c.args.context.now) c.args.name.now.value c.args.name.now.which.now c.args.name.now.function.now c.in-Some.index
-    (function_view c.in-Some-2.function.now) (texts_differ _ _ c.if-eq.ensures) c.in-Some.ensures
-    (rw c.in-Some-2.is at c.in_ok-function.ensures) c.in-None.ensures
+    (named_view c.in-Some-2.named) (texts_differ _ _ c.if-eq.ensures) c.in-Some.ensures
+    (rw c.in-Some-2.is at c.in_ok-named.ensures.function) c.in-None.ensures

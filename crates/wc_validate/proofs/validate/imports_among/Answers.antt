@@ -9,7 +9,6 @@ use Rattle.wc_validate.specs.Private.ValidationInputs.{validation_input_of}
 use Rattle.wc_validate.specs.Refused.{IsMemoryRefusal, IsRefusedAt}
 use Rattle.wc_validate.specs.Validate.{IsCauseOfImports, library_of}
 use Rattle.wc_validate.proofs.ExplainLemmas.{import_refused}
-use Rattle.wc_validate.proofs.ImportRecordLemmas.{stop_is_refusal}
 use Rattle.wc_validate.proofs.RefusedLemmas.{failed_on, memory_at}
 use Rattle.wc_validate.proofs.ValidateLemmas.{cause_is, memory_of_imports, record_is, recorded_memory}
 use Rattle.wc_validate.proofs.validate.imports_among.Goals as goal
@@ -33,9 +32,8 @@ returns-clause-fault c =
     let library = library_of c.args.validation_input.library in
     subst (IsCauseOfImports (validation_input_of c.args.validation_input) (module_value c.args.module.now)) (sym c.import_refusal.ensures.fault)
     (cause_is c.args.validation_input.encoder.now c.in_ok-context.context _ library c.args.module.now.types.items _ c.args.module.now.imports.items
-    c.in_ok-context.ensures.name_scope c.in_ok-context.ensures.renames c.in_ok-context.ensures.types c.deref.ensures.value _
-    (stop_is_refusal (import_scope c.in_ok-context.context library) (import_values c.deref.result.now) c.in-Err.refused.index c.in-Err.refused.fault
-    (c.in-Err.ensures.refused library c.in_ok-context.ensures.arguments)))
+    c.in_ok-context.ensures.name_scope c.in_ok-context.ensures.renames c.in_ok-context.ensures.types c.deref.ensures.value
+    c.in-Err.refused.index c.in-Err.refused.fault (c.in-Err.ensures.refused library c.in_ok-context.ensures.arguments))
 
 pub returns-clause-place : goal.returns-clause-place
 returns-clause-place c =

@@ -17,7 +17,7 @@ use Rattle.wc_validate.specs.declared.imports.record.ImportContext.{ImportContex
 use Rattle.wc_validate.specs.declared.imports.recorder.Recorder.{Recorder}
 use Rattle.wc_validate.specs.Private.Imports.Arguments.{HasArgumentsOf}
 use Rattle.wc_validate.specs.Imports.Entries.{Entry}
-use Rattle.wc_validate.specs.Imports.Record.{ImportScope, IsCoreImport, IsEntry, AreEntries, IsFaultOfImport, IsImportFault}
+use Rattle.wc_validate.specs.Imports.Record.{ImportScope, IsCoreImport, IsEntry, AreEntries, IsFaultOfImport}
 use Rattle.wc_validate.specs.Private.Imports.Recorder.{IsRecordedAfter, IsRecorderOf}
 use Rattle.wc_validate.specs.Imports.Classify.{IsClassified}
 use Rattle.wc_validate.specs.NameScope.{name_scope_of}
@@ -51,11 +51,6 @@ IsImportRefusal s before i f = IsFaultOfImport s before i f
 -- all imports are recorded
 abbrev pub AreRecorded : ImportScope → List ImportValue → Recorder → Type 0
 AreRecorded s is r = (xs : List Entry) × AreEntries s [] is xs × IsRecorderOf r xs
-
--- why the imports of a module are not recorded
-abbrev pub IsImportsRefusal : ImportScope → List ImportValue → ValidateFault → Type 0
-IsImportsRefusal s is Memory = Unit {0}
-IsImportsRefusal s is f = IsImportFault s [] is f
 
 -- the module is this library, if it is one
 abbrev pub HasLibrary : ImportContext → Option LibraryView → Type 0

@@ -3,7 +3,6 @@ use Rattle.std.specs.Prelude.{ℕ, List, Bool, Option}
 use Rattle.wc_resolve.specs.Views.{FunctionView, WorldView, world_view, function_view}
 use Rattle.wc_resolve.specs.Kinds.{ResolveView}
 use Rattle.wc_names.specs.Contexts.{context_scope}
-use Rattle.wc_names.specs.Imports.{NameScope}
 use Rattle.wc_names.specs.Keys.{Scope, function_named, resource_named, type_named}
 use Rattle.wc_names.specs.declared.payloads.PayloadLookupContext.{PayloadLookupContext}
 use Rattle.std.specs.Borrow.{Bor}
@@ -21,10 +20,6 @@ pub record LookupScope : Type 0 where
 -- the lookup scope of a context
 abbrev pub lookup_scope : PayloadLookupContext → LookupScope
 lookup_scope c = record { resolve = c.resolve.now; world = world_view c.world.now; imported = c.imported; scope = context_scope c }
-
--- the lookup scope of the imports or exports of the world that names are looked up in
-abbrev pub lookup_scope_in : NameScope → Bool → Scope → LookupScope
-lookup_scope_in e imported scope = record { resolve = e.resolve; world = e.world; imported = imported; scope = scope }
 
 -- what is of a name
 abbrev pub function_in : LookupScope → List ℕ → Option FunctionView

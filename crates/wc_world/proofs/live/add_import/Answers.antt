@@ -4,7 +4,7 @@ use Rattle.wc_resolve.specs.Live.{AddsListings}
 use Rattle.wc_resolve.specs.Ranges.{IsFunctionIn}
 use Rattle.wc_resolve.specs.Roots.{function_roots}
 use Rattle.wc_resolve.specs.Views.{world_view}
-use Rattle.wc_maps.specs.Names.{under_name}
+use Rattle.wc_texts.specs.Names.{under_name}
 use Rattle.wc_names.specs.Views.{import_view}
 use Rattle.wc_validate.specs.Requirements.{functions_of}
 use Rattle.wc_world.specs.Live.{import_roots}

@@ -1,5 +1,5 @@
 use Rattle.std.proofs.Common.{◌∙◌, inr, refl}
-use Rattle.wc_program.specs.FaultTexts.{memory_text}
+use Rattle.wc_texts.specs.FaultTexts.{memory_text}
 use Rattle.wc_program.specs.Screen.{Becomes}
 use Rattle.wcplan_command.proofs.RunLemmas.{reported_with}
 use Rattle.wcplan_command.proofs.program.report_made.Goals as goal

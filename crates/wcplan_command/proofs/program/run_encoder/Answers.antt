@@ -20,6 +20,6 @@ returns-in-Err-clause-fault g c =
     let directories = g.F.DirectoryStore in
     let files = store_change store.held directories.makes store.read_fails directories.make_fails store.write_fails c.args.files.now c.args.files.now in
     let out = Becomes g.O.Screen.ends c.args.out.now c.args.out.now in
-    let cause = world_cause command files.before files.IsFailedRead c.args.encoder.now c.in-Err.fault c.world_fault.result c.requires c.in-Err.ensures.fault
+    let cause = world_cause command files.before files.IsFailedRead c.args.encoder.now c.in-Err.refused.fault c.world_fault.result c.requires c.in-Err.ensures.fault
     c.world_fault.ensures in
     quiet command files out c.world_fault.result refl refl cause

@@ -1,6 +1,6 @@
 use Rattle.std.proofs.Common.{◌∙◌, ◌∷◌, ◌++◌, [], ap, sym, map, take, string_bytes, rules}
 use Rattle.std.proofs.lemmas.List.{take_more, map-append}
-use Rattle.wc_maps.specs.Names.{first_occurrences}
+use Rattle.wc_texts.specs.Names.{first_occurrences}
 use Rattle.wc_gc.proofs.NameSetLemmas.{set_more}
 use Rattle.wctrim_command.proofs.execution.required_exports.Goals as goal
 

@@ -1,5 +1,5 @@
 use Rattle.std.proofs.Common.{inr, refl}
-use Rattle.wc_program.specs.FaultTexts.{memory_text}
+use Rattle.wc_texts.specs.FaultTexts.{memory_text}
 use Rattle.wcwhy_command.proofs.program.report.Goals as goal
 
 pub returns-in-Err : goal.returns-in-Err

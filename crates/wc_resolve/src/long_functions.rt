@@ -1,0 +1,355 @@
+//! Functions by their places, and what is kept of those that have more than a few parameters: which types their futures
+//! and streams are of, and how many there are up to each.
+
+ghost use Rattle.std.specs.Prelude.{◌≡◌, ◌<◌, ◌^◌, All, IfOk, IfSome, OnOk, Some, length, map, slice_get};
+ghost use Rattle.std.specs.Option.{option_and_then, option_map};
+ghost use Rattle.wc_resolve.specs.Futures.{AreFuturesEntries, entry_view, function_futures};
+ghost use Rattle.wc_resolve.specs.Kinds.{ResolveView};
+ghost use Rattle.wc_resolve.specs.LongFunctions.{IsLongFunction, function_at_place, function_of_interface, function_of_items};
+ghost use Rattle.wc_resolve.specs.Ranges.{AreIdsInRange, IsFunctionIn};
+ghost use Rattle.wc_resolve.specs.ResolveParts.{parts_view};
+ghost use Rattle.wc_resolve.specs.Roots.{id_index};
+ghost use Rattle.wc_resolve.specs.Views.{function_entry, function_view, world_entry};
+
+use crate::futures::{FuturesEntry, count_before, ends_for, ends_passed, has_any, nth, parts_for};
+use crate::roots::push_passed;
+use crate::{
+    Function, FunctionPlace, InterfaceId, Parts, Resolve, TypeId, WorldId, WorldItem, WorldKey,
+};
+use std::alloc::{AllocError, Global};
+use wc_maps::Map;
+
+/// How many parameters a function has at most of which nothing is kept: they are walked.
+const FEW_PARAMETERS: usize = 16;
+
+/// What is kept of the futures and streams of a function.
+#[derive(Drop)]
+pub(crate) struct LongFunction {
+    /// Where the function is.
+    pub(crate) place: FunctionPlace,
+    /// The types whose futures and streams these are, one type's after another's; each has some.
+    pub(crate) parts: Vec<TypeId>,
+    /// How many there are up to each of `parts` and with it, at most `u64::MAX`.
+    pub(crate) ends: Vec<u64>,
+}
+
+/// The function of an interface at an index.
+fn function_of_interface(functions: &Map<String, Function>, index: usize) -> Option<&Function>
+    ensures { option_map (λ f. function_view f.now) result ≡
+        function_of_interface (map function_entry functions.now.entries) index }
+{
+    match functions.get_index(index) {
+        Some((_name, function)) => Some(function),
+        None => None,
+    }
+}
+
+/// The function that the item at an index is, if it is one.
+fn function_of_items(items: &Map<WorldKey, WorldItem>, index: usize) -> Option<&Function>
+    ensures { option_map (λ f. function_view f.now) result ≡
+        function_of_items (map world_entry items.now.entries) index }
+{
+    match items.get_index(index) {
+        Some((_key, item)) => match item {
+            WorldItem::Function(function) => Some(function),
+            WorldItem::Interface { .. } | WorldItem::TypeItem { .. } => None,
+        },
+        None => None,
+    }
+}
+
+/// The function at a place, if there is one.
+pub(crate) fn function_of(parts: &Parts, place: FunctionPlace) -> Option<&Function>
+    ensures { option_map (λ f. function_view f.now) result ≡
+        function_at_place (parts_view parts.now) place }
+{
+    match place {
+        FunctionPlace::Interface(id, index) => match parts.interfaces.get(id.0 as usize) {
+            Some(interface) => function_of_interface(&interface.functions, index),
+            None => None,
+        },
+        FunctionPlace::Import(id, index) => match parts.worlds.get(id.0 as usize) {
+            Some(world) => function_of_items(&world.imports, index),
+            None => None,
+        },
+        FunctionPlace::Export(id, index) => match parts.worlds.get(id.0 as usize) {
+            Some(world) => function_of_items(&world.exports, index),
+            None => None,
+        },
+    }
+}
+
+/// Appends the place of a function, if it has more than a few parameters.
+fn push_long_place(
+    places: &mut Vec<FunctionPlace>,
+    place: FunctionPlace,
+    function: &Function,
+) -> Result<(), AllocError> {
+    if function.params.len() > FEW_PARAMETERS {
+        places.push(place)?;
+    }
+    Ok(())
+}
+
+/// Appends the places of an interface's functions that have more than a few parameters.
+fn push_interface_places(
+    places: &mut Vec<FunctionPlace>,
+    id: InterfaceId,
+    functions: &Map<String, Function>,
+) -> Result<(), AllocError> {
+    for index in 0..functions.len() {
+        if let Some(function) = function_of_interface(functions, index) {
+            push_long_place(places, FunctionPlace::Interface(id, index), function)?;
+        }
+    }
+    Ok(())
+}
+
+/// The place of an item that a world imports or exports.
+fn item_place(id: WorldId, imported: bool, index: usize) -> FunctionPlace {
+    if imported {
+        FunctionPlace::Import(id, index)
+    } else {
+        FunctionPlace::Export(id, index)
+    }
+}
+
+/// Appends the places of the functions among a world's items that have more than a few parameters.
+fn push_item_places(
+    places: &mut Vec<FunctionPlace>,
+    id: WorldId,
+    imported: bool,
+    items: &Map<WorldKey, WorldItem>,
+) -> Result<(), AllocError> {
+    for index in 0..items.len() {
+        if let Some(function) = function_of_items(items, index) {
+            push_long_place(places, item_place(id, imported, index), function)?;
+        }
+    }
+    Ok(())
+}
+
+/// Appends the places of all interfaces' functions that have more than a few parameters, in order.
+fn push_places_of_interfaces(
+    places: &mut Vec<FunctionPlace>,
+    parts: &Parts,
+) -> Result<(), AllocError> {
+    let mut next = 0u32;
+    for interface in &parts.interfaces {
+        push_interface_places(places, InterfaceId(next), &interface.functions)?;
+        next = next.saturating_add(1);
+    }
+    Ok(())
+}
+
+/// Appends the places of the functions that worlds import or export, of those that have more than a few parameters, in
+/// order.
+fn push_places_of_worlds(
+    places: &mut Vec<FunctionPlace>,
+    parts: &Parts,
+    imported: bool,
+) -> Result<(), AllocError> {
+    let mut next = 0u32;
+    for world in &parts.worlds {
+        let items = if imported {
+            &world.imports
+        } else {
+            &world.exports
+        };
+        push_item_places(places, WorldId(next), imported, items)?;
+        next = next.saturating_add(1);
+    }
+    Ok(())
+}
+
+/// The places of the functions that have more than a few parameters, in order.
+fn long_places(alloc: Global, parts: &Parts) -> Result<Vec<FunctionPlace>, AllocError> {
+    let mut places = Vec::new(alloc);
+    push_places_of_interfaces(&mut places, parts)?;
+    push_places_of_worlds(&mut places, parts, true)?;
+    push_places_of_worlds(&mut places, parts, false)?;
+    Ok(places)
+}
+
+/// What is kept of the function at a place.
+fn long_function(
+    alloc: Global,
+    entries: &[FuturesEntry],
+    place: FunctionPlace,
+    function: &Function,
+) -> Result<LongFunction, AllocError>
+    ensures { IfOk result (λ e. (r : ResolveView) →
+        AreFuturesEntries r.types (map entry_view entries.now) →
+        IsFunctionIn (length r.types) (function_view function.now) →
+        function_at_place r place ≡ Some (function_view function.now) → IsLongFunction r e) }
+{
+    let mut roots = Vec::new(alloc);
+    push_passed(&mut roots, function)?;
+    let parts = parts_for(alloc, entries, &roots)?;
+    let ends = ends_for(alloc, entries, &roots)?;
+    Ok(LongFunction { place, parts, ends })
+}
+
+/// Appends what is kept of the function at a place, if there is one.
+fn push_function(
+    alloc: Global,
+    parts: &Parts,
+    entries: &[FuturesEntry],
+    place: FunctionPlace,
+    kept: &mut Vec<LongFunction>,
+) -> Result<(), AllocError>
+    requires ranges { AreIdsInRange (parts_view parts.now) }
+    requires entries { AreFuturesEntries (parts_view parts.now).types (map entry_view entries.now) }
+    requires kept { All (IsLongFunction (parts_view parts.now)) kept.old.items }
+    ensures { OnOk result (All (IsLongFunction (parts_view parts.now)) kept.new.items) }
+{
+    let Some(function) = function_of(parts, place) else {
+        return Ok(());
+    };
+    let entry = long_function(alloc, entries, place, function)?;
+    kept.push(entry)?;
+    Ok(())
+}
+
+/// What is kept of the functions at these places.
+fn functions_at(
+    alloc: Global,
+    parts: &Parts,
+    entries: &[FuturesEntry],
+    places: &[FunctionPlace],
+) -> Result<Vec<LongFunction>, AllocError>
+    requires ranges { AreIdsInRange (parts_view parts.now) }
+    requires entries { AreFuturesEntries (parts_view parts.now).types (map entry_view entries.now) }
+    ensures { IfOk result (λ v. All (IsLongFunction (parts_view parts.now)) v.items) }
+{
+    let mut kept = Vec::new(alloc);
+    for place in places {
+        push_function(alloc, parts, entries, *place, &mut kept)?;
+    }
+    Ok(kept)
+}
+
+/// What is kept of the functions that have more than a few parameters, in the order of their places.
+pub(crate) fn long_functions(
+    alloc: Global,
+    parts: &Parts,
+    entries: &[FuturesEntry],
+) -> Result<Vec<LongFunction>, AllocError>
+    requires ranges { AreIdsInRange (parts_view parts.now) }
+    requires entries { AreFuturesEntries (parts_view parts.now).types (map entry_view entries.now) }
+    ensures { IfOk result (λ v. All (IsLongFunction (parts_view parts.now)) v.items) }
+{
+    if !has_any(entries) {
+        return Ok(Vec::new(alloc));
+    }
+    let places = long_places(alloc, parts)?;
+    functions_at(alloc, parts, entries, &places)
+}
+
+/// What the order of places goes by: what has the function, of which id, and at which index.
+fn rank(place: FunctionPlace) -> (u8, u32, usize) {
+    match place {
+        FunctionPlace::Interface(id, index) => (0, id.0, index),
+        FunctionPlace::Import(id, index) => (1, id.0, index),
+        FunctionPlace::Export(id, index) => (2, id.0, index),
+    }
+}
+
+/// Whether a place is before another one.
+fn is_before(place: FunctionPlace, other: FunctionPlace) -> bool {
+    let (kind, id, index) = rank(place);
+    let (other_kind, other_id, other_index) = rank(other);
+    if kind != other_kind {
+        return kind < other_kind;
+    }
+    if id != other_id {
+        return id < other_id;
+    }
+    index < other_index
+}
+
+/// How many functions are before a place, found by halving.
+fn functions_before(kept: &[LongFunction], place: FunctionPlace) -> usize {
+    let mut low = 0;
+    let mut high = kept.len();
+    while low < high {
+        let middle = low + (high - low) / 2;
+        if is_before(kept[middle].place, place) {
+            low = middle + 1;
+        } else {
+            high = middle;
+        }
+    }
+    low
+}
+
+/// What is kept of a function, if this is at a place.
+fn if_at(kept: &LongFunction, place: FunctionPlace) -> Option<&LongFunction>
+    ensures kept { (r : ResolveView) → IsLongFunction r kept.now →
+        IfSome result (λ e. IsLongFunction r e.now) }
+    ensures place { IfSome result (λ e. e.now.place ≡ place) }
+{
+    if kept.place == place {
+        Some(kept)
+    } else {
+        None
+    }
+}
+
+/// What is kept of the function at a place, if something is.
+fn find(kept: &[LongFunction], place: FunctionPlace) -> Option<&LongFunction>
+    ensures kept { (r : ResolveView) → All (IsLongFunction r) kept.now →
+        IfSome result (λ e. IsLongFunction r e.now) }
+    ensures place { IfSome result (λ e. e.now.place ≡ place) }
+{
+    let index = functions_before(kept, place);
+    if index < kept.len() {
+        if_at(&kept[index], place)
+    } else {
+        None
+    }
+}
+
+/// The future or stream at index `n` of a function, by what is kept of it.
+fn nth_of_kept(resolve: &Resolve, kept: &LongFunction, n: u64) -> Option<TypeId>
+    requires kept { IsLongFunction resolve.now kept.now }
+    requires small { n < 2 ^ 32 }
+    ensures { option_map id_index result ≡ option_and_then
+        (λ f. slice_get (function_futures resolve.now f) n)
+        (function_at_place resolve.now kept.now.place) }
+{
+    let index = ends_passed(&kept.ends, n);
+    if index < kept.parts.len() {
+        let left = n - count_before(&kept.ends, index);
+        Some(nth(resolve, kept.parts[index], left))
+    } else {
+        None
+    }
+}
+
+impl Resolve {
+    /// The future or stream at an index, from 0, in the list of `Function::find_futures_and_streams` of the function at a
+    /// place; `None` if the list ends before it, or if there is no function. The list is not made. As
+    /// `Function::nth_future_or_stream`, but a function of many parameters is not walked.
+    pub fn nth_future_or_stream_at(&self, place: FunctionPlace, n: u32) -> Option<TypeId>
+        ensures { option_map id_index result ≡ option_and_then
+            (λ f. slice_get (function_futures self.now f) n) (function_at_place self.now place) }
+    {
+        match find(self.long_functions(), place) {
+            Some(kept) => nth_of_kept(self, kept, u64::from(n)),
+            None => self.nth_by_walk(place, n),
+        }
+    }
+
+    /// The future or stream at an index of the function at a place, whose parameters are walked.
+    fn nth_by_walk(&self, place: FunctionPlace, n: u32) -> Option<TypeId>
+        ensures { option_map id_index result ≡ option_and_then
+            (λ f. slice_get (function_futures self.now f) n) (function_at_place self.now place) }
+    {
+        self.well_formedness();
+        match self.function_at(place) {
+            Some(function) => function.nth_future_or_stream(self, n),
+            None => None,
+        }
+    }
+}
