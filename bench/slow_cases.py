@@ -328,6 +328,18 @@ def _(count):
     return plan(resolved({}, every(count), [interface("i%d" % at, (), {"u": count + at}) for at in range(count)], types))
 
 
+@case("export-used-types", "wcplan")
+def _(count):
+    """The same, and the chain is of another exported interface, which all of them use."""
+    kinds = [{"type": "u8"}, *({"tuple": {"types": [at]}} for at in range(count - 1))]
+    types = [typed(kind, "t%d" % at, {"interface": 0}) for at, kind in enumerate(kinds)]
+    types += [typed({"type": count - 1}, "u", {"interface": at + 1}) for at in range(count)]
+    held = [interface("x", (), {"t%d" % at: at for at in range(count)})]
+    held += [interface("i%d" % at, (), {"u": count + at}) for at in range(count)]
+    core(MAIN)
+    return plan(resolved({}, every(count + 1), held, types))
+
+
 @case("export-parameters", "wcplan")
 def _(count):
     """n exported interfaces, each with a function of one parameter, of the end of one chain of n types of no interface."""
@@ -459,6 +471,13 @@ def _(count):
 
 
 # Texts
+
+
+@case("futures-world", "wcplan", factor=4)
+def _(count):
+    """A function of the world itself of n futures, of which each is asked for by its number."""
+    core(MAIN, [("$root", "[future-new-%d]f" % at, 0) for at in range(count)], types=[signature(b"", b"\x7e")], memory=True)
+    return plan(resolved({"f": {"function": function("f", list(range(count)))}}, {}, [], [typed({"future": None})] * count))
 
 
 @case("json-nested", "wcplan", factor=4)
