@@ -116,15 +116,31 @@ function_in : (n : ℕ) (v : FunctionView) → IsFunctionIn n v → SignatureHas
 unfolding IsFunctionIn
 function_in n v h = h.1
 
+-- and the flat types of a function's parameters and of its result
+params_settled : (types : List TypeView) (flats : List (List WasmType)) (v : FunctionView) → AreFlattened types flats → IsFunctionIn (length types) v
+    → AgreeAtFront flat_types_kept (flatten_types (flat_entry flats) (map (λ p. p.1) v.params)) (flatten_types (flat_of types) (map (λ p. p.1) v.params))
+params_settled types flats v made there =
+    let in_signature : SignatureHasOnly (IsTypeIn (length types)) v = function_in (length types) v there in
+    let all : All (IsTypeIn (length types)) (map (λ p. p.1) v.params) = All-map (IsTypeIn (length types)) (λ p. p.1) v.params in_signature.0 in
+    agree_types flat_types_kept (flat_entry flats) (flat_of types) (map (λ p. p.1) v.params) (λ t k. table_agree types flats made t (All-contains (IsTypeIn (length types)) (map (λ p. p.1) v.params) t all k))
+
+result_settled : (types : List TypeView) (flats : List (List WasmType)) (v : FunctionView) → AreFlattened types flats → IsFunctionIn (length types) v
+    → AgreeAtFront flat_types_kept (flat_payload (flat_entry flats) v.outcome) (flat_payload (flat_of types) v.outcome)
+result_settled types flats v made there =
+    let in_signature : SignatureHasOnly (IsTypeIn (length types)) v = function_in (length types) v there in
+    agree_payload flat_types_kept (flat_entry flats) (flat_of types) v.outcome (λ s e. table_agree types flats made s (answer_in (length types) v.outcome in_signature.1 s e))
+
 -- and the signature of a function whose types are in range
 pub core_settled : (types : List TypeView) (flats : List (List WasmType)) (abi : AbiVariant) (v : FunctionView) → AreFlattened types flats → IsFunctionIn (length types) v
     → flatten_functype (flat_entry flats) abi v ≡ flatten_functype (flat_of types) abi v
 core_settled types flats abi v made there =
-    let in_signature : SignatureHasOnly (IsTypeIn (length types)) v = function_in (length types) v there in
-    let all : All (IsTypeIn (length types)) (map (λ p. p.1) v.params) = All-map (IsTypeIn (length types)) (λ p. p.1) v.params in_signature.0 in
     core_agree abi v.kind (flatten_types (flat_entry flats) (map (λ p. p.1) v.params)) (flatten_types (flat_of types) (map (λ p. p.1) v.params)) (flat_payload (flat_entry flats) v.outcome) (flat_payload (flat_of types) v.outcome) (is_some v.outcome)
-    (agree_types flat_types_kept (flat_entry flats) (flat_of types) (map (λ p. p.1) v.params) (λ t k. table_agree types flats made t (All-contains (IsTypeIn (length types)) (map (λ p. p.1) v.params) t all k)))
-    (agree_payload flat_types_kept (flat_entry flats) (flat_of types) v.outcome (λ s e. table_agree types flats made s (answer_in (length types) v.outcome in_signature.1 s e)))
+    (params_settled types flats v made there) (result_settled types flats v made there)
+
+-- the flat types of a function's parameters, which are read by their names
+params_read : (flat : ℕ → List WasmType) (f : Function) (named : List (String Global × WitType)) → named ≡ f.params.items
+    → flatten_types flat (map (λ p. p.1) named) ≡ flatten_types flat (map (λ p. p.1) (map named_view f.params.items))
+params_read flat f named same = ap (λ z. flatten_types flat (map (λ p. p.1) z)) same ∙ ap (flatten_types flat) (sym (named_values f.params.items))
 
 -- the signature of a function, from the flat types of its parameters and its result
 pub core_made : (flat : ℕ → List WasmType) (abi : AbiVariant) (f : Function) (params results : List WasmType) (named : List (String Global × WitType)) → named ≡ f.params.items
@@ -132,6 +148,21 @@ pub core_made : (flat : ℕ → List WasmType) (abi : AbiVariant) (f : Function)
     → core_of abi f.kind params results (is_some f.result) ≡ flatten_functype flat abi (function_view f)
 core_made flat abi f params results named same made given =
     let full : List WasmType = flatten_types flat (map (λ p. p.1) (map named_view f.params.items)) in
-    let read : flatten_types flat (map (λ p. p.1) named) ≡ full = ap (λ z. flatten_types flat (map (λ p. p.1) z)) same ∙ ap (flatten_types flat) (sym (named_values f.params.items)) in
-    let agree : AgreeAtFront flat_types_kept params full = ap (λ z. take flat_types_kept z) (made ∙ ap (λ z. take flat_types_kept z) read) ∙ agree_cut flat_types_kept full in
+    let agree : AgreeAtFront flat_types_kept params full = ap (λ z. take flat_types_kept z) (made ∙ ap (λ z. take flat_types_kept z) (params_read flat f named same)) ∙ agree_cut flat_types_kept full in
     core_agree abi f.kind params full results (flat_payload flat f.result) (is_some f.result) agree (ap (λ z. take flat_types_kept z) given)
+
+-- the flat types of a function's parameters, as many as are kept
+pub params_made : (types : List TypeView) (flats : List (List WasmType)) (f : Function) (params : List WasmType) (named : List (String Global × WitType)) → AreFlattened types flats
+    → IsFunctionIn (length types) (function_view f) → named ≡ f.params.items → params ≡ take flat_types_kept (flatten_types (flat_entry flats) (map (λ p. p.1) named))
+    → params ≡ take flat_types_kept (flatten_types (flat_of types) (map (λ p. p.1) (function_view f).params))
+params_made types flats f params named made there same given =
+    given ∙ ap (λ z. take flat_types_kept z) (params_read (flat_entry flats) f named same) ∙ params_settled types flats (function_view f) made there
+
+-- the signature of a function, from what is kept of its parameters
+pub core_kept : (types : List TypeView) (flats : List (List WasmType)) (abi : AbiVariant) (f : Function) (params : List WasmType) → AreFlattened types flats
+    → IsFunctionIn (length types) (function_view f) → params ≡ take flat_types_kept (flatten_types (flat_of types) (map (λ p. p.1) (function_view f).params))
+    → core_of abi f.kind params (flat_payload (flat_entry flats) f.result) (is_some f.result) ≡ flatten_functype (flat_of types) abi (function_view f)
+core_kept types flats abi f params made there kept =
+    let full : List WasmType = flatten_types (flat_of types) (map (λ p. p.1) (function_view f).params) in
+    core_agree abi f.kind params full (flat_payload (flat_entry flats) f.result) (flat_payload (flat_of types) f.result) (is_some f.result)
+    (ap (λ z. take flat_types_kept z) kept ∙ agree_cut flat_types_kept full) (result_settled types flats (function_view f) made there)

@@ -1,5 +1,5 @@
 -- Functions at places: their ids are in range, and what is kept of them is right.
-use Rattle.std.proofs.Common.{◌≡◌, ℕ, ◌-◌, ◌<◌, ◌≤◌, ◌^◌, List, ◌∷◌, length, map, get_or, Option, Some, None, All, arith, refl, sym, ap, ◌∙◌, subst}
+use Rattle.std.proofs.Common.{◌≡◌, ℕ, ◌-◌, ◌<◌, ◌≤◌, ◌^◌, List, ◌∷◌, length, map, take, get_or, Option, Some, None, All, arith, refl, sym, ap, ◌∙◌, subst}
 use Rattle.std.specs.List.{Contains, filter_map, slice_get}
 use Rattle.std.specs.Option.{option_and_then, option_map}
 use Rattle.std.proofs.lemmas.Option.{slice_get_past}
@@ -8,6 +8,7 @@ use Rattle.wc_resolve.specs.declared.functions.FunctionPlace.TheVariants.{Interf
 use Rattle.wc_resolve.specs.declared.futures.FuturesEntry.{FuturesEntry}
 use Rattle.wc_resolve.specs.declared.ids.TypeId.{TypeId}
 use Rattle.wc_resolve.specs.declared.long_functions.LongFunction.{LongFunction}
+use Rattle.wc_resolve.specs.Flat.{flat_of, flat_types_kept, flatten_types}
 use Rattle.wc_resolve.specs.Futures.{AreFuturesEntries, EntryView, ends_from, ends_of, entry_view, function_futures, futures_from, part_for}
 use Rattle.wc_resolve.specs.Kinds.{ResolveView}
 use Rattle.wc_resolve.specs.LongFunctions.{IsLongFunction, function_at_place, function_of_interface, function_of_items, item_function}
@@ -22,8 +23,8 @@ use Rattle.wc_resolve.proofs.WellFormedLemmas.{all_get, exports_in, functions_in
 -- what is kept is made of what is kept of types
 pub long_right : (r : ResolveView) (f : FunctionView) (e : LongFunction) (entries : List FuturesEntry) (roots : List TypeId) → AreFuturesEntries r.types (map entry_view entries)
     → IsFunctionIn (length r.types) f → function_at_place r e.place ≡ Some f → indices roots ≡ passed_roots f → e.parts.items ≡ filter_map (part_for (map entry_view entries)) roots
-    → e.ends.items ≡ ends_from (map entry_view entries) 0 roots → IsLongFunction r e
-long_right r f e entries roots all within at passed parts ends =
+    → e.ends.items ≡ ends_from (map entry_view entries) 0 roots → e.flats.items ≡ take flat_types_kept (flatten_types (flat_of r.types) (map (λ p. p.1) f.params)) → IsLongFunction r e
+long_right r f e entries roots all within at passed parts ends flat =
     let views : List EntryView = map entry_view entries in
     let right : AreRight r.types views roots = λ y h.
     let small : y < length r.types = passes_in (length r.types) f within y (subst (λ (z : List ℕ). Contains z y) passed h) in
@@ -35,6 +36,7 @@ long_right r f e entries roots all within at passed parts ends =
         made = ap (λ (z : List TypeId). futures_from r.types (indices z)) parts ∙ replaced.same ∙ ap (futures_from r.types) passed;
         ended = ends ∙ ends_right r.types views roots right 0 0 refl ∙ ap (λ (z : List TypeId). ends_of r.types 0 z) (sym parts);
         within = λ p h. replaced.within p (subst (λ (z : List TypeId). Contains (indices z) p) parts h);
+        flat = flat;
       },
     )
 
@@ -43,6 +45,14 @@ pub kept_read : (r : ResolveView) (e : LongFunction) (n : ℕ) → IsLongFunctio
     → slice_get (futures_from r.types (indices e.parts.items)) n ≡ option_and_then (λ (f : FunctionView). slice_get (function_futures r f) n) (function_at_place r e.place)
 kept_read r e n kept =
     ap (λ (z : List ℕ). slice_get z n) kept.2.made ∙ sym (ap (λ (o : Option FunctionView). option_and_then (λ (f : FunctionView). slice_get (function_futures r f) n) o) kept.1)
+
+-- the flat types that are kept of the function at a place
+pub kept_flat : (r : ResolveView) (e : LongFunction) (place : FunctionPlace) (f : FunctionView) → IsLongFunction r e → e.place ≡ place → function_at_place r place ≡ Some f
+    → e.flats.items ≡ take flat_types_kept (flatten_types (flat_of r.types) (map (λ p. p.1) f.params))
+kept_flat r e place f kept same at =
+    let both : Some kept.0 ≡ Some f = sym kept.1 ∙ ap (function_at_place r) same ∙ at in
+    let equal : kept.0 ≡ f = cc both in
+    subst (λ (v : FunctionView). e.flats.items ≡ take flat_types_kept (flatten_types (flat_of r.types) (map (λ p. p.1) v.params))) equal kept.2.flat
 
 -- the part that has it
 pub kept_part : (r : ResolveView) (e : LongFunction) (i n left : ℕ) (part : TypeId) → IsLongFunction r e → i < length e.parts.items → part ≡ get_or e.parts.items i part → n < 2 ^ 32

@@ -1,20 +1,25 @@
 //! Functions by their places, and what is kept of those that have more than a few parameters: which types their futures
-//! and streams are of, and how many there are up to each.
+//! and streams are of, and how many there are up to each; and the flat types of the parameters.
 
-ghost use Rattle.std.specs.Prelude.{◌≡◌, ◌<◌, ◌^◌, All, IfOk, IfSome, OnOk, Some, length, map, slice_get};
+ghost use Rattle.std.specs.Prelude.{◌≡◌, ◌<◌, ◌^◌, All, IfOk, IfSome, Some, length, map, slice_get};
 ghost use Rattle.std.specs.Option.{option_and_then, option_map};
+ghost use Rattle.wc_resolve.specs.Flat.{AreFlattened, flat_of, lists};
 ghost use Rattle.wc_resolve.specs.Futures.{AreFuturesEntries, entry_view, function_futures};
 ghost use Rattle.wc_resolve.specs.Kinds.{ResolveView};
 ghost use Rattle.wc_resolve.specs.LongFunctions.{IsLongFunction, function_at_place, function_of_interface, function_of_items};
 ghost use Rattle.wc_resolve.specs.Ranges.{AreIdsInRange, IsFunctionIn};
 ghost use Rattle.wc_resolve.specs.ResolveParts.{parts_view};
 ghost use Rattle.wc_resolve.specs.Roots.{id_index};
+ghost use Rattle.wc_resolve.specs.Signature.{flatten_functype, signature_view};
 ghost use Rattle.wc_resolve.specs.Views.{function_entry, function_view, world_entry};
 
-use crate::futures::{FuturesEntry, count_before, ends_for, ends_passed, has_any, nth, parts_for};
+use crate::flattening::flat_fields;
+use crate::futures::{FuturesEntry, count_before, ends_for, ends_passed, nth, parts_for};
 use crate::roots::push_passed;
+use crate::signature::{signature_by, signature_of};
 use crate::{
-    Function, FunctionPlace, InterfaceId, Parts, Resolve, TypeId, WorldId, WorldItem, WorldKey,
+    AbiVariant, Function, FunctionPlace, InterfaceId, Parts, Resolve, TypeId, WasmSignature,
+    WasmType, WorldId, WorldItem, WorldKey,
 };
 use std::alloc::{AllocError, Global};
 use wc_maps::Map;
@@ -22,7 +27,7 @@ use wc_maps::Map;
 /// How many parameters a function has at most of which nothing is kept: they are walked.
 const FEW_PARAMETERS: usize = 16;
 
-/// What is kept of the futures and streams of a function.
+/// What is kept of a function: its futures and streams, and the flat types of its parameters.
 #[derive(Drop)]
 pub(crate) struct LongFunction {
     /// Where the function is.
@@ -31,6 +36,8 @@ pub(crate) struct LongFunction {
     pub(crate) parts: Vec<TypeId>,
     /// How many there are up to each of `parts` and with it, at most `u64::MAX`.
     pub(crate) ends: Vec<u64>,
+    /// The flat types of the parameters, as many as are kept (`KEPT_FLAT_TYPES`).
+    pub(crate) flats: Vec<WasmType>,
 }
 
 /// The function of an interface at an index.
@@ -175,11 +182,13 @@ fn long_places(alloc: Global, parts: &Parts) -> Result<Vec<FunctionPlace>, Alloc
 fn long_function(
     alloc: Global,
     entries: &[FuturesEntry],
+    flats: &[Vec<WasmType>],
     place: FunctionPlace,
     function: &Function,
 ) -> Result<LongFunction, AllocError>
     ensures { IfOk result (λ e. (r : ResolveView) →
         AreFuturesEntries r.types (map entry_view entries.now) →
+        AreFlattened r.types (lists flats.now) →
         IsFunctionIn (length r.types) (function_view function.now) →
         function_at_place r place ≡ Some (function_view function.now) → IsLongFunction r e) }
 {
@@ -187,28 +196,32 @@ fn long_function(
     push_passed(&mut roots, function)?;
     let parts = parts_for(alloc, entries, &roots)?;
     let ends = ends_for(alloc, entries, &roots)?;
-    Ok(LongFunction { place, parts, ends })
+    let own_flats = flat_fields(alloc, flats, &function.params)?;
+    Ok(LongFunction {
+        place,
+        parts,
+        ends,
+        flats: own_flats,
+    })
 }
 
-/// Appends what is kept of the function at a place, if there is one.
-fn push_function(
+/// What is kept of the function at a place, if there is one.
+fn long_function_at(
     alloc: Global,
     parts: &Parts,
     entries: &[FuturesEntry],
+    flats: &[Vec<WasmType>],
     place: FunctionPlace,
-    kept: &mut Vec<LongFunction>,
-) -> Result<(), AllocError>
+) -> Result<Option<LongFunction>, AllocError>
     requires ranges { AreIdsInRange (parts_view parts.now) }
     requires entries { AreFuturesEntries (parts_view parts.now).types (map entry_view entries.now) }
-    requires kept { All (IsLongFunction (parts_view parts.now)) kept.old.items }
-    ensures { OnOk result (All (IsLongFunction (parts_view parts.now)) kept.new.items) }
+    requires flats { AreFlattened (parts_view parts.now).types (lists flats.now) }
+    ensures { IfOk result (λ e. IfSome e (IsLongFunction (parts_view parts.now))) }
 {
-    let Some(function) = function_of(parts, place) else {
-        return Ok(());
-    };
-    let entry = long_function(alloc, entries, place, function)?;
-    kept.push(entry)?;
-    Ok(())
+    match function_of(parts, place) {
+        Some(function) => Ok(Some(long_function(alloc, entries, flats, place, function)?)),
+        None => Ok(None),
+    }
 }
 
 /// What is kept of the functions at these places.
@@ -216,15 +229,19 @@ fn functions_at(
     alloc: Global,
     parts: &Parts,
     entries: &[FuturesEntry],
+    flats: &[Vec<WasmType>],
     places: &[FunctionPlace],
 ) -> Result<Vec<LongFunction>, AllocError>
     requires ranges { AreIdsInRange (parts_view parts.now) }
     requires entries { AreFuturesEntries (parts_view parts.now).types (map entry_view entries.now) }
+    requires flats { AreFlattened (parts_view parts.now).types (lists flats.now) }
     ensures { IfOk result (λ v. All (IsLongFunction (parts_view parts.now)) v.items) }
 {
     let mut kept = Vec::new(alloc);
     for place in places {
-        push_function(alloc, parts, entries, *place, &mut kept)?;
+        if let Some(function) = long_function_at(alloc, parts, entries, flats, *place)? {
+            kept.push(function)?;
+        }
     }
     Ok(kept)
 }
@@ -234,16 +251,15 @@ pub(crate) fn long_functions(
     alloc: Global,
     parts: &Parts,
     entries: &[FuturesEntry],
+    flats: &[Vec<WasmType>],
 ) -> Result<Vec<LongFunction>, AllocError>
     requires ranges { AreIdsInRange (parts_view parts.now) }
     requires entries { AreFuturesEntries (parts_view parts.now).types (map entry_view entries.now) }
+    requires flats { AreFlattened (parts_view parts.now).types (lists flats.now) }
     ensures { IfOk result (λ v. All (IsLongFunction (parts_view parts.now)) v.items) }
 {
-    if !has_any(entries) {
-        return Ok(Vec::new(alloc));
-    }
     let places = long_places(alloc, parts)?;
-    functions_at(alloc, parts, entries, &places)
+    functions_at(alloc, parts, entries, flats, &places)
 }
 
 /// What the order of places goes by: what has the function, of which id, and at which index.
@@ -338,6 +354,46 @@ impl Resolve {
         match find(self.long_functions(), place) {
             Some(kept) => nth_of_kept(self, kept, u64::from(n)),
             None => self.nth_by_walk(place, n),
+        }
+    }
+
+    /// The core signature of the function at a place, as `wasm_signature` makes it; `None` if there is no function. A
+    /// function of many parameters is not walked.
+    ///
+    /// # Errors
+    ///
+    /// `AllocError`: an allocation failed.
+    pub fn wasm_signature_at(
+        &self,
+        alloc: Global,
+        abi: AbiVariant,
+        place: FunctionPlace,
+    ) -> Result<Option<WasmSignature>, AllocError>
+        ensures { IfOk result (λ s. option_map signature_view s ≡ option_map
+            (flatten_functype (flat_of self.now.types) abi) (function_at_place self.now place)) }
+    {
+        match self.function_at(place) {
+            Some(function) => Ok(Some(self.signature_at(alloc, abi, place, function)?)),
+            None => Ok(None),
+        }
+    }
+
+    /// The core signature of the function at a place, by what is kept of it, if something is.
+    fn signature_at(
+        &self,
+        alloc: Global,
+        abi: AbiVariant,
+        place: FunctionPlace,
+        function: &Function,
+    ) -> Result<WasmSignature, AllocError>
+        requires { function_at_place self.now place ≡ Some (function_view function.now) }
+        ensures { IfOk result (λ s. signature_view s ≡
+            flatten_functype (flat_of self.now.types) abi (function_view function.now)) }
+    {
+        self.well_formedness();
+        match find(self.long_functions(), place) {
+            Some(kept) => signature_by(alloc, self.flats(), abi, function, &kept.flats),
+            None => signature_of(alloc, self.flats(), abi, function),
         }
     }
 

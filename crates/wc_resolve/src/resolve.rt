@@ -7,7 +7,7 @@ ghost use Rattle.wc_resolve.specs.Contents.{holds_string, holds_string_or_list};
 ghost use Rattle.wc_resolve.specs.Views.{function_view, interface_view, item_view, key_view, package_name_view, package_view, type_view, world_view};
 ghost use Rattle.wc_resolve.specs.Dependencies.{AddsDependencies, aliased_at, dependency, direct_dependencies, id_of_interface, interface_ids, other_owner};
 ghost use Rattle.wc_resolve.specs.Fault.{IsResolveCause};
-ghost use Rattle.wc_resolve.specs.Flat.{flat_of, flat_rule};
+ghost use Rattle.wc_resolve.specs.Flat.{AreFlattened, flat_of, flat_rule, lists};
 ghost use Rattle.wc_resolve.specs.TypeRules.{Follows};
 ghost use Rattle.wc_resolve.specs.Futures.{IsFuturesEntry, entry_view, futures_of, futures_rule};
 ghost use Rattle.wc_resolve.specs.Laws.{FlatTypesUnique, FuturesUnique, ListingsUnique, TextsFollow, TextsUnique};
@@ -35,8 +35,8 @@ use crate::validate::resources::is_usable;
 use crate::validate::{Tables, check};
 use crate::{
     AbiVariant, Function, FunctionPlace, Interface, InterfaceId, Package, PackageId, PackageName,
-    ResolveFault, TypeDef, TypeDefKind, TypeId, TypeOwner, WasmSignature, WitType, World, WorldId,
-    WorldItem, WorldKey,
+    ResolveFault, TypeDef, TypeDefKind, TypeId, TypeOwner, WasmSignature, WasmType, WitType, World,
+    WorldId, WorldItem, WorldKey,
 };
 use std::alloc::{AllocError, Global};
 use std::marker::Model;
@@ -201,6 +201,13 @@ impl Resolve {
         ensures { IfSome result (IsShortcut self.now.types id.0) }
     {
         shortcut_of(&self.kept.futures.shortcuts, id)
+    }
+
+    /// For each type its flat types, as many as are kept.
+    pub(crate) fn flats(&self) -> &[Vec<WasmType>]
+        ensures { AreFlattened self.now.types (lists result.now) }
+    {
+        &self.kept.flats
     }
 
     /// What is kept of the functions that have more than a few parameters.

@@ -2,7 +2,7 @@
 //! `flatten_functype`).
 
 ghost use Rattle.std.specs.Prelude.{◌≡◌, ◌<◌, IfOk, is_some};
-ghost use Rattle.wc_resolve.specs.Flat.{flats_in};
+ghost use Rattle.wc_resolve.specs.Flat.{flat_payload, flats_in};
 ghost use Rattle.wc_resolve.specs.Signature.{flatten_functype, core_of, first_as_pointer, has_indirect_result, is_export, max_flat_params_of, passed_types, returned_types, result_pointer, signature_view, is_exported_method};
 ghost use Rattle.wc_resolve.specs.Views.{function_view};
 
@@ -150,6 +150,23 @@ fn core_of(
         indirect_params,
         retptr,
     })
+}
+
+/// The core signature of a function, by the flat types of all defined types and those of the function's parameters, as
+/// many as are kept.
+pub(crate) fn signature_by(
+    alloc: Global,
+    flats: &[Vec<WasmType>],
+    abi: AbiVariant,
+    function: &Function,
+    params: &[WasmType],
+) -> Result<WasmSignature, AllocError>
+    ensures { IfOk result (λ s. signature_view s ≡ core_of abi function.now.kind params.now
+        (flat_payload (flats_in flats.now) function.now.result) (is_some function.now.result)) }
+{
+    let own_params = Vec::from_slice(alloc, params)?;
+    let results = flat_payload(flats, function.result);
+    core_of(alloc, abi, function, own_params, results)
 }
 
 /// The core signature of a function, by the flat types of all defined types.

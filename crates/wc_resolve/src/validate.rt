@@ -49,7 +49,7 @@ pub(crate) struct Checked {
     package_names: Set<PackageName>,
 }
 
-/// What is kept of futures and streams.
+/// What is kept of futures and streams, and of functions.
 #[derive(Drop)]
 pub(crate) struct FuturesTables {
     /// For each type its futures and streams.
@@ -173,19 +173,21 @@ fn futures_of_parts(
     futures_entries(alloc, &parts.types, order)
 }
 
-/// What is kept of futures and streams.
+/// What is kept of futures and streams, and of functions.
 fn futures_tables(
     alloc: Global,
     parts: &Parts,
+    flats: &[Vec<WasmType>],
     order: &[usize],
 ) -> Result<FuturesTables, AllocError>
     requires ranges { AreIdsInRange (parts_view parts.now) }
+    requires flats { AreFlattened (parts_view parts.now).types (lists flats.now) }
     requires order { IsOrder (parts_view parts.now).types order.now }
     ensures { IfOk result (AreFuturesTables (parts_view parts.now)) }
 {
     let entries = futures_of_parts(alloc, parts, order)?;
     let shortcuts = shortcuts_along(alloc, &entries, order)?;
-    let long_functions = long_functions(alloc, parts, &entries)?;
+    let long_functions = long_functions(alloc, parts, &entries, flats)?;
     Ok(FuturesTables {
         entries,
         shortcuts,
@@ -247,7 +249,7 @@ pub(crate) fn check(alloc: Global, parts: &Parts) -> Result<Tables, Refusal>
 {
     let checked = well_formed(alloc, parts)?;
     let flats = flatten_parts(alloc, parts, &checked.order)?;
-    let futures = futures_tables(alloc, parts, &checked.order)?;
+    let futures = futures_tables(alloc, parts, &flats, &checked.order)?;
     let strings = strings_of_parts(alloc, parts, &checked.order)?;
     let texts = texts_of_parts(alloc, parts, &checked.order)?;
     Ok(Tables {
