@@ -11,7 +11,8 @@ use Rattle.wc_resolve.specs.declared.functions.Function.{Function}
 use Rattle.wc_resolve.specs.declared.worlds.WorldKey.{WorldKey}
 use Rattle.wc_resolve.specs.declared.worlds.WorldKey.TheVariants.{Name, Interface as InterfaceKey}
 use Rattle.wc_resolve.specs.declared.worlds.WorldItem.{WorldItem}
-use Rattle.wc_resolve.specs.LongFunctions.{function_of_interface}
+use Rattle.wc_resolve.specs.declared.worlds.WorldItem.TheVariants.{Function as FunctionItem}
+use Rattle.wc_resolve.specs.LongFunctions.{function_of_interface, function_of_items, item_function as function_of_item}
 use Rattle.wc_resolve.specs.contracts.worlds.WorldKeyPartialEq.TheImpl.{eq-value as world_key_eq}
 use Rattle.wc_resolve.specs.Resolve.{package_name_at}
 use Rattle.wc_resolve.specs.Ranges.{AreIdsInRange, AreNamesIn, IsEntryIn, IsFunctionIn, IsItemIn, IsWorldIn}
@@ -43,6 +44,17 @@ pub function_found_at : (es : List (String Global × Function)) (index : ℕ) (n
     → function_of_interface (map function_entry es) index ≡ Some (function_view f)
 function_found_at es index name f at =
     ap (option_map (λ (e : List ℕ × FunctionView). e.1)) (slice_get-map function_entry es index ∙ ap (option_map function_entry) at)
+
+-- the function that an item at an index is, as it is found there
+pub item_found_at : (es : List (WorldKey × WorldItem)) (index : ℕ) (key : WorldKey) (f : Function) → slice_get es index ≡ Some (key, FunctionItem f)
+    → function_of_items (map world_entry es) index ≡ Some (function_view f)
+item_found_at es index key f at =
+    ap (option_and_then (λ (e : KeyView × ItemView). function_of_item e.1)) (slice_get-map world_entry es index ∙ ap (option_map world_entry) at)
+
+-- no function is under a key where the item is none
+pub not_a_function : (key : WorldKey) (es : List (WorldKey × WorldItem)) (i : WorldItem) → as_function (item_view i) ≡ None
+    → Some i ≡ lookup (world_key_eq.it key) es → None ≡ option_and_then as_function (item_under (map world_entry es) (key_view key))
+not_a_function key es i none found = sym none ∙ ap (option_and_then as_function) (ap (option_map item_view) found ∙ item_viewed key es)
 
 -- no package after the first one has its name
 other_name : (p : PackageView) (ps : List PackageView) (k : ℕ) (w : PackageView) → HaveDistinctNames (p ∷ ps) → slice_get ps k ≡ Some w → p.name ≢ w.name

@@ -7,6 +7,7 @@ pub mod Builtins
 pub mod Payloads
 pub mod Keys
 pub mod Contexts
+pub mod Places
 pub mod Interfaces
 pub mod InterfaceIndex
 pub mod AsyncValues

@@ -4,7 +4,7 @@
 ghost use Rattle.std.specs.Prelude.{◌≡◌, ◌<◌, ◌↔◌, IfOk, IfSome, IsTrue, Some, length, map};
 ghost use Rattle.std.specs.Option.{IsSome, option_and_then, option_map};
 ghost use Rattle.wc_resolve.specs.Dependencies.{id_of_interface};
-ghost use Rattle.wc_resolve.specs.LongFunctions.{function_of_interface};
+ghost use Rattle.wc_resolve.specs.LongFunctions.{function_of_interface, function_of_items};
 ghost use Rattle.wc_resolve.specs.Roots.{id_index};
 ghost use Rattle.wc_resolve.specs.Views.{function_entry, function_view, interface_entry, interface_key, item_view, key_view, plain_key, type_entry, world_entry};
 ghost use Rattle.wc_names.specs.Keys.{as_function, as_interface, as_type, item_under, resource_at};
@@ -87,6 +87,42 @@ pub fn plain_function<'a>(
         },
         None => Ok(None),
     }
+}
+
+/// The function under a key, and its index among the items; `None` where the item is no function.
+fn function_at<'a>(
+    items: &'a Map<WorldKey, WorldItem>,
+    key: &WorldKey,
+) -> Option<(usize, &'a Function)>
+    ensures function { option_map (λ p. function_view p.1.now) result ≡ option_and_then as_function
+        (item_under (map world_entry items.now.entries) (key_view key.now)) }
+    ensures index { IfSome result (λ p. function_of_items (map world_entry items.now.entries) p.0
+        ≡ Some (function_view p.1.now)) }
+{
+    match items.get_full(key) {
+        Some((index, _key, item)) => match item {
+            WorldItem::Function(function) => Some((index, function)),
+            WorldItem::Interface { .. } | WorldItem::TypeItem { .. } => None,
+        },
+        None => None,
+    }
+}
+
+/// The function under a plain key, as `plain_function` has it, and its index among the items.
+pub(crate) fn plain_function_at<'a>(
+    alloc: Global,
+    items: &'a Map<WorldKey, WorldItem>,
+    name: &str,
+) -> Result<Option<(usize, &'a Function)>, AllocError>
+    ensures function { IfOk result (λ found. option_map (λ p. function_view p.1.now) found ≡
+        option_and_then as_function
+        (item_under (map world_entry items.now.entries) (plain_key name.now))) }
+    ensures index { IfOk result (λ found. IfSome found
+        (λ p. function_of_items (map world_entry items.now.entries) p.0
+        ≡ Some (function_view p.1.now))) }
+{
+    let key = WorldKey::Name(String::from_str(alloc, name)?);
+    Ok(function_at(items, &key))
 }
 
 /// The type under a plain key; `None` where the item is no type.

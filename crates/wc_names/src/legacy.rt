@@ -237,7 +237,17 @@ impl<'h> NameMangling for Legacy<'h> {
         context: &PayloadLookupContext<'_>,
         name: &str,
     ) -> Result<Option<Import>, AllocError> {
-        async_value_import(alloc, context, name)
+        async_value_import(alloc, context, None, name)
+    }
+
+    fn payload_intrinsic_in_world(
+        &self,
+        alloc: Global,
+        context: &PayloadLookupContext<'_>,
+        world_id: WorldId,
+        name: &str,
+    ) -> Result<Option<Import>, AllocError> {
+        async_value_import(alloc, context, Some(world_id), name)
     }
 
     fn module_to_interface(

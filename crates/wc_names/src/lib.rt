@@ -66,5 +66,5 @@ pub use imports::{FunctionImport, Import, PayloadInfo, PayloadType};
 pub use interface_index::InterfaceNames;
 pub use legacy::Legacy;
 pub use mangling::{MaybeAsyncLowered, NameIndexes, NameMangling};
-pub use payloads::PayloadLookupContext;
+pub use payloads::{NamedFunction, PayloadLookupContext};
 pub use standard::Standard;

@@ -1,6 +1,6 @@
 //! Naming schemes, and the indexes that they make.
 
-ghost use Rattle.std.specs.Prelude.{◌≡◌, ◌↔◌, ℕ, Bool, List, All, IfOk, IsTrue, MatchOption, length, map, option_copied, ◌<◌};
+ghost use Rattle.std.specs.Prelude.{◌≡◌, ◌↔◌, ℕ, Bool, List, All, IfOk, IsTrue, MatchOption, Some, length, map, option_copied, slice_get, ◌<◌};
 ghost use Rattle.std.specs.Option.{ForSome, option_map};
 ghost use Rattle.wc_read.specs.declared.types.ValType.{ValType};
 ghost use Rattle.wc_read.specs.Types.{func_type_value};
@@ -213,6 +213,30 @@ pub trait NameMangling {
         requires world { IsWorldIn context.now.resolve.now (world_view context.now.world.now) }
         requires interface { ForSome context.now.id
             (λ id. id.0 < length context.now.resolve.now.interfaces) }
+        ensures { IfOk result (λ found. Finds (option_map import_view found)
+            (NamesImportIn (scheme self.now) context.now name.now)) };
+
+    /// The built-in that `payload_intrinsic` answers, by the index of the context's world: the parameters of a function
+    /// that the world itself imports or exports are not walked for each of its futures and streams.
+    ///
+    /// The world must be in range of the `Resolve`, as each of its worlds is (`Resolve::well_formedness`), the interface
+    /// too (`has_interface`), and the index be that of the world.
+    ///
+    /// # Errors
+    ///
+    /// `AllocError`: an allocation failed.
+    fn payload_intrinsic_in_world(
+        &self,
+        alloc: Global,
+        context: &PayloadLookupContext<'_>,
+        world_id: WorldId,
+        name: &str,
+    ) -> Result<Option<Import>, AllocError>
+        requires world { IsWorldIn context.now.resolve.now (world_view context.now.world.now) }
+        requires interface { ForSome context.now.id
+            (λ id. id.0 < length context.now.resolve.now.interfaces) }
+        requires listed { slice_get context.now.resolve.now.worlds world_id.0
+            ≡ Some (world_view context.now.world.now) }
         ensures { IfOk result (λ found. Finds (option_map import_view found)
             (NamesImportIn (scheme self.now) context.now name.now)) };
 

@@ -1,29 +1,33 @@
 //! Built-ins of futures and streams, and what their names are looked up in.
 
-ghost use Rattle.std.specs.Prelude.{◌≡◌, ◌<◌, [], IfOk, IfSome, IsTrue, length, slice_get};
+ghost use Rattle.std.specs.Prelude.{◌≡◌, ◌<◌, [], IfOk, IfSome, IsTrue, None, Some, length, map, slice_get};
 ghost use Rattle.std.specs.Option.{ForSome, option_map};
 ghost use Rattle.wc_resolve.specs.Futures.{function_futures};
-ghost use Rattle.wc_resolve.specs.Kinds.{ResolveView};
+ghost use Rattle.wc_resolve.specs.LongFunctions.{function_at_place, function_of_items};
 ghost use Rattle.wc_resolve.specs.Ranges.{IsFunctionIn, IsWorldIn};
 ghost use Rattle.wc_resolve.specs.Roots.{id_index};
-ghost use Rattle.wc_resolve.specs.Views.{function_view, key_view, world_view};
+ghost use Rattle.wc_resolve.specs.Views.{function_view, key_view, world_entry, world_view};
 ghost use Rattle.wc_names.specs.AsyncValues.{operation_row, unit_type};
 ghost use Rattle.wc_names.specs.Contexts.{context_scope, IsOwnNameImportIn, IsPayloadTypeIn, NamesImportIn};
 ghost use Rattle.wc_names.specs.ExportNames.{interface_function};
 ghost use Rattle.wc_names.specs.Finds.{Finds};
-ghost use Rattle.wc_names.specs.Keys.{function_named, resource_named, scope_key, type_named};
+ghost use Rattle.wc_names.specs.Keys.{function_at, function_named, resource_named, scope_key, type_named, world_entries};
 ghost use Rattle.wc_names.specs.Mangling.{legacy};
-ghost use Rattle.wc_names.specs.Private.Places.{IsPlaced, named_view};
+ghost use Rattle.wc_names.specs.Places.{IsPlaced, named_view};
 ghost use Rattle.wc_names.specs.Views.{async_value, import_view, payload_type_view, payload_view};
 
 use crate::async_values::{AsyncValue, AsyncValueName, Operation, name_parts};
 use crate::keys::{
-    function_under, function_under_at, if_resource, plain_function, plain_type, type_under,
+    function_under, function_under_at, if_resource, plain_function, plain_function_at, plain_type,
+    type_under,
 };
 use crate::texts::number;
 use crate::{Import, PayloadInfo, PayloadType};
 use std::alloc::{AllocError, Global};
-use wc_resolve::{Function, FunctionPlace, InterfaceId, Resolve, TypeId, World, WorldKey};
+use wc_maps::Map;
+use wc_resolve::{
+    Function, FunctionPlace, InterfaceId, Resolve, TypeId, World, WorldId, WorldItem, WorldKey,
+};
 use wc_texts::after;
 
 /// Where the functions and resources that names refer to are looked up: in an interface, or among those that the world
@@ -43,10 +47,10 @@ pub struct PayloadLookupContext<'a> {
 
 /// A function that a name is of.
 #[derive(Clone, Copy)]
-struct NamedFunction<'a> {
-    function: &'a Function,
+pub struct NamedFunction<'a> {
+    pub function: &'a Function,
     /// Where the `Resolve` has it, if that is known.
-    place: Option<FunctionPlace>,
+    pub place: Option<FunctionPlace>,
 }
 
 impl<'a> PayloadLookupContext<'a> {
@@ -76,14 +80,81 @@ impl<'a> PayloadLookupContext<'a> {
         }
     }
 
-    /// The function of a name, as `function` has it, and where the `Resolve` has it.
-    fn named_function(
+    /// What the world imports (`imported`) or exports.
+    fn items(&self) -> &Map<WorldKey, WorldItem>
+        ensures { map world_entry result.now.entries
+            ≡ world_entries (world_view self.now.world.now) self.now.imported }
+    {
+        if self.imported {
+            &self.world.imports
+        } else {
+            &self.world.exports
+        }
+    }
+
+    /// The place of an item that the world imports (`imported`) or exports, if the world's index is known.
+    fn item_place(&self, world_id: Option<WorldId>, index: usize) -> Option<FunctionPlace>
+        requires { ForSome world_id (λ id.
+            slice_get self.now.resolve.now.worlds id.0 ≡ Some (world_view self.now.world.now)) }
+        ensures { IfSome result (λ place. function_at_place self.now.resolve.now place ≡
+            function_of_items (world_entries (world_view self.now.world.now) self.now.imported)
+            index) }
+    {
+        match world_id {
+            Some(id) => {
+                if self.imported {
+                    Some(FunctionPlace::Import(id, index))
+                } else {
+                    Some(FunctionPlace::Export(id, index))
+                }
+            }
+            None => None,
+        }
+    }
+
+    /// The function of a name among what the world imports (`imported`) or exports, and its place, if the world's index
+    /// is known.
+    fn named_item(
         &self,
         alloc: Global,
+        world_id: Option<WorldId>,
         name: &str,
     ) -> Result<Option<NamedFunction<'_>>, AllocError>
-        requires { ForSome self.now.id
+        requires { ForSome world_id (λ id.
+            slice_get self.now.resolve.now.worlds id.0 ≡ Some (world_view self.now.world.now)) }
+        ensures function { IfOk result (λ found. option_map named_view found ≡
+            function_at self.now.resolve.now (world_view self.now.world.now) self.now.imported
+            None name.now) }
+        ensures place { IfOk result
+            (λ found. IfSome found (IsPlaced self.now.resolve.now)) }
+    {
+        match plain_function_at(alloc, self.items(), name)? {
+            Some((index, function)) => Ok(Some(NamedFunction {
+                function,
+                place: self.item_place(world_id, index),
+            })),
+            None => Ok(None),
+        }
+    }
+
+    /// The function of a name, as `function` has it, and its place, if it is one of an interface, or the world's index
+    /// is known.
+    ///
+    /// The interface must be in range (`has_interface`), and the index, if there is one, be that of the world.
+    ///
+    /// # Errors
+    ///
+    /// `AllocError`: an allocation failed.
+    pub fn named_function(
+        &self,
+        alloc: Global,
+        world_id: Option<WorldId>,
+        name: &str,
+    ) -> Result<Option<NamedFunction<'_>>, AllocError>
+        requires interface { ForSome self.now.id
             (λ id. id.0 < length self.now.resolve.now.interfaces) }
+        requires listed { ForSome world_id (λ id.
+            slice_get self.now.resolve.now.worlds id.0 ≡ Some (world_view self.now.world.now)) }
         ensures function { IfOk result (λ found. option_map named_view found ≡
             function_named self.now.resolve.now (world_view self.now.world.now) self.now.imported
             (context_scope self.now) name.now) }
@@ -92,7 +163,7 @@ impl<'a> PayloadLookupContext<'a> {
     {
         match self.id {
             Some(id) => Ok(named_in(self.resolve, id, name)),
-            None => Ok(unplaced(self.function(alloc, name)?)),
+            None => self.named_item(alloc, world_id, name),
         }
     }
 
@@ -166,21 +237,6 @@ fn named_in<'a>(resolve: &'a Resolve, id: InterfaceId, name: &str) -> Option<Nam
     }
 }
 
-/// A function whose place is not known.
-fn unplaced<'a>(found: Option<&'a Function>) -> Option<NamedFunction<'a>>
-    ensures function { option_map named_view result
-        ≡ option_map (λ f. function_view f.now) found.entry }
-    ensures place { (r : ResolveView) → IfSome result (IsPlaced r) }
-{
-    match found {
-        Some(function) => Some(NamedFunction {
-            function,
-            place: None,
-        }),
-        None => None,
-    }
-}
-
 /// A future or a stream without a payload.
 fn unit_type(value: AsyncValue) -> PayloadType
     ensures { payload_type_view result ≡ unit_type value }
@@ -208,11 +264,14 @@ fn nth_of(resolve: &Resolve, named: NamedFunction<'_>, index: u32) -> Option<Typ
 fn payload_type(
     alloc: Global,
     context: &PayloadLookupContext<'_>,
+    world_id: Option<WorldId>,
     name: &AsyncValueName<'_>,
 ) -> Result<Option<PayloadType>, AllocError>
     requires world { IsWorldIn context.now.resolve.now (world_view context.now.world.now) }
     requires interface { ForSome context.now.id
         (λ id. id.0 < length context.now.resolve.now.interfaces) }
+    requires listed { ForSome world_id (λ id.
+        slice_get context.now.resolve.now.worlds id.0 ≡ Some (world_view context.now.world.now)) }
     ensures { IfOk result (λ found. Finds (option_map payload_type_view found)
         (IsPayloadTypeIn context.now name.now.value name.now.which.now name.now.function.now)) }
 {
@@ -223,7 +282,7 @@ fn payload_type(
     let Some(index) = number(name.which) else {
         return Ok(None);
     };
-    let Some(named) = context.named_function(alloc, name.function)? else {
+    let Some(named) = context.named_function(alloc, world_id, name.function)? else {
         return Ok(None);
     };
     match nth_of(context.resolve, named, index) {
@@ -268,12 +327,15 @@ fn import_of(value: AsyncValue, operation: Operation, async_: bool, info: Payloa
 fn own_name_import(
     alloc: Global,
     context: &PayloadLookupContext<'_>,
+    world_id: Option<WorldId>,
     name: &str,
     async_: bool,
 ) -> Result<Option<Import>, AllocError>
     requires world { IsWorldIn context.now.resolve.now (world_view context.now.world.now) }
     requires interface { ForSome context.now.id
         (λ id. id.0 < length context.now.resolve.now.interfaces) }
+    requires listed { ForSome world_id (λ id.
+        slice_get context.now.resolve.now.worlds id.0 ≡ Some (world_view context.now.world.now)) }
     ensures { IfOk result (λ found. Finds (option_map import_view found)
         (IsOwnNameImportIn context.now name.now async_)) }
 {
@@ -283,7 +345,7 @@ fn own_name_import(
     if async_ && !parts.operation.may_be_lowered() {
         return Ok(None);
     }
-    let Some(ty) = payload_type(alloc, context, &parts)? else {
+    let Some(ty) = payload_type(alloc, context, world_id, &parts)? else {
         return Ok(None);
     };
     let info = PayloadInfo {
@@ -296,20 +358,23 @@ fn own_name_import(
     Ok(Some(import_of(parts.value, parts.operation, async_, info)))
 }
 
-/// The import that a name of the legacy scheme is.
+/// The import that a name of the legacy scheme is. `world_id`: the index of the context's world, if it is known.
 pub(crate) fn async_value_import(
     alloc: Global,
     context: &PayloadLookupContext<'_>,
+    world_id: Option<WorldId>,
     name: &str,
 ) -> Result<Option<Import>, AllocError>
     requires world { IsWorldIn context.now.resolve.now (world_view context.now.world.now) }
     requires interface { ForSome context.now.id
         (λ id. id.0 < length context.now.resolve.now.interfaces) }
+    requires listed { ForSome world_id (λ id.
+        slice_get context.now.resolve.now.worlds id.0 ≡ Some (world_view context.now.world.now)) }
     ensures { IfOk result (λ found. Finds (option_map import_view found)
         (NamesImportIn (legacy []) context.now name.now)) }
 {
     match after(name, "[async-lower]") {
-        Some(rest) => own_name_import(alloc, context, rest, true),
-        None => own_name_import(alloc, context, name, false),
+        Some(rest) => own_name_import(alloc, context, world_id, rest, true),
+        None => own_name_import(alloc, context, world_id, name, false),
     }
 }

@@ -165,6 +165,16 @@ impl NameMangling for Standard {
         Ok(None)
     }
 
+    fn payload_intrinsic_in_world(
+        &self,
+        _alloc: Global,
+        _context: &PayloadLookupContext<'_>,
+        _world_id: WorldId,
+        _name: &str,
+    ) -> Result<Option<Import>, AllocError> {
+        Ok(None)
+    }
+
     fn module_to_interface(
         &self,
         alloc: Global,

@@ -28,7 +28,7 @@ use Rattle.wc_names.specs.Keys.{item_under, key_eq}
 use Rattle.wc_names.specs.ExportViews.{ExportView}
 use Rattle.wc_validate.specs.declared.fault.ValidateFault.{ValidateFault}
 use Rattle.wc_validate.specs.declared.fault.ValidateFault.TheVariants.{Memory, MissingCallback, SeveralMemoryExports}
-use Rattle.wc_validate.specs.declared.name_scope.Names.{Names}
+use Rattle.wc_validate.specs.declared.names.Names.{Names}
 use Rattle.wc_validate.specs.declared.place.Place.{Place}
 use Rattle.wc_validate.specs.declared.place.Subject.{Subject}
 use Rattle.wc_validate.specs.declared.requirements.RequiredExports.{RequiredExports}

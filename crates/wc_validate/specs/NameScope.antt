@@ -12,7 +12,7 @@ use Rattle.wc_names.specs.InterfaceIndex.{InterfaceNamesView, interface_names_vi
 use Rattle.wc_names.specs.Interfaces.{InterfaceTexts, canonical_ids, full_ids}
 use Rattle.wc_validate.specs.declared.name_scope.Interfaces.{Interfaces}
 use Rattle.wc_validate.specs.declared.name_scope.Lookup.{Lookup}
-use Rattle.wc_validate.specs.declared.name_scope.Names.{Names}
+use Rattle.wc_validate.specs.declared.names.Names.{Names}
 use Rattle.wc_validate.specs.declared.name_scope.SchemeInterfaces.{SchemeInterfaces}
 
 -- the name of an adapter

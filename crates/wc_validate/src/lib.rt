@@ -34,6 +34,7 @@ mod imports;
 pub mod laws;
 mod name_fault;
 mod name_scope;
+mod names;
 mod place;
 mod prefixes;
 mod refused;

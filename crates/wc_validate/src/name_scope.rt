@@ -5,24 +5,12 @@ ghost use Rattle.wc_names.specs.Imports.{NameScope};
 ghost use Rattle.wc_names.specs.Interfaces.{InterfaceTexts, interface_texts};
 ghost use Rattle.wc_validate.specs.NameScope.{AreInterfacesBy, AreInterfacesOf, HasItsWorld, name_scope_of};
 
+use crate::names::Names;
 use std::alloc::{AllocError, Global};
-use wc_encoder::Adapter;
-use wc_maps::Map;
 use wc_names::{InterfaceNames, Legacy, NameIndexes, Standard};
-use wc_resolve::{Resolve, World};
 
 /// How many look-ups by walks over a world's keys take about as long as it takes to index them.
 pub(crate) const FEW_LOOKUPS: usize = 64;
-
-/// The scope of the names of a core module's imports: a world of a `Resolve`, and adapters by their names.
-#[derive(Drop)]
-pub(crate) struct Names<'a> {
-    pub(crate) resolve: &'a Resolve,
-    pub(crate) world: &'a World,
-    pub(crate) adapters: &'a Map<String, Adapter>,
-    pub(crate) reject_legacy_names: bool,
-    pub(crate) task_hook: &'a str,
-}
 
 /// The interfaces that a world imports and exports, by the texts of one scheme; `None` where they are not indexed.
 #[derive(Drop)]

@@ -19,7 +19,7 @@ use crate::ValidateFault;
 use crate::explain::functions::check_functions;
 use crate::explain::keys::{first_lacking, key_refusal};
 use crate::explain::missing::{callback_refusal, memory_refusal};
-use crate::name_scope::Names;
+use crate::names::Names;
 use crate::refused::RefusedModule;
 use crate::requirements::exported_functions::{
     FunctionNames, is_interface_recorded, is_recorded, names_of_functions,

@@ -3,12 +3,14 @@
 ghost use Rattle.std.specs.Prelude.{◌≡◌, ◌↔◌, Err, IfOk, IsTrue, Ok, Option, Some, false, map};
 ghost use Rattle.std.specs.List.{list_any};
 ghost use Rattle.wc_read.specs.Types.{FuncTypeValue, func_type_value, names_type, names_types};
-ghost use Rattle.wc_resolve.specs.Signature.{signature_view};
+ghost use Rattle.wc_resolve.specs.Flat.{flat_of};
+ghost use Rattle.wc_resolve.specs.Signature.{flatten_functype, signature_view};
 ghost use Rattle.wc_resolve.specs.Views.{function_view};
 ghost use Rattle.wc_resolve.specs.WellFormed.{IsUsable};
 ghost use Rattle.wc_names.specs.Builtins.{signature};
 ghost use Rattle.wc_names.specs.Exports.{post_return_type};
 ghost use Rattle.wc_names.specs.Imports.{function_type, signature_type, val_type};
+ghost use Rattle.wc_names.specs.Places.{IsPlaced, named_view};
 ghost use Rattle.wc_names.specs.Views.{import_view};
 ghost use Rattle.wc_validate.specs.Private.Imports.Builtins.{async_value_type, thread_type, IsCheckedAs, IsCheckedBy, IsMismatch, IsMismatchBy, IsTypeMismatch};
 ghost use Rattle.wc_validate.specs.Classifications.{IsTypeChecked};
@@ -16,7 +18,7 @@ ghost use Rattle.wc_validate.specs.Fault.{fault_kind};
 
 use crate::name_fault::NameFault;
 use std::alloc::{AllocError, Global};
-use wc_names::Import;
+use wc_names::{Import, NamedFunction};
 use wc_read::{FuncType, ValType};
 use wc_resolve::{AbiVariant, Function, Resolve, WasmSignature, WasmType};
 
@@ -292,7 +294,7 @@ fn has_signature(ty: &FuncType, core: &WasmSignature) -> bool
     are_val_types(&core.params, ty.params()) && are_val_types(&core.results, ty.results())
 }
 
-/// Whether the type of an import is the core type of a function, lowered so.
+/// Whether the type of an export is the core type of a function, lifted so.
 pub(crate) fn has_function_type(
     alloc: Global,
     resolve: &Resolve,
@@ -305,6 +307,44 @@ pub(crate) fn has_function_type(
         ≡ function_type resolve.now abi (function_view function.now))) }
 {
     let core = resolve.wasm_signature(alloc, abi, function)?;
+    Ok(has_signature(ty, &core))
+}
+
+/// The core signature of the function that a name is of, lowered so.
+fn named_signature(
+    alloc: Global,
+    resolve: &Resolve,
+    abi: AbiVariant,
+    named: NamedFunction<'_>,
+) -> Result<WasmSignature, AllocError>
+    requires usable { IsUsable resolve.now (named_view named) }
+    requires place { IsPlaced resolve.now named }
+    ensures { IfOk result (λ s. signature_view s ≡
+        flatten_functype (flat_of resolve.now.types) abi (named_view named.entry)) }
+{
+    match named.place {
+        Some(place) => match resolve.wasm_signature_at(alloc, abi, place)? {
+            Some(core) => Ok(core),
+            None => unreachable!(),
+        },
+        None => resolve.wasm_signature(alloc, abi, named.function),
+    }
+}
+
+/// Whether the type of an import is the core type of the function that its name is of, lowered so.
+pub(crate) fn has_named_type(
+    alloc: Global,
+    resolve: &Resolve,
+    abi: AbiVariant,
+    named: NamedFunction<'_>,
+    ty: &FuncType,
+) -> Result<bool, AllocError>
+    requires usable { IsUsable resolve.now (named_view named) }
+    requires place { IsPlaced resolve.now named }
+    ensures { IfOk result (λ b. IsTrue b ↔ (func_type_value ty.now
+        ≡ function_type resolve.now abi (named_view named.entry))) }
+{
+    let core = named_signature(alloc, resolve, abi, named)?;
     Ok(has_signature(ty, &core))
 }
 

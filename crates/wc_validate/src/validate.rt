@@ -24,7 +24,8 @@ use crate::imports::arguments::Arguments;
 use crate::imports::map::ImportMap;
 use crate::imports::record::{ImportContext, record_imports};
 use crate::laws::records_exclude_faults;
-use crate::name_scope::{Interfaces, Names};
+use crate::name_scope::Interfaces;
+use crate::names::Names;
 use crate::refused::RefusedModule;
 use crate::requirements::{RecordedModule, RequiredExports, check_exports};
 use std::alloc::{AllocError, Global};
@@ -66,6 +67,7 @@ fn names_of(encoder: &ComponentEncoder) -> Names<'_>
     Names {
         resolve: &metadata.resolve,
         world: metadata.resolve.world(metadata.world),
+        world_id: metadata.world,
         adapters: encoder.adapters(),
         reject_legacy_names: encoder.reject_legacy_names(),
         task_hook: encoder.task_hook(),

@@ -38,7 +38,7 @@ use Rattle.wc_validate.specs.declared.fault.AdapterModuleDidNotExport.{AdapterMo
 use Rattle.wc_validate.specs.declared.fault.ValidateFault.{ValidateFault}
 use Rattle.wc_validate.specs.declared.fault.ValidateFault.TheVariants.{AdapterModuleDidNotExport, AdapterTypesDiffer, Memory, MissingCallback, NotAModule, Read, SeveralMemoryExports, SignatureMismatch}
 use Rattle.wc_validate.specs.declared.imports.record.ImportContext.{ImportContext}
-use Rattle.wc_validate.specs.declared.name_scope.Names.{Names}
+use Rattle.wc_validate.specs.declared.names.Names.{Names}
 use Rattle.wc_validate.specs.declared.place.Place.{Place}
 use Rattle.wc_validate.specs.declared.place.Subject.{Subject}
 use Rattle.wc_validate.specs.declared.requirements.RequiredExports.{RequiredExports}

@@ -15,7 +15,7 @@ use Rattle.wc_names.specs.declared.exports.Export.{Export}
 use Rattle.wc_names.specs.Imports.{NameScope}
 use Rattle.wc_validate.specs.declared.fault.ValidateFault.{ValidateFault}
 use Rattle.wc_validate.specs.declared.requirements.RequiredExports.{RequiredExports as CodeExports}
-use Rattle.wc_validate.specs.declared.name_scope.Names.{Names}
+use Rattle.wc_validate.specs.declared.names.Names.{Names}
 use Rattle.wc_validate.specs.Exports.Map.{export_entry, ExportRecord}
 use Rattle.wc_validate.specs.Imports.Map.{required_entry}
 use Rattle.wc_validate.specs.Exports.Record.{exports_in}

@@ -9,7 +9,7 @@ ghost use Rattle.wc_validate.specs.Private.Requirements.{AreKeysNamed, HasItemsI
 ghost use Rattle.wc_validate.specs.Requirements.{interface_functions};
 
 use crate::ValidateFault;
-use crate::name_scope::Names;
+use crate::names::Names;
 use crate::place::{Place, Subject};
 use crate::refused::{RefusedModule, is_memory};
 use crate::requirements::check_key;

@@ -10,7 +10,7 @@ ghost use Rattle.wc_validate.specs.NameScope.{HasItsWorld, name_scope_of};
 
 use crate::externs::Extern;
 use crate::name_fault::NameFault;
-use crate::name_scope::Names;
+use crate::names::Names;
 use crate::prefixes::STANDARD_MARKER;
 use crate::signatures::{
     checked, function_mismatch, has_function_type, has_post_return_type, post_return_mismatch,

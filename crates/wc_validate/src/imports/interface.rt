@@ -12,7 +12,8 @@ ghost use Rattle.wc_validate.specs.NameScope.{HasInterfaces, HasItsWorld, lookup
 use crate::imports::intrinsics::{exported_intrinsic, imported_intrinsic, lowered_function};
 use crate::imports::items::ImportedFunction;
 use crate::name_fault::NameFault;
-use crate::name_scope::{Lookup, Names};
+use crate::name_scope::Lookup;
+use crate::names::{ContextInWorld, Names};
 use std::alloc::{AllocError, Global};
 use wc_maps::Map;
 use wc_names::{Import, InterfaceNames, NameMangling, PayloadLookupContext};
@@ -79,12 +80,15 @@ fn exported_item<N: NameMangling>(
     ensures { IsDecidedAsExport (N.scheme scheme.now) names.now found function.entry result }
 {
     names.resolve.well_formedness();
-    let context = PayloadLookupContext {
-        resolve: names.resolve,
-        world: names.world,
-        id: Some(found.id),
-        imported: false,
-        key: Some(found.key),
+    let context = ContextInWorld {
+        lookup: PayloadLookupContext {
+            resolve: names.resolve,
+            world: names.world,
+            id: Some(found.id),
+            imported: false,
+            key: Some(found.key),
+        },
+        world_id: names.world_id,
     };
     match exported_intrinsic(scheme, alloc, &context, function.name, function.ty)? {
         Some(import) => Ok(import),
@@ -131,12 +135,15 @@ fn imported_item<N: NameMangling>(
     ensures { IsDecidedAsImport (N.scheme scheme.now) names.now found function.entry result }
 {
     names.resolve.well_formedness();
-    let context = PayloadLookupContext {
-        resolve: names.resolve,
-        world: names.world,
-        id: Some(found.id),
-        imported: true,
-        key: Some(found.key),
+    let context = ContextInWorld {
+        lookup: PayloadLookupContext {
+            resolve: names.resolve,
+            world: names.world,
+            id: Some(found.id),
+            imported: true,
+            key: Some(found.key),
+        },
+        world_id: names.world_id,
     };
     let (function_name, abi) = scheme.interface_function_name_and_abi(function.name);
     match lowered_function(alloc, &context, function_name, abi, function.ty)? {

@@ -11,7 +11,8 @@ ghost use Rattle.wc_validate.specs.Private.Imports.Intrinsics.{has_result, opera
 
 use crate::imports::lookups::{function_named, resource_named, scope_key};
 use crate::name_fault::NameFault;
-use crate::signatures::{checked, checked_async_value, function_mismatch, has_function_type};
+use crate::names::ContextInWorld;
+use crate::signatures::{checked, checked_async_value, function_mismatch, has_named_type};
 use std::alloc::{AllocError, Global};
 use wc_names::{Import, NameMangling, PayloadLookupContext};
 use wc_read::{FuncType, ValType};
@@ -47,22 +48,24 @@ fn function_import(
 /// The function that a name is of, lowered so.
 pub(crate) fn lowered_function(
     alloc: Global,
-    context: &PayloadLookupContext<'_>,
+    context: &ContextInWorld<'_>,
     name: &str,
     abi: AbiVariant,
     ty: &FuncType,
 ) -> Result<Option<Import>, NameFault>
-    requires { IsContextFormed context.now }
-    ensures { IsClassifiedBy (MeansFunction (lookup_scope context.now) name.now abi) ty.now result }
+    requires { IsContextFormed context.now.lookup }
+    ensures { IsClassifiedBy (MeansFunction (lookup_scope context.now.lookup) name.now abi) ty.now
+        result }
 {
-    context.resolve.well_formedness();
-    let Some(function) = function_named(alloc, context, name)? else {
+    let lookup = &context.lookup;
+    lookup.resolve.well_formedness();
+    let Some(named) = lookup.named_function(alloc, Some(context.world_id), name)? else {
         return Ok(None);
     };
-    if !has_function_type(alloc, context.resolve, abi, function, ty)? {
-        return Err(function_mismatch(alloc, context.resolve, abi, function)?);
+    if !has_named_type(alloc, lookup.resolve, abi, named, ty)? {
+        return Err(function_mismatch(alloc, lookup.resolve, abi, named.function)?);
     }
-    Ok(Some(function_import(alloc, context, name, function, abi)?))
+    Ok(Some(function_import(alloc, lookup, name, named.function, abi)?))
 }
 
 /// The import of an operation on a resource.
@@ -219,16 +222,16 @@ fn task_cancel<N: NameMangling>(
 fn async_value<N: NameMangling>(
     scheme: &N,
     alloc: Global,
-    context: &PayloadLookupContext<'_>,
+    context: &ContextInWorld<'_>,
     name: &str,
     ty: &FuncType,
 ) -> Result<Option<Import>, NameFault>
-    requires { IsContextFormed context.now }
-    ensures { IsIntrinsicOf (N.scheme scheme.now) context.now of_async_value name.now ty.now
+    requires { IsContextFormed context.now.lookup }
+    ensures { IsIntrinsicOf (N.scheme scheme.now) context.now.lookup of_async_value name.now ty.now
         result }
 {
-    context.resolve.well_formedness();
-    match scheme.payload_intrinsic(alloc, context, name)? {
+    context.lookup.resolve.well_formedness();
+    match scheme.payload_intrinsic_in_world(alloc, &context.lookup, context.world_id, name)? {
         Some(import) => checked_async_value(alloc, import, ty),
         None => Ok(None),
     }
@@ -238,15 +241,15 @@ fn async_value<N: NameMangling>(
 pub(crate) fn imported_intrinsic<N: NameMangling>(
     scheme: &N,
     alloc: Global,
-    context: &PayloadLookupContext<'_>,
+    context: &ContextInWorld<'_>,
     name: &str,
     ty: &FuncType,
 ) -> Result<Option<Import>, NameFault>
-    requires { IsContextFormed context.now }
-    ensures { IsIntrinsicAmong (N.scheme scheme.now) context.now
+    requires { IsContextFormed context.now.lookup }
+    ensures { IsIntrinsicAmong (N.scheme scheme.now) context.now.lookup
         (wit_intrinsics true) name.now ty.now result }
 {
-    match resource_drop(scheme, alloc, context, name, ty)? {
+    match resource_drop(scheme, alloc, &context.lookup, name, ty)? {
         Some(dropped) => Ok(Some(dropped)),
         None => async_value(scheme, alloc, context, name, ty),
     }
@@ -256,15 +259,15 @@ pub(crate) fn imported_intrinsic<N: NameMangling>(
 fn task_intrinsic<N: NameMangling>(
     scheme: &N,
     alloc: Global,
-    context: &PayloadLookupContext<'_>,
+    context: &ContextInWorld<'_>,
     name: &str,
     ty: &FuncType,
 ) -> Result<Option<Import>, NameFault>
-    requires { IsContextFormed context.now }
-    ensures { IsIntrinsicAmong (N.scheme scheme.now) context.now task_intrinsics name.now ty.now
-        result }
+    requires { IsContextFormed context.now.lookup }
+    ensures { IsIntrinsicAmong (N.scheme scheme.now) context.now.lookup task_intrinsics name.now
+        ty.now result }
 {
-    match task_return(scheme, alloc, context, name, ty)? {
+    match task_return(scheme, alloc, &context.lookup, name, ty)? {
         Some(returned) => Ok(Some(returned)),
         None => match task_cancel(scheme, alloc, name, ty)? {
             Some(cancelled) => Ok(Some(cancelled)),
@@ -277,19 +280,19 @@ fn task_intrinsic<N: NameMangling>(
 pub(crate) fn exported_intrinsic<N: NameMangling>(
     scheme: &N,
     alloc: Global,
-    context: &PayloadLookupContext<'_>,
+    context: &ContextInWorld<'_>,
     name: &str,
     ty: &FuncType,
 ) -> Result<Option<Import>, NameFault>
-    requires { IsContextFormed context.now }
-    ensures { IsIntrinsicAmong (N.scheme scheme.now) context.now
+    requires { IsContextFormed context.now.lookup }
+    ensures { IsIntrinsicAmong (N.scheme scheme.now) context.now.lookup
         (wit_intrinsics false) name.now ty.now result }
 {
-    match resource_drop(scheme, alloc, context, name, ty)? {
+    match resource_drop(scheme, alloc, &context.lookup, name, ty)? {
         Some(dropped) => Ok(Some(dropped)),
-        None => match resource_new(scheme, alloc, context, name, ty)? {
+        None => match resource_new(scheme, alloc, &context.lookup, name, ty)? {
             Some(made) => Ok(Some(made)),
-            None => match resource_rep(scheme, alloc, context, name, ty)? {
+            None => match resource_rep(scheme, alloc, &context.lookup, name, ty)? {
                 Some(represented) => Ok(Some(represented)),
                 None => task_intrinsic(scheme, alloc, context, name, ty),
             },

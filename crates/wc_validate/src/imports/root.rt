@@ -10,7 +10,7 @@ use crate::imports::builtins::root_builtin;
 use crate::imports::intrinsics::{imported_intrinsic, lowered_function};
 use crate::imports::lookups::is_imported;
 use crate::name_fault::NameFault;
-use crate::name_scope::Names;
+use crate::names::{ContextInWorld, Names};
 use std::alloc::{AllocError, Global};
 use wc_names::{Import, NameMangling, PayloadLookupContext};
 use wc_read::FuncType;
@@ -28,12 +28,15 @@ fn root_function<N: NameMangling>(
         (name_scope_of names.now) root_function name.now ty.now result }
 {
     let (function_name, abi) = scheme.world_key_name_and_abi(name);
-    let context = PayloadLookupContext {
-        resolve: names.resolve,
-        world: names.world,
-        id: None,
-        imported: true,
-        key: None,
+    let context = ContextInWorld {
+        lookup: PayloadLookupContext {
+            resolve: names.resolve,
+            world: names.world,
+            id: None,
+            imported: true,
+            key: None,
+        },
+        world_id: names.world_id,
     };
     lowered_function(alloc, &context, function_name, abi, ty)
 }
@@ -66,12 +69,15 @@ fn root_other<N: NameMangling>(
     ensures { IsDecidedInRoot (N.scheme scheme.now)
         (name_scope_of names.now) other_root_kinds name.now ty.now result }
 {
-    let context = PayloadLookupContext {
-        resolve: names.resolve,
-        world: names.world,
-        id: None,
-        imported: true,
-        key: None,
+    let context = ContextInWorld {
+        lookup: PayloadLookupContext {
+            resolve: names.resolve,
+            world: names.world,
+            id: None,
+            imported: true,
+            key: None,
+        },
+        world_id: names.world_id,
     };
     match imported_intrinsic(scheme, alloc, &context, name, ty)? {
         Some(import) => Ok(import),

@@ -12,7 +12,8 @@ use crate::imports::intrinsics::exported_intrinsic;
 use crate::imports::items::ImportedFunction;
 use crate::imports::root::root_import;
 use crate::name_fault::NameFault;
-use crate::name_scope::{Interfaces, Lookup, Names};
+use crate::name_scope::{Interfaces, Lookup};
+use crate::names::{ContextInWorld, Names};
 use crate::prefixes::STANDARD_MARKER;
 use std::alloc::Global;
 use wc_names::{Import, Legacy, NameMangling, PayloadLookupContext, Standard};
@@ -38,12 +39,15 @@ fn export_root<N: NameMangling>(
     if rest != scheme.import_root() {
         return Ok(None);
     }
-    let context = PayloadLookupContext {
-        resolve: names.resolve,
-        world: names.world,
-        id: None,
-        imported: false,
-        key: None,
+    let context = ContextInWorld {
+        lookup: PayloadLookupContext {
+            resolve: names.resolve,
+            world: names.world,
+            id: None,
+            imported: false,
+            key: None,
+        },
+        world_id: names.world_id,
     };
     exported_intrinsic(scheme, alloc, &context, function.name, function.ty)
 }

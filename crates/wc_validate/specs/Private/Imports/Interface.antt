@@ -11,7 +11,7 @@ use Rattle.wc_names.specs.Finds.{Finds}
 use Rattle.wc_names.specs.declared.imports.Import.{Import}
 use Rattle.wc_validate.specs.declared.imports.items.ImportedFunction.{ImportedFunction}
 use Rattle.wc_validate.specs.Private.Imports.Functions.{IsDecidedInExport, IsDecidedInImport}
-use Rattle.wc_validate.specs.declared.name_scope.Names.{Names}
+use Rattle.wc_validate.specs.declared.names.Names.{Names}
 use Rattle.wc_validate.specs.Private.Imports.Kinds.{NamesExport, NamesImport}
 use Rattle.wc_validate.specs.declared.name_fault.NameFault.{NameFault}
 use Rattle.std.specs.Option.{option_map}

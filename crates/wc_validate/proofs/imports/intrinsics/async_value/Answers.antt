@@ -11,9 +11,9 @@ use Rattle.wc_validate.proofs.StageLemmas.{failed}
 use Rattle.wc_validate.specs.Classifications.{of_imports}
 use Rattle.wc_validate.proofs.imports.intrinsics.async_value.Goals as goal
 
-pub payload_intrinsic-requires-clause-world : goal.payload_intrinsic-requires-clause-world
-payload_intrinsic-requires-clause-world g c =
-    world_in_range c.args.context.now.resolve.now c.requires.index (world_view c.args.context.now.world.now) c.well_formedness.ensures c.requires.is_world
+pub payload_intrinsic_in_world-requires-clause-world : goal.payload_intrinsic_in_world-requires-clause-world
+payload_intrinsic_in_world-requires-clause-world g c =
+    world_in_range c.args.context.now.lookup.resolve.now c.requires.index (world_view c.args.context.now.lookup.world.now) c.well_formedness.ensures c.requires.is_world
 
 pub returns-in_err-import : goal.returns-in_err-import
 returns-in_err-import g c = failed _ _ _ c.from_residual.ensures.1

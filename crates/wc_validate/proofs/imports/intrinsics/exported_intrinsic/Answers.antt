@@ -11,21 +11,21 @@ use Rattle.wc_validate.proofs.imports.intrinsics.exported_intrinsic.Goals as goa
 
 pub returns-in_err-dropped : goal.returns-in_err-dropped
 returns-in_err-dropped g c =
-    let H = IsIntrinsic (g.N.NameMangling.scheme c.args.scheme.now) (lookup_scope c.args.context.now) c.args.name.now in
+    let H = IsIntrinsic (g.N.NameMangling.scheme c.args.scheme.now) (lookup_scope c.args.context.now.lookup) c.args.name.now in
     (stage_err H (of_resource resource_drop)
     (of_resource resource_new ∷ of_resource resource_rep ∷ task_return ∷ no_task_return ∷ task_cancel ∷ of_async_value ∷ [])
     _ _ _ c.from_residual.ensures.1 c.in_err-dropped.ensures)
 
 pub returns-in-Some : goal.returns-in-Some
 returns-in-Some g c =
-    let H = IsIntrinsic (g.N.NameMangling.scheme c.args.scheme.now) (lookup_scope c.args.context.now) c.args.name.now in
+    let H = IsIntrinsic (g.N.NameMangling.scheme c.args.scheme.now) (lookup_scope c.args.context.now.lookup) c.args.name.now in
     (classified_some of_imports fault_kind H (of_resource resource_drop)
     (of_resource resource_new ∷ of_resource resource_rep ∷ task_return ∷ no_task_return ∷ task_cancel ∷ of_async_value ∷ []) _ _
     (rw c.in-Some.is at c.in_ok-dropped.ensures) refl)
 
 pub returns-in_err-made-in-None : goal.returns-in_err-made-in-None
 returns-in_err-made-in-None g c =
-    let H = IsIntrinsic (g.N.NameMangling.scheme c.args.scheme.now) (lookup_scope c.args.context.now) c.args.name.now in
+    let H = IsIntrinsic (g.N.NameMangling.scheme c.args.scheme.now) (lookup_scope c.args.context.now.lookup) c.args.name.now in
     (classified_none of_imports fault_kind H (of_resource resource_drop)
     (of_resource resource_new ∷ of_resource resource_rep ∷ task_return ∷ no_task_return ∷ task_cancel ∷ of_async_value ∷ []) _ _ _
     (rw c.in-None.is at c.in_ok-dropped.ensures) refl
@@ -34,7 +34,7 @@ returns-in_err-made-in-None g c =
 
 pub returns-in-Some-2 : goal.returns-in-Some-2
 returns-in-Some-2 g c =
-    let H = IsIntrinsic (g.N.NameMangling.scheme c.args.scheme.now) (lookup_scope c.args.context.now) c.args.name.now in
+    let H = IsIntrinsic (g.N.NameMangling.scheme c.args.scheme.now) (lookup_scope c.args.context.now.lookup) c.args.name.now in
     (classified_none of_imports fault_kind H (of_resource resource_drop)
     (of_resource resource_new ∷ of_resource resource_rep ∷ task_return ∷ no_task_return ∷ task_cancel ∷ of_async_value ∷ []) _ _ _
     (rw c.in-None.is at c.in_ok-dropped.ensures) refl
@@ -44,7 +44,7 @@ returns-in-Some-2 g c =
 
 pub returns-in_err-represented-in-None-2 : goal.returns-in_err-represented-in-None-2
 returns-in_err-represented-in-None-2 g c =
-    let H = IsIntrinsic (g.N.NameMangling.scheme c.args.scheme.now) (lookup_scope c.args.context.now) c.args.name.now in
+    let H = IsIntrinsic (g.N.NameMangling.scheme c.args.scheme.now) (lookup_scope c.args.context.now.lookup) c.args.name.now in
     (classified_none of_imports fault_kind H (of_resource resource_drop)
     (of_resource resource_new ∷ of_resource resource_rep ∷ task_return ∷ no_task_return ∷ task_cancel ∷ of_async_value ∷ []) _ _ _
     (rw c.in-None.is at c.in_ok-dropped.ensures) refl
@@ -56,7 +56,7 @@ returns-in_err-represented-in-None-2 g c =
 
 pub returns-in-Some-3 : goal.returns-in-Some-3
 returns-in-Some-3 g c =
-    let H = IsIntrinsic (g.N.NameMangling.scheme c.args.scheme.now) (lookup_scope c.args.context.now) c.args.name.now in
+    let H = IsIntrinsic (g.N.NameMangling.scheme c.args.scheme.now) (lookup_scope c.args.context.now.lookup) c.args.name.now in
     (classified_none of_imports fault_kind H (of_resource resource_drop)
     (of_resource resource_new ∷ of_resource resource_rep ∷ task_return ∷ no_task_return ∷ task_cancel ∷ of_async_value ∷ []) _ _ _
     (rw c.in-None.is at c.in_ok-dropped.ensures) refl
@@ -68,7 +68,7 @@ returns-in-Some-3 g c =
 
 pub returns-in-None-3 : goal.returns-in-None-3
 returns-in-None-3 g c =
-    let H = IsIntrinsic (g.N.NameMangling.scheme c.args.scheme.now) (lookup_scope c.args.context.now) c.args.name.now in
+    let H = IsIntrinsic (g.N.NameMangling.scheme c.args.scheme.now) (lookup_scope c.args.context.now.lookup) c.args.name.now in
     (classified_none of_imports fault_kind H (of_resource resource_drop)
     (of_resource resource_new ∷ of_resource resource_rep ∷ task_return ∷ no_task_return ∷ task_cancel ∷ of_async_value ∷ []) _ _ _
     (rw c.in-None.is at c.in_ok-dropped.ensures) refl
