@@ -38,8 +38,9 @@ REACHED = {
         "ExportNames::function=match_wit_export Import::clone=env_import InterfaceNames::interface=interface_names "
         "NameIndexes::export_names=validated_exports NameIndexes::interface_names NameMangling::match_wit_export "
         "NameMangling::match_wit_resource_dtor NameMangling::module_to_interface NameMangling::payload_intrinsic "
-        "PayloadInfo::clone=payload_infos PayloadLookupContext::function=payload_lookup "
-        "PayloadLookupContext::key_of=payload_lookup PayloadLookupContext::resource=payload_lookup "
+        "NameMangling::payload_intrinsic_in_world=classify PayloadInfo::clone=payload_infos "
+        "PayloadLookupContext::function=payload_lookup PayloadLookupContext::key_of=payload_lookup "
+        "PayloadLookupContext::named_function=classify PayloadLookupContext::resource=payload_lookup "
         "PayloadType::clone=payload_infos",
     "wc_plan": "plan plan_encoder=plan write_plan=plan",
     "wcplan_command":
@@ -59,7 +60,7 @@ REACHED = {
         "PackageName::clone=package_name_clone PackageName::version_compat_track "
         "Resolve::build=resolve_build Resolve::build_explained=wcplan Resolve::canonicalized_id_of "
         "Resolve::external_id_value Resolve::id_of Resolve::interface_direct_deps Resolve::name_world_key "
-        "Resolve::wasm_signature WorldKey::clone=key_clone explain_parts=wcplan",
+        "Resolve::wasm_signature Resolve::wasm_signature_at=classify WorldKey::clone=key_clone explain_parts=wcplan",
     "wc_selection":
         "AdapterKeys::new=wcplan AdapterKeys::required=wcplan KeyIndex::keys_under=world_into KeyIndex::new=world_into "
         "MainModule::new=wcplan check_keys=wcplan export_keys=wcplan first_missing=wcplan first_repeated=wcplan "
@@ -79,7 +80,8 @@ REACHED = {
         "validate_module validate_module_explained=validate_module",
     "wc_world":
         "ComponentWorld::new=component_world ComponentWorld::new_explained=component_world "
-        "ImportOptions::for_import=plain_options explain=wcplan required_exports=component_world",
+        "ImportOptions::for_import=plain_options adapter_refusal=component_world explain=wcplan "
+        "main_refusal=component_world required_exports=component_world",
     "wc_write":
         "BodyText::put=write_module append_import_section append_locals=allocate_stack_via_realloc "
         "append_operator=allocate_stack_via_realloc append_raw_section raw_section write_body write_import_section "

@@ -6,12 +6,9 @@ use Rattle.wc_adapters.specs.Adapters.{AdapterView}
 use Rattle.wc_resolve.specs.Views.{WorldView, key_view}
 use Rattle.wc_resolve.specs.Kinds.{ResolveView}
 use Rattle.wc_selection.specs.KeyIndex.{keys_under}
-use Rattle.wc_selection.specs.KeyNames.{indexed_keys, keys_as_given, keys_by_index}
 use Rattle.wc_selection.specs.Keys.{NamedKey, export_keys, named_key, named_keys, texts_of}
 use Rattle.wc_selection.specs.ModuleKeys.{AreKeysThere}
 use Rattle.wc_selection.specs.Requests.{RequestValue, given_keys}
-use Rattle.wc_selection.specs.declared.fault.RequestFault.{RequestFault}
-use Rattle.wc_selection.specs.declared.fault.RequestFault.TheVariants as request
 use Rattle.wc_json.specs.Messages.{AdapterMessageView, KeyMessageView}
 use Rattle.wc_selection.proofs.KeyIndexLemmas.{own_required}
 use Rattle.wc_calls.specs.AskedKeys.{adapter_keys, adapter_request, adapter_texts, key_texts, keys_in, main_texts, request_of}
@@ -31,11 +28,6 @@ none_at (x ∷ xs) (suc i) past = none_at xs i (λ lt. past (omega arith))
 
 pub no_exports : (r : ResolveView) (world : ℕ) → (world < length r.worlds → ⊥) → export_keys r world ≡ []
 no_exports r world past = ap (λ (w : Option WorldView). option_map_or (λ (w : WorldView). named_keys r w.exports) w []) (none_at r.worlds world past)
-
-pub no_keys : (q : RequestValue) (r : ResolveView) (world : ℕ) → (world < length r.worlds → ⊥) → indexed_keys q r world ≡ []
-no_keys q r world past = ap (λ (ks : List NamedKey). keys_by_index (given_keys q) (keys_as_given (given_keys q) ks)) (no_exports r world past)
-
--- faults of keys
 
 -- why there are no exporters
 

@@ -1,5 +1,5 @@
 -- What the call that makes a component's world answers.
-use Rattle.std.proofs.Common.{◌≡◌, ◌≢◌, ◌⊎◌, ◌++◌, ◌≤◌, ◌<◌, ℕ, List, Result, Ok, Err, IfOk, IfErr, length, sym, subst, ap, inl, inr, arith}
+use Rattle.std.proofs.Common.{◌≡◌, ◌≢◌, ◌⊎◌, ◌++◌, ◌≤◌, ◌<◌, ℕ, List, Result, Ok, Err, IfOk, length, sym, subst, ap, inl, inr, arith}
 use Rattle.wc_encoder.specs.EncoderParts.{EncoderView}
 use Rattle.wc_record.specs.Texts.{world_text}
 use Rattle.wc_world.specs.Causes.{IsComponentWorldCause, IsMemory}
@@ -14,12 +14,10 @@ use Rattle.wc_calls.specs.Encoders.{AreOptionsOf, IsEncoderOf}
 use Rattle.wc_calls.specs.MessageFault.{of_world}
 use Rattle.wc_calls.specs.Private.EncoderAnswers.{IsAnswerFor, IsFaultFor}
 use Rattle.wc_calls.specs.declared.component_worlds.WorldAnswer.{WorldAnswer}
-use Rattle.wc_calls.specs.declared.message_fault.MessageFault.{MessageFault}
-use Rattle.wc_calls.specs.declared.message_fault.MessageFault.TheVariants.{Memory}
 
 -- what is answered for an encoder and options, of which this is the component's world
 
-pub answered_for : (options : OptionsOf) (e : EncoderView) (w : ComponentWorldView) (r : Result WorldAnswer MessageFault) → IsWorldOf options e w
+pub answered_for : {A : Type 0} (options : OptionsOf) (e : EncoderView) (w : ComponentWorldView) (r : Result WorldAnswer A) → IsWorldOf options e w
     → IfOk r (λ a. a.modules.items ≡ modules_text w) → IfOk r (λ a. a.json.items ≡ world_text w)
     → IfOk r (λ a. IsAnswerFor options e (length a.modules.items) (a.modules.items ++ a.json.items))
 answered_for options e w (Ok a) made modules json = record {
@@ -28,11 +26,7 @@ answered_for options e w (Ok a) made modules json = record {
   size = ap length modules;
   whole = (λ i. modules i ++ json i);
 }
-answered_for options e w (Err f) made modules json = tt
-
-pub memory_for : (e : EncoderView) (r : Result WorldAnswer MessageFault) → IfErr r (λ f. f ≡ Memory) → IfErr r (IsFaultFor e)
-memory_for e (Ok a) is = tt
-memory_for e (Err f) is = subst (IsFaultFor e) (sym is) tt
+answered_for options e w (Err x) made modules json = tt
 
 -- and the fault, where there is none
 pub world_fault_for : (e : EncoderView) (f : WorldFault) → IsMemory e f ⊎ IsComponentWorldCause e f → IsFaultFor e (of_world f)

@@ -11,3 +11,4 @@ mod ModuleLemmas
 mod OptionTableLemmas
 mod PlaceLemmas
 mod PlannedWorldLemmas
+mod RefusedComponentLemmas

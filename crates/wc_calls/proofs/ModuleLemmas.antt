@@ -1,42 +1,68 @@
 -- One module of an encoder: what is answered for it.
-use Rattle.std.proofs.Common.{◌≡◌, ◌≢◌, ℕ, List, map, Option, Some, None, Result, Ok, Err, IfOk, String, string_bytes, ap, sym, subst}
+use Rattle.std.proofs.Common.{◌≡◌, ◌≢◌, ℕ, List, map, Option, Some, None, Result, Ok, Err, IfOk, String, string_bytes, ap, false, sym, subst, ◌∙◌}
+use Rattle.std.proofs.lemmas.Bool.{false≢true}
 use Rattle.std.specs.Map.{lookup}
 use Rattle.std.specs.Option.{option_map}
 use Rattle.std.specs.Str.{bytes_eq}
 use Rattle.std.specs.declared.alloc.AllocError.{AllocError}
 use Rattle.std.specs.declared.alloc.Global.{Global}
-use Rattle.std.specs.declared.vec.Vec.{Vec}
 use Rattle.wc_dedupe.specs.Renaming.{RenameView}
 use Rattle.wc_adapters.specs.Adapters.{LibraryView, adapter_view, library_view}
 use Rattle.wc_encoder.specs.EncoderParts.{EncoderView}
 use Rattle.wc_resolve.specs.Views.{key_view}
 use Rattle.wc_validate.specs.Imports.Map.{required_entry, required_in}
-use Rattle.wc_validate.specs.Explain.{IsExplained, IsUnplaced}
+use Rattle.wc_validate.specs.Explain.{IsPlace}
+use Rattle.wc_validate.specs.Refused.{HasNoPlace, IsRefusedAt}
 use Rattle.wc_validate.specs.Validate.{IsValidateCause, IsRecordOf, ModuleRecord, ValidationInput, adapter_input, main_input}
 use Rattle.wc_validate.specs.declared.fault.ValidateFault.{ValidateFault}
-use Rattle.wc_validate.specs.declared.fault.ValidateFault.TheVariants as validate
-use Rattle.wc_validate.specs.declared.place.Place.{Place}
+use Rattle.wc_validate.specs.declared.refused.RefusedModule.{RefusedModule}
 use Rattle.wc_world.specs.Trimming.{validation_input_of}
 use Rattle.wc_world.specs.Causes.{IsRefused}
-use Rattle.wc_world.specs.Places.{IsIn, IsValidationPlace}
+use Rattle.wc_world.specs.Places.{IsInAdapter, IsValidationPlace}
+use Rattle.wc_world.specs.Refused.{IsAdapterRefusal, IsMainRefusal, IsMemoryRefusal}
 use Rattle.wc_world.specs.World.{IsMainRecord}
 use Rattle.wc_world.specs.declared.fault.WorldFault.TheVariants.{Main, Adapter}
 use Rattle.wc_world.specs.declared.places.ModulePlace.TheVariants as place
 use Rattle.wc_world.specs.declared.places.WorldPlace.{WorldPlace}
+use Rattle.wc_world.specs.declared.refused.RefusedWorld.{RefusedWorld}
+use Rattle.wc_world.proofs.RefusedLemmas.{main_placed, main_refusal_of, named_refusal, placed}
 use Rattle.wc_record.specs.Places.{part_json, world_place_json}
 use Rattle.wc_calls.specs.Encoders.{IsEncoderOf}
 use Rattle.wc_calls.specs.FaultAnswers.{IsFaultAnswered}
-use Rattle.wc_calls.specs.MessageFault.{IsNoEncoderCause}
+use Rattle.wc_calls.specs.MemoryFaults.{is_memory, validate_is_memory}
+use Rattle.wc_calls.specs.MessageFault.{IsNoEncoderCause, of_world}
 use Rattle.wc_calls.specs.Places.{IsPlaceOf, place_text}
-use Rattle.wc_calls.specs.Private.ModuleAnswers.{IsInputPlace, IsInputPlaceText, IsInputRefused, IsInputValid, IsModuleFault, IsModulePlaceFor, input_of}
+use Rattle.wc_calls.specs.Private.EncoderAnswers.{IsPlaceFor}
+use Rattle.wc_calls.specs.Private.ModuleAnswers.{IsInputCause, IsInputFault, IsInputPlace, IsInputPlaceFor, IsInputRefusal, IsInputValid, IsMainCause, IsModuleFault, IsModulePlaceFor, input_of}
+use Rattle.wc_calls.specs.Private.RefusedComponent.{IsOfWorld, IsPlacedFor, refusal_text}
 use Rattle.wc_calls.specs.Private.RefusedMessage.{IsNoEncoder}
 use Rattle.wc_calls.specs.Validation.{IsAdapterPlace, IsAdapterRefused, IsModuleRefused, IsModuleValid, IsUnder, IsValidationCause, IsValidationPlaceOf}
 use Rattle.wc_calls.specs.declared.answers.Answer.{Answer}
 use Rattle.wc_calls.specs.declared.message_fault.MessageFault.{MessageFault}
 use Rattle.wc_calls.specs.declared.message_fault.MessageFault.TheVariants.{Memory, Plan, World}
+use Rattle.wc_calls.specs.declared.refused_component.RefusedComponent.{RefusedComponent}
 use Rattle.wc_calls.specs.declared.refused_message.RefusedMessage.{RefusedMessage}
 use Rattle.wc_calls.specs.declared.validation.AdapterInput.{AdapterInput}
 use Rattle.wc_calls.proofs.FaultAnswerLemmas.{answered_as, answered_by, part_place}
+use Rattle.wc_calls.proofs.RefusedComponentLemmas.{refusal_answered, refused_as, refused_fault, refused_placed}
+
+-- the refusal of an adapter or a library: an allocation failed; or its fault, and the place of that
+input_memory : (g : AdapterInput) (r : RefusedWorld) (x : RefusedComponent) → IsMemoryRefusal r → IsOfWorld r x → IsInputRefusal g x
+input_memory g r x memory passed_on =
+    let none = subst (λ f. IsInputCause g (of_world f) None) (sym memory.0) tt in
+    refused_as (IsInputCause g) r.fault r.place x (λ _. tt) (subst (λ o. IfOk o (IsInputCause g (of_world r.fault))) (sym memory.1) none) passed_on
+
+placed_fault : (g : AdapterInput) (s : String Global) (f : ValidateFault) (found : Result (Option WorldPlace) AllocError) → string_bytes s ≡ g.name.now
+    → IsValidateCause (input_of g) g.adapter.now.wasm.items f → IfOk found (IsInputPlace g f) → IfOk found (IsInputCause g (World (Adapter s f)))
+placed_fault g s f (Ok p) named h at = (named, h, at)
+placed_fault g s f (Err e) named h at = tt
+
+input_named : (g : AdapterInput) (f : ValidateFault) (r : RefusedWorld) (x : RefusedComponent) (s : String Global) → string_bytes s ≡ g.name.now
+    → r.fault ≡ Adapter s f → IsValidateCause (input_of g) g.adapter.now.wasm.items f → IfOk r.place (IsInputPlace g f) → IsOfWorld r x
+    → IsInputRefusal g x
+input_named g f r x s named same h at passed_on =
+    let known = placed_fault g s f r.place named h at in
+    refused_as (IsInputCause g) r.fault r.place x (λ _. tt) (subst (λ z. IfOk r.place (IsInputCause g (of_world z))) (sym same) known) passed_on
 
 -- what an adapter or a library is validated for, by what the code has for it
 module _ (g : AdapterInput) (library : Option LibraryView) (own : library ≡ option_map library_view g.adapter.now.library_info) where
@@ -53,34 +79,18 @@ module _ (g : AdapterInput) (library : Option LibraryView) (own : library ≡ op
   unfolding passed
   input_recorded bytes r is h = (r, subst (λ b. IsRecordOf (input_of g) b r) is (subst (λ j. IsRecordOf j bytes r) passed_input h))
 
-  pub input_refused : (bytes : List ℕ) (f : ValidateFault) → bytes ≡ g.adapter.now.wasm.items
-      → IsValidateCause (adapter_input g.encoder.now library (map key_view g.adapter.now.required_exports.keys) (map required_entry g.required.now.entries)) bytes f
-      → IsValidateCause (input_of g) g.adapter.now.wasm.items f
+  pub input_refused : (bytes : List ℕ) (m : RefusedModule) (r : RefusedWorld) (x : RefusedComponent) → bytes ≡ g.adapter.now.wasm.items
+      → IsValidateCause (adapter_input g.encoder.now library (map key_view g.adapter.now.required_exports.keys) (map required_entry g.required.now.entries)) bytes m.fault
+      → IsRefusedAt (IsPlace (adapter_input g.encoder.now library (map key_view g.adapter.now.required_exports.keys) (map required_entry g.required.now.entries)) bytes) m
+      → IsAdapterRefusal g.name.now m r → IsOfWorld r x → IsInputRefusal g x
   unfolding passed
-  input_refused bytes f is h = subst (λ b. IsValidateCause (input_of g) b f) is (subst (λ j. IsValidateCause j bytes f) passed_input h)
-
-  pub input_explained : (bytes : List ℕ) (f : ValidateFault) (o : Option Place) → bytes ≡ g.adapter.now.wasm.items
-      → IsExplained (adapter_input g.encoder.now library (map key_view g.adapter.now.required_exports.keys) (map required_entry g.required.now.entries)) bytes f o
-      → IsExplained (input_of g) g.adapter.now.wasm.items f o
-  unfolding passed
-  input_explained bytes f o is h = subst (λ b. IsExplained (input_of g) b f o) is (subst (λ j. IsExplained j bytes f o) passed_input h)
-
--- what a fault of it is about
-input_placed : (g : AdapterInput) (f : ValidateFault) (o : Option Place) (p : Option WorldPlace) → IsExplained (input_of g) g.adapter.now.wasm.items f o
-    → IsIn g.name.now (option_map place.Validation o) p → IsInputPlace g f p
-input_placed g f None None h is = h
-input_placed g f (Some q) None h is = absurd (let bad : ⊥ = cc is in bad)
-input_placed g f None (Some p) h is = absurd (let other = is.1 in let bad : ⊥ = cc other in bad)
-input_placed g f (Some q) (Some p) h is =
-    let both = is.1 in
-    let same : place.Validation q ≡ p.place = cc both in
-    (is.0, subst (IsValidationPlace (input_of g) g.adapter.now.wasm.items f) same h)
-
-pub input_place_text : (g : AdapterInput) (f : ValidateFault) (o : Option Place) (p : Option WorldPlace) (r : Result (Vec ℕ Global) AllocError)
-    → IsExplained (input_of g) g.adapter.now.wasm.items f o → IsIn g.name.now (option_map place.Validation o) p
-    → IfOk r (λ v. v.items ≡ place_text world_place_json p) → IfOk r (λ v. IsInputPlaceText g f v.items)
-input_place_text g f o p (Ok v) h is text = (p, input_placed g f o p h is, text)
-input_place_text g f o p (Err e) h is text = tt
+  input_refused bytes m r x is cause at own passed_on =
+      let h = subst (λ b. IsValidateCause (input_of g) b m.fault) is (subst (λ j. IsValidateCause j bytes m.fault) passed_input cause) in
+      let there = subst (λ b. IsRefusedAt (IsPlace (input_of g) b) m) is (subst (λ j. IsRefusedAt (IsPlace j bytes) m) passed_input at) in
+      let place_of = placed (IsInAdapter g.name.now) place.Validation (HasNoPlace m.fault) _ (IsValidationPlace (input_of g) g.adapter.now.wasm.items m.fault)
+      (λ p here. here) m.place r.place there in
+      named_refusal (λ s. Adapter s m.fault) place.Validation g.name.now m.place (λ _. IsInputRefusal g x) r (λ memory. input_memory g r x memory passed_on)
+      (λ s named same found. input_named g m.fault r x s named same h (place_of found) passed_on) own
 
 -- an adapter or a library that the encoder has under a name, for what its main module imports from it
 module _ (g : AdapterInput) (main : ModuleRecord) (recorded : IsMainRecord g.encoder.now main)
@@ -102,33 +112,87 @@ module _ (g : AdapterInput) (main : ModuleRecord) (recorded : IsMainRecord g.enc
   )
 
   placed_at : (f : ValidateFault) (p : Option WorldPlace) → IsInputPlace g f p → IsAdapterPlace g.encoder.now f p main (g.name.now, adapter_view g.adapter.now)
-  placed_at f None h = subst (λ j. IsUnplaced j g.adapter.now.wasm.items f) for_main h
+  placed_at f None h = h
   placed_at f (Some p) h = (h.0, subst (λ j. IsValidationPlace j g.adapter.now.wasm.items f p.place) for_main h.1)
 
-  placed_under : (f : ValidateFault) (n : String Global) (text : List ℕ) → string_bytes n ≡ g.name.now → IsInputPlaceText g f text
-      → IsModulePlaceFor g.encoder.now (World (Adapter n f)) text
-  placed_under f n text named (p, h, is) = (
+  placed_under : (f : ValidateFault) (n : String Global) (p : Option WorldPlace) (text : List ℕ) → string_bytes n ≡ g.name.now → IsInputPlace g f p
+      → text ≡ place_text world_place_json p → IsModulePlaceFor g.encoder.now (World (Adapter n f)) text
+  placed_under f n p text named h is = (
     p,
     subst (λ z. IsUnder g.encoder.now z (IsAdapterPlace g.encoder.now f p)) (sym named)
         (main, recorded, adapter_view g.adapter.now, there, placed_at f p h),
     is,
   )
 
-  pub module_refused : (a : Answer) (old new : List ℕ) → IsInputRefused g a old new
+  fault_under : (f : MessageFault) → IsInputFault g f → IsModuleFault g.encoder.now (Some g.name.now) f
+  fault_under Memory h = tt
+  fault_under (World (Adapter n f)) h = refused_under f n h.0 h.1
+  fault_under f h = absurd h
+
+  place_under : (f : MessageFault) (text : List ℕ) → IsInputFault g f → IsInputPlaceFor g f text → IsModulePlaceFor g.encoder.now f text
+  place_under Memory text h at = at
+  place_under (World (Adapter n f)) text h (p, placed, is) = placed_under f n p text h.0 placed is
+  place_under f text h at = absurd h
+
+  pub module_refused : (a : Answer) (old new : List ℕ) → IsFaultAnswered (IsInputFault g) (IsInputPlaceFor g) a old new
       → IsFaultAnswered (IsModuleFault g.encoder.now (Some g.name.now)) (IsModulePlaceFor g.encoder.now) a old new
-  module_refused a old new (f, refused, h) =
-      answered_as (World (Adapter h.name f)) (IsModuleFault g.encoder.now (Some g.name.now)) (λ m text. IsInputPlaceText g f text)
-      (IsModulePlaceFor g.encoder.now) a old new (refused_under f h.name h.named refused) (λ text at. placed_under f h.name text h.named at) h.answered
+  module_refused a old new h =
+      answered_by (IsInputFault g) (IsModuleFault g.encoder.now (Some g.name.now)) (IsInputPlaceFor g) (IsModulePlaceFor g.encoder.now) a old new
+      (λ f other is. fault_under f is) (λ f text is at. place_under f text is at) h
+
+-- a refusal of the adapter or the library is answered
+
+refused_not_memory : (j : ValidationInput) (bytes : List ℕ) (f : ValidateFault) → validate_is_memory f ≡ false → IsValidateCause j bytes f → IsRefused j bytes f
+refused_not_memory j bytes f other h = ((λ same. absurd (false≢true (sym other ∙ ap validate_is_memory same))), h)
+
+input_fault : (g : AdapterInput) (f : MessageFault) (place : Option WorldPlace) → is_memory f ≡ false → IsInputCause g f place → IsInputFault g f
+input_fault g Memory place other h = tt
+input_fault g (World (Adapter n f)) place other h = (h.0, refused_not_memory (input_of g) g.adapter.now.wasm.items f other h.1)
+input_fault g f place other h = absurd h
+
+input_place : (g : AdapterInput) (f : MessageFault) (place : Option WorldPlace) (text : List ℕ) → IsInputCause g f place → text ≡ refusal_text f place
+    → IsInputPlaceFor g f text
+input_place g Memory place text h is = is
+input_place g (World (Adapter n f)) place text h is = (place, h.2, is)
+input_place g f place text h is = absurd h
+
+pub input_answered : (g : AdapterInput) (x : RefusedComponent) (a : Answer) (old new : List ℕ) → IsInputRefusal g x
+    → IsFaultAnswered (λ f. f ≡ x.fault) (λ f text. text ≡ refusal_text x.fault x.place) a old new
+    → IsFaultAnswered (IsInputFault g) (IsInputPlaceFor g) a old new
+input_answered g x a old new h answered =
+    answered_by (λ f. f ≡ x.fault) (IsInputFault g) (λ f text. text ≡ refusal_text x.fault x.place) (IsInputPlaceFor g) a old new
+    (λ f other same. input_fault g f x.place other (subst (λ z. IsInputCause g z x.place) (sym same) h))
+    (λ f text same at. subst (λ z. IsInputPlaceFor g z text) (sym same) (input_place g x.fault x.place text h at)) answered
 
 -- the main module is refused
-pub main_refused : (e : EncoderView) (name : Option (List ℕ)) (f : ValidateFault) (renames : Option (List RenameView)) (bytes : List ℕ) (a : Answer) (old new : List ℕ)
-    → renames ≡ e.module_import_map → bytes ≡ e.module_bytes → f ≢ validate.Memory → IsValidateCause (main_input e renames) bytes f
-    → IsFaultAnswered (λ m. m ≡ World (Main f)) (IsModulePlaceFor e) a old new
+
+module _ (e : EncoderView) (renames : Option (List RenameView)) (bytes : List ℕ) (m : RefusedModule) (r : RefusedWorld) (x : RefusedComponent)
+    (same : renames ≡ e.module_import_map) (is : bytes ≡ e.module_bytes) (cause : IsValidateCause (main_input e renames) bytes m.fault)
+    (at : IsRefusedAt (IsPlace (main_input e renames) bytes) m) (own : IsMainRefusal m r) (passed_on : IsOfWorld r x) where
+  pub main_cause : IsMainCause e x.fault
+  main_cause =
+      refused_fault (IsMainCause e) r.fault r.place x tt
+      (subst (λ f. IsMainCause e (of_world f)) (sym own.0) (main_refusal_of e renames bytes m same is cause at).0) passed_on
+
+  pub main_place : IsPlacedFor e x.fault x.place
+  main_place = refused_placed e r.fault r.place x (main_placed e m r (main_refusal_of e renames bytes m same is cause at) own) passed_on
+
+main_fault : (e : EncoderView) (name : Option (List ℕ)) (f : MessageFault) → is_memory f ≡ false → IsMainCause e f → IsModuleFault e name f
+main_fault e name Memory other h = tt
+main_fault e name (World (Main f)) other h = refused_not_memory (main_input e e.module_import_map) e.module_bytes f other h
+main_fault e name f other h = absurd h
+
+main_text : (e : EncoderView) (f : MessageFault) (text : List ℕ) → IsMainCause e f → IsPlaceFor e f text → IsModulePlaceFor e f text
+main_text e Memory text h at = at
+main_text e (World (Main f)) text h at = at
+main_text e f text h at = absurd h
+
+pub main_refused : (e : EncoderView) (name : Option (List ℕ)) (x : RefusedComponent) (a : Answer) (old new : List ℕ) → IsMainCause e x.fault
+    → IsPlacedFor e x.fault x.place → IsFaultAnswered (λ f. f ≡ x.fault) (λ f text. text ≡ refusal_text x.fault x.place) a old new
     → IsFaultAnswered (IsModuleFault e name) (IsModulePlaceFor e) a old new
-main_refused e name f renames bytes a old new same is other h answered =
-    answered_as (World (Main f)) (IsModuleFault e name) (IsModulePlaceFor e) (IsModulePlaceFor e) a old new
-    (other, subst (λ b. IsValidateCause (main_input e e.module_import_map) b f) is (subst (λ z. IsValidateCause (main_input e z) bytes f) same h))
-    (λ text at. at) answered
+main_refused e name x a old new h placed answered =
+    answered_by (IsMainCause e) (IsModuleFault e name) (IsPlaceFor e) (IsModulePlaceFor e) a old new (main_fault e name) (main_text e)
+    (refusal_answered e (IsMainCause e) x a old new h placed answered)
 
 -- the same for a message
 

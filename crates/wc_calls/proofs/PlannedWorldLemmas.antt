@@ -20,13 +20,16 @@ use Rattle.wc_calls.specs.MessageFault.{of_plan, of_world}
 use Rattle.wc_calls.specs.PlannedWorlds.{IsPlannedText, IsPlannedWorldAnswer}
 use Rattle.wc_calls.specs.Private.EncoderAnswers.{IsPlanFaultFor}
 use Rattle.wc_calls.specs.Private.PlannedAnswers.{IsPlanFaultOf, IsPlannedFor}
+use Rattle.wc_calls.specs.Private.RefusedComponent.{IsPlacedFor}
 use Rattle.wc_calls.specs.declared.component_worlds.WorldAnswer.{WorldAnswer}
 use Rattle.wc_calls.specs.declared.message_fault.MessageFault.{MessageFault}
 use Rattle.wc_calls.specs.declared.message_fault.MessageFault.TheVariants.{Memory, Plan}
+use Rattle.wc_calls.specs.declared.refused_component.RefusedComponent.{RefusedComponent}
+use Rattle.wc_calls.proofs.RefusedComponentLemmas.{plan_placed}
 
 -- what is answered for a world with this plan
 
-pub planned_text : (w : ComponentWorldView) (uses : List UseView) (r : Result WorldAnswer MessageFault) → HasNoFault w → uses ≡ plan_of w
+pub planned_text : {A : Type 0} (w : ComponentWorldView) (uses : List UseView) (r : Result WorldAnswer A) → HasNoFault w → uses ≡ plan_of w
     → IfOk r (λ a. a.modules.items ≡ modules_text w) → IfOk r (λ a. a.json.items ≡ planned_world_text w uses)
     → IfOk r (λ a. IsPlannedText w (length a.modules.items) (a.modules.items ++ a.json.items))
 planned_text w uses (Ok a) servable is modules json = record {
@@ -34,11 +37,7 @@ planned_text w uses (Ok a) servable is modules json = record {
   size = ap length modules;
   whole = (λ i. modules i ++ subst (λ us. a.json.items ≡ planned_world_text w us) is json i);
 }
-planned_text w uses (Err f) servable is modules json = tt
-
-pub memory_of : (w : ComponentWorldView) (r : Result WorldAnswer MessageFault) → IfErr r (λ f. f ≡ Memory) → IfErr r (IsPlanFaultOf w)
-memory_of w (Ok a) is = tt
-memory_of w (Err f) is = subst (IsPlanFaultOf w) (sym is) tt
+planned_text w uses (Err x) servable is modules json = tt
 
 -- and the fault of a plan, which carries no fault of a world
 
@@ -58,22 +57,27 @@ plan_fault_of w f (inr p) = first_fault_of w f p
 
 -- the same for an encoder and options, of which this is the component's world
 
-pub planned_for : (options : OptionsOf) (e : EncoderView) (w : ComponentWorldView) (r : Result WorldAnswer MessageFault) → IsWorldOf options e w
+pub planned_for : {A : Type 0} (options : OptionsOf) (e : EncoderView) (w : ComponentWorldView) (r : Result WorldAnswer A) → IsWorldOf options e w
     → IfOk r (λ a. IsPlannedText w (length a.modules.items) (a.modules.items ++ a.json.items))
     → IfOk r (λ a. IsPlannedFor options e (length a.modules.items) (a.modules.items ++ a.json.items))
 planned_for options e w (Ok a) made is = record { world = w; made = made; is = is }
-planned_for options e w (Err f) made is = tt
+planned_for options e w (Err x) made is = tt
 
-fault_of_plan : (options : OptionsOf) (e : EncoderView) (w : ComponentWorldView) → IsWorldOf options e w → (f : MessageFault) → IsPlanFaultOf w f
+pub fault_of_plan : (options : OptionsOf) (e : EncoderView) (w : ComponentWorldView) → IsWorldOf options e w → (f : MessageFault) → IsPlanFaultOf w f
     → IsPlanFaultFor options e f
 fault_of_plan options e w made Memory h = tt
 fault_of_plan options e w made (Plan f) h = (w, made, h)
 fault_of_plan options e w made f h = absurd h
 
-pub faults_of_plan : (options : OptionsOf) (e : EncoderView) (w : ComponentWorldView) (r : Result WorldAnswer MessageFault) → IsWorldOf options e w
-    → IfErr r (IsPlanFaultOf w) → IfErr r (IsPlanFaultFor options e)
+pub faults_of_plan : {A : Type 0} (options : OptionsOf) (e : EncoderView) (w : ComponentWorldView) (r : Result A RefusedComponent) → IsWorldOf options e w
+    → IfErr r (λ x. IsPlanFaultOf w x.fault) → IfErr r (λ x. IsPlanFaultFor options e x.fault)
 faults_of_plan options e w (Ok a) made h = tt
-faults_of_plan options e w (Err f) made h = fault_of_plan options e w made f h
+faults_of_plan options e w (Err x) made h = fault_of_plan options e w made x.fault h
+
+pub places_of_plan : {A : Type 0} (e : EncoderView) (w : ComponentWorldView) (r : Result A RefusedComponent) → IfErr r (λ x. IsPlanFaultOf w x.fault)
+    → IfErr r (λ x. IsPlacedFor e x.fault x.place)
+places_of_plan e w (Ok a) h = tt
+places_of_plan e w (Err x) h = plan_placed e w x.fault x.place h
 
 -- and where there is none
 pub no_world_for : (options : OptionsOf) (e : EncoderView) (f : WorldFault) → IsMemory e f ⊎ IsComponentWorldCause e f → IsPlanFaultFor options e (of_world f)

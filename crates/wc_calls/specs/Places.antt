@@ -13,7 +13,7 @@ use Rattle.wc_resolve.specs.declared.explain.Part.{Part}
 use Rattle.wc_resolve.specs.declared.fault.ResolveFault.{ResolveFault}
 use Rattle.wc_plan.specs.declared.fault.PlanFault.{PlanFault}
 use Rattle.wc_plan.specs.declared.fault.PlanFault.TheVariants.{NoMemory, NoRealloc, NoLowering}
-use Rattle.wc_world.specs.Places.{IsWorldExplained}
+use Rattle.wc_world.specs.Refused.{IsPlaceOrNone}
 use Rattle.wc_world.specs.declared.fault.WorldFault.{WorldFault}
 use Rattle.wc_world.specs.declared.fault.WorldFault.TheVariants.{PageSize}
 use Rattle.wc_world.specs.declared.places.WorldPlace.{WorldPlace}
@@ -27,11 +27,11 @@ abbrev pub place_text : {P : Type 0} → (P → Json) → Option P → List ℕ
 place_text json None = []
 place_text json (Some p) = text_of (json p)
 
--- the text is what is explained of a fault of an encoder's component
+-- the text is the place of a fault of an encoder's component
 abbrev pub IsExplainedText : EncoderView → WorldFault → List ℕ → Type 0
-IsExplainedText e f text = (p : Option WorldPlace) × IsWorldExplained e f p × (text ≡ place_text world_place_json p)
+IsExplainedText e f text = (p : Option WorldPlace) × IsPlaceOrNone e f p × (text ≡ place_text world_place_json p)
 
--- the text is what such a fault is about: of page sizes both, else what is explained
+-- the text is what such a fault is about: of page sizes both, else the place
 abbrev pub IsWorldPlaceText : EncoderView → WorldFault → List ℕ → Type 0
 IsWorldPlaceText e (PageSize name own main) text = text ≡ text_of (page_sizes_json (string_bytes name) own main)
 IsWorldPlaceText e f text = IsExplainedText e f text

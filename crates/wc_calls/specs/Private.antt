@@ -4,5 +4,6 @@ pub mod AskedKeys
 pub mod ModuleAnswers
 pub mod OptionTables
 pub mod PlannedAnswers
+pub mod RefusedComponent
 pub mod RefusedMessage
 pub mod TrimArguments

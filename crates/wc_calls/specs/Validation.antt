@@ -5,7 +5,7 @@ use Rattle.std.specs.Map.{lookup}
 use Rattle.std.specs.Str.{IsUtf8, bytes_eq}
 use Rattle.wc_adapters.specs.Adapters.{AdapterView}
 use Rattle.wc_encoder.specs.EncoderParts.{EncoderView}
-use Rattle.wc_validate.specs.Explain.{IsUnplaced}
+use Rattle.wc_validate.specs.Refused.{HasNoPlace}
 use Rattle.wc_validate.specs.Validate.{IsRecordOf, ModuleRecord, main_input}
 use Rattle.wc_validate.specs.declared.fault.ValidateFault.{ValidateFault}
 use Rattle.wc_world.specs.Trimming.{NamedAdapter, validation_input_of}
@@ -56,7 +56,7 @@ IsModuleRefused e name f = ⊥
 -- need it
 abbrev pub IsAdapterPlace : EncoderView → ValidateFault → Option WorldPlace → ModuleRecord → NamedAdapter → Type 0
 IsAdapterPlace e f place main x =
-    MatchOption place (IsUnplaced (validation_input_of e main x) x.1.wasm f)
+    MatchOption place (HasNoPlace f)
     (λ (p : WorldPlace). IsInAdapter x.0 p × IsValidationPlace (validation_input_of e main x) x.1.wasm f p.place)
 
 abbrev pub IsModulePlaceText : EncoderView → WorldFault → List ℕ → Type 0

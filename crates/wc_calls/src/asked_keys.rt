@@ -10,7 +10,7 @@ ghost use Rattle.wc_selection.specs.Requests.{given_keys, request_value};
 ghost use Rattle.wc_selection.specs.Texts.{text_of, text_pair};
 ghost use Rattle.wc_calls.specs.AskedKeys.{adapter_keys, adapter_texts, gives_none, key_texts, main_keys, main_texts};
 ghost use Rattle.wc_calls.specs.MessageFault.{IsAskedCause};
-ghost use Rattle.wc_calls.specs.Private.AskedKeys.{IsAsked, IsAskedCauseFor, IsAskedCauseIn, IsAskedFor, IsKeyFault, IsRepeatedKey, IsUnknownKey};
+ghost use Rattle.wc_calls.specs.Private.AskedKeys.{IsAsked, IsAskedCauseFor, IsAskedCauseIn, IsAskedFor, IsKeyFault};
 
 use crate::message_fault::MessageFault;
 use std::alloc::{AllocError, Global};
@@ -18,8 +18,8 @@ use wc_json::{AdapterMessage, KeyMessage};
 use wc_maps::{Seed, Set};
 use wc_resolve::{Resolve, WorldId, WorldKey};
 use wc_selection::{
-    Exporter, KeyIndex, KeyRequest, RequestFault, check_keys, count_unversioned, export_keys,
-    indexed_keys, is_export, required_keys,
+    Exporter, KeyIndex, KeyRequest, RequestFault, check_keys, export_keys, indexed_keys,
+    required_keys,
 };
 
 /// A world, and the keys of its exports that a message gives for the main module.
@@ -45,7 +45,8 @@ fn named_exports(
     resolve: &Resolve,
     world: WorldId,
 ) -> Result<Vec<(WorldKey, String)>, AllocError>
-    ensures { IfOk result (λ v. map named_key v.items ≡ export_keys resolve.now world.0) }
+    ensures keys { IfOk result (λ v. map named_key v.items ≡ export_keys resolve.now world.0) }
+    ensures differ { IfOk result (λ v. AreKeysApart (map named_key v.items)) }
 {
     if resolve.has_world(world) {
         export_keys(alloc, resolve, world)
@@ -115,94 +116,44 @@ fn gives_none(exports: &Option<Vec<KeyMessage>>) -> bool
     }
 }
 
-/// The keys of a world's exports, in order, each with the text by which the request gives it, that of an interface's
-/// index among them; none where there is no such world.
-fn keys_in(
-    alloc: Global,
-    seed: Seed,
-    request: &KeyRequest<'_, '_>,
-    resolve: &Resolve,
-    world: WorldId,
-) -> Result<Vec<(WorldKey, String)>, AllocError>
-    ensures keys { IfOk result (λ v. map named_key v.items
-        ≡ indexed_keys (request_value request.now) resolve.now world.0) }
-    ensures differ { IfOk result (λ v. AreKeysApart (map named_key v.items)) }
-{
-    if resolve.has_world(world) {
-        indexed_keys(alloc, seed, request, resolve, world)
-    } else {
-        Ok(Vec::new(alloc))
-    }
-}
-
-/// The fault of a key that no export is given by. `named`: the exports' keys with their own texts. It is that of a key
-/// which is given again, where it is the text of an export, which is then given by its index, or that of one export
-/// without its version; or that of several which have it without their versions; or else that there is none.
-fn unknown_key(alloc: Global, key: &str, named: &[(WorldKey, String)]) -> MessageFault
-    ensures { IsUnknownKey (map named_key named.now) key.now result }
-{
-    let Ok(text) = String::from_str(alloc, key) else {
-        return MessageFault::Memory;
-    };
-    if is_export(named, key) {
-        return MessageFault::RepeatedKey(text);
-    }
-    match count_unversioned(named, key) {
-        0 => MessageFault::UnknownKey(text),
-        1 => MessageFault::RepeatedKey(text),
-        _ => MessageFault::SeveralKeys(text),
-    }
-}
-
-/// The fault of a key that no export of a world is given by (`unknown_key`).
-fn unknown_in(alloc: Global, key: &str, world: AskedWorld<'_>) -> MessageFault
-    ensures { IsUnknownKey (export_keys world.entry.resolve.now world.entry.world.0)
-        key.now result }
-{
-    match named_exports(alloc, world.resolve, world.world) {
-        Ok(named) => unknown_key(alloc, key, &named),
-        Err(_) => MessageFault::Memory,
-    }
-}
-
-/// The fault of a key that is given twice.
-fn repeated_key(alloc: Global, key: &str) -> MessageFault
-    ensures { IsRepeatedKey key.now result }
-{
-    match String::from_str(alloc, key) {
-        Ok(text) => MessageFault::RepeatedKey(text),
-        Err(_) => MessageFault::Memory,
-    }
-}
-
 /// The fault of a message for one of its keys as a request.
-fn key_fault(alloc: Global, fault: RequestFault<'_>, world: AskedWorld<'_>) -> MessageFault
-    ensures { IsKeyFault (export_keys world.entry.resolve.now world.entry.world.0)
-        fault.entry result }
+fn key_fault(alloc: Global, fault: RequestFault<'_>) -> Result<MessageFault, AllocError>
+    ensures { IfOk result (IsKeyFault fault.entry) }
 {
     match fault {
-        RequestFault::UnknownKey(key) => unknown_in(alloc, key, world),
-        RequestFault::RepeatedKey(key) => repeated_key(alloc, key),
-        _ => MessageFault::Memory,
+        RequestFault::UnknownKey(key) => {
+            let unknown = String::from_str(alloc, key)?;
+            Ok(MessageFault::UnknownKey(unknown))
+        }
+        RequestFault::SeveralKeys(key) => {
+            let several = String::from_str(alloc, key)?;
+            Ok(MessageFault::SeveralKeys(several))
+        }
+        RequestFault::RepeatedKey(key) => {
+            let repeated = String::from_str(alloc, key)?;
+            Ok(MessageFault::RepeatedKey(repeated))
+        }
+        _ => Ok(MessageFault::Memory),
     }
 }
 
-/// Checks the keys of a request against those of a world's exports (`wc_selection::check_keys`).
+/// Checks the keys of a request against those of a world's exports, `own` by their own texts
+/// (`wc_selection::check_keys`).
 fn check_asked(
     alloc: Global,
     seed: Seed,
     request: &KeyRequest<'_, '_>,
-    world: AskedWorld<'_>,
+    own: &[(WorldKey, String)],
     keys: &[(WorldKey, String)],
 ) -> Result<(), MessageFault>
     ensures there { OnOk result (AreKeysThere (given_keys (request_value request.now))
         (texts_of (map named_key keys.now))) }
-    ensures fault { IfErr result (IsAskedCause (request_value request.now)
-        (export_keys world.entry.resolve.now world.entry.world.0) (map named_key keys.now)) }
+    ensures fault { IfErr result (IsAskedCause (request_value request.now) (map named_key own.now)
+        (map named_key keys.now)) }
 {
-    match check_keys(alloc, seed, request, keys) {
+    match check_keys(alloc, seed, request, own, keys) {
         Ok(()) => Ok(()),
-        Err(fault) => Err(key_fault(alloc, fault, world)),
+        Err(fault) => Err(key_fault(alloc, fault)?),
     }
 }
 
@@ -250,8 +201,9 @@ fn asked_by(
     ensures fault { IfErr result (IsAskedCauseIn (request_value request.now)
         world.entry.resolve.now world.entry.world.0) }
 {
-    let keys = keys_in(alloc, seed, request, world.resolve, world.world)?;
-    check_asked(alloc, seed, request, world, &keys)?;
+    let own = named_exports(alloc, world.resolve, world.world)?;
+    let keys = indexed_keys(alloc, seed, request, &own)?;
+    check_asked(alloc, seed, request, &own, &keys)?;
     let main = main_keys(alloc, seed, request, gives_none(world.exports), &keys)?;
     Ok(AskedKeys { keys, main })
 }

@@ -1,32 +1,55 @@
 //! The call that makes the plan of a component.
 
-ghost use Rattle.std.specs.Prelude.{◌≡◌, ◌≢◌, ◌≤◌, IfErr, IfOk};
+ghost use Rattle.std.specs.Prelude.{◌≡◌, ◌≢◌, ◌≤◌, IfErr, IfOk, OnOk};
+ghost use Rattle.wc_plan.specs.Fault.{AreNameable, HasNoFault};
+ghost use Rattle.wc_plan.specs.Plans.{plan_of};
+ghost use Rattle.wc_record.specs.Texts.{plan_text};
+ghost use Rattle.wc_world.specs.WorldViews.{world_view};
 ghost use Rattle.wc_calls.specs.Answers.{AreOthersOfTextZero, IsPut, IsTextStatus, IsTooLong, bad_argument, done, failed, same, too_small};
 ghost use Rattle.wc_calls.specs.ComponentPlans.{IsPlanAnswer};
 ghost use Rattle.wc_calls.specs.ComponentWorlds.{IsFaultOf};
 ghost use Rattle.wc_calls.specs.FaultAnswers.{IsFaultAnswered};
 ghost use Rattle.wc_calls.specs.Private.EncoderAnswers.{IsPlaceFor, IsPlanFaultFor, IsPlanFor};
 ghost use Rattle.wc_calls.specs.Private.OptionTables.{table_options};
+ghost use Rattle.wc_calls.specs.Private.PlannedAnswers.{IsPlanFaultOf};
+ghost use Rattle.wc_calls.specs.Private.RefusedComponent.{IsPlacedFor};
 
 use crate::answers::{Answer, put};
 use crate::encoders::{WorldInput, world_input};
-use crate::explained::{answer_encoder_fault, answer_refused};
-use crate::message_fault::MessageFault;
+use crate::explained::{answer_no_world, answer_refused};
+use crate::refused_component::RefusedComponent;
 use std::alloc::Global;
 use wc_maps::Seed;
-use wc_plan::plan_encoder;
+use wc_plan::laws::worlds_nameable;
+use wc_plan::plan as plan_of_world;
 use wc_record::plan_to_json;
+use wc_world::ComponentWorld;
+
+/// The plan of a component's world, as JSON.
+fn answer_of_world(alloc: Global, world: &ComponentWorld<'_>) -> Result<Vec<u8>, RefusedComponent>
+    requires { AreNameable (world_view world.now) }
+    ensures servable { OnOk result (HasNoFault (world_view world.now)) }
+    ensures answer { IfOk result (λ v. v.items ≡ plan_text (plan_of (world_view world.now))) }
+    ensures fault { IfErr result (λ x. IsPlanFaultOf (world_view world.now) x.fault) }
+{
+    match plan_of_world(alloc, world) {
+        Ok(plan) => Ok(plan_to_json(alloc, &plan)?),
+        Err(fault) => Err(RefusedComponent::from(fault)),
+    }
+}
 
 /// The plan of an encoder and options, as JSON.
-fn answer_of_input(alloc: Global, input: &WorldInput) -> Result<Vec<u8>, MessageFault>
+fn answer_of_input(alloc: Global, input: &WorldInput) -> Result<Vec<u8>, RefusedComponent>
     ensures answer { IfOk result (λ v. IsPlanFor (table_options input.now.options)
         input.now.encoder v.items) }
-    ensures fault { IfErr result (IsPlanFaultFor (table_options input.now.options)
-        input.now.encoder) }
+    ensures fault { IfErr result (λ x. IsPlanFaultFor (table_options input.now.options)
+        input.now.encoder x.fault) }
+    ensures place { IfErr result (λ x. IsPlacedFor input.now.encoder x.fault x.place) }
 {
-    match plan_encoder(alloc, &input.encoder, &input.options) {
-        Ok(plan) => Ok(plan_to_json(alloc, &plan)?),
-        Err(fault) => Err(MessageFault::from(fault)),
+    worlds_nameable(&input.encoder);
+    match ComponentWorld::new_explained(alloc, &input.encoder, &input.options) {
+        Ok(world) => answer_of_world(alloc, &world),
+        Err(refused) => Err(RefusedComponent::from(refused)),
     }
 }
 
@@ -48,7 +71,7 @@ fn plan_for(alloc: Global, input: &WorldInput, out: &mut [u8]) -> Answer
 {
     match answer_of_input(alloc, input) {
         Ok(answer) => put(&[], &answer, out),
-        Err(fault) => answer_encoder_fault(alloc, &input.encoder, &fault, out),
+        Err(refused) => answer_no_world(alloc, &refused, out),
     }
 }
 

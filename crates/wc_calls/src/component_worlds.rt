@@ -8,11 +8,13 @@ ghost use Rattle.wc_calls.specs.ComponentWorlds.{IsFaultOf, IsWorldAnswer, modul
 ghost use Rattle.wc_calls.specs.FaultAnswers.{IsFaultAnswered};
 ghost use Rattle.wc_calls.specs.Private.EncoderAnswers.{IsAnswerFor, IsFaultFor, IsPlaceFor};
 ghost use Rattle.wc_calls.specs.Private.OptionTables.{table_options};
+ghost use Rattle.wc_calls.specs.Private.RefusedComponent.{IsPlacedFor};
+ghost use Rattle.wc_calls.specs.declared.message_fault.MessageFault.TheVariants.{Memory};
 
 use crate::answers::{Answer, put};
 use crate::encoders::{WorldInput, world_input};
-use crate::explained::{answer_encoder_fault, answer_refused};
-use crate::message_fault::MessageFault;
+use crate::explained::{answer_no_world, answer_refused};
+use crate::refused_component::RefusedComponent;
 use std::alloc::{AllocError, Global};
 use wc_maps::Seed;
 use wc_record::world_to_json;
@@ -37,22 +39,26 @@ pub(crate) fn modules_of(alloc: Global, world: &ComponentWorld<'_>) -> Result<Ve
 }
 
 /// The answer for an encoder and options.
-fn answer_of_input(alloc: Global, input: &WorldInput) -> Result<WorldAnswer, MessageFault>
+fn answer_of_input(alloc: Global, input: &WorldInput) -> Result<WorldAnswer, RefusedComponent>
     ensures answer { IfOk result (λ a. IsAnswerFor (table_options input.now.options)
         input.now.encoder (length a.modules.items) (a.modules.items ++ a.json.items)) }
-    ensures fault { IfErr result (IsFaultFor input.now.encoder) }
+    ensures fault { IfErr result (λ x. IsFaultFor input.now.encoder x.fault) }
+    ensures place { IfErr result (λ x. IsPlacedFor input.now.encoder x.fault x.place) }
 {
-    match ComponentWorld::new(alloc, &input.encoder, &input.options) {
+    match ComponentWorld::new_explained(alloc, &input.encoder, &input.options) {
         Ok(world) => answer_of_world(alloc, &world),
-        Err(fault) => Err(MessageFault::from(fault)),
+        Err(refused) => Err(RefusedComponent::from(refused)),
     }
 }
 
 /// The answer for a component's world.
-fn answer_of_world(alloc: Global, world: &ComponentWorld<'_>) -> Result<WorldAnswer, MessageFault>
+fn answer_of_world(
+    alloc: Global,
+    world: &ComponentWorld<'_>,
+) -> Result<WorldAnswer, RefusedComponent>
     ensures modules { IfOk result (λ a. a.modules.items ≡ modules_text (world_view world.now)) }
     ensures json { IfOk result (λ a. a.json.items ≡ world_text (world_view world.now)) }
-    ensures fault { IfErr result (λ f. f ≡ MessageFault.Memory) }
+    ensures fault { IfErr result (λ x. x.fault ≡ Memory) }
 {
     Ok(WorldAnswer {
         modules: modules_of(alloc, world)?,
@@ -75,7 +81,7 @@ fn world_for(alloc: Global, input: &WorldInput, out: &mut [u8]) -> Answer
 {
     match answer_of_input(alloc, input) {
         Ok(answer) => put(&answer.modules, &answer.json, out),
-        Err(fault) => answer_encoder_fault(alloc, &input.encoder, &fault, out),
+        Err(refused) => answer_no_world(alloc, &refused, out),
     }
 }
 
@@ -112,7 +118,7 @@ fn world_for(alloc: Global, input: &WorldInput, out: &mut [u8]) -> Answer
 /// - `FAULT`: why there is no component's world, by its number (`MessageFault::number`). It neither is nor carries a
 ///   `Memory`. Its text, as it is printed, has `position` bytes. Of a message that is not what it has to be, it has the path
 ///   to what is wrong, as `Json: adapters[0].length: not an index`. After the text is a JSON object that says what the fault
-///   is about, if it is one of an import, an export, a section or a body (`wc_world::explain`), of page sizes, or of a
+///   is about, if it is one of an import, an export, a section or a body (`wc_world::RefusedWorld`), of page sizes, or of a
 ///   world, an interface, a type or a package (`wc_resolve::Refusal`); else nothing. Both have `length` bytes, and are in
 ///   the front of `out`, if `out` has so many. `wc_record::world_place_to_json`, `page_sizes_to_json` and `part_to_json`
 ///   list the members of these objects.

@@ -39,6 +39,7 @@ mod memory_faults;
 mod message_fault;
 mod places;
 mod planned_worlds;
+mod refused_component;
 mod refused_message;
 mod renames;
 mod renaming;

@@ -12,12 +12,14 @@ ghost use Rattle.wc_calls.specs.PlannedWorlds.{IsPlannedText, IsPlannedWorldAnsw
 ghost use Rattle.wc_calls.specs.Private.EncoderAnswers.{IsPlaceFor, IsPlanFaultFor};
 ghost use Rattle.wc_calls.specs.Private.OptionTables.{table_options};
 ghost use Rattle.wc_calls.specs.Private.PlannedAnswers.{IsPlanFaultOf, IsPlannedFor};
+ghost use Rattle.wc_calls.specs.Private.RefusedComponent.{IsPlacedFor};
+ghost use Rattle.wc_calls.specs.declared.message_fault.MessageFault.TheVariants.{Memory};
 
 use crate::answers::{Answer, put};
 use crate::component_worlds::{WorldAnswer, modules_of};
 use crate::encoders::{WorldInput, world_input};
-use crate::explained::{answer_encoder_fault, answer_refused};
-use crate::message_fault::MessageFault;
+use crate::explained::{answer_no_world, answer_refused};
+use crate::refused_component::RefusedComponent;
 use std::alloc::Global;
 use wc_maps::Seed;
 use wc_plan::laws::worlds_nameable;
@@ -30,11 +32,11 @@ fn answer_of_plan(
     alloc: Global,
     world: &ComponentWorld<'_>,
     plan: &Plan,
-) -> Result<WorldAnswer, MessageFault>
+) -> Result<WorldAnswer, RefusedComponent>
     ensures modules { IfOk result (λ a. a.modules.items ≡ modules_text (world_view world.now)) }
     ensures json { IfOk result (λ a. a.json.items
         ≡ planned_world_text (world_view world.now) (plan_view plan.now)) }
-    ensures fault { IfErr result (λ f. f ≡ MessageFault.Memory) }
+    ensures fault { IfErr result (λ x. x.fault ≡ Memory) }
 {
     Ok(WorldAnswer {
         modules: modules_of(alloc, world)?,
@@ -43,29 +45,33 @@ fn answer_of_plan(
 }
 
 /// The answer for a component's world.
-fn answer_of_world(alloc: Global, world: &ComponentWorld<'_>) -> Result<WorldAnswer, MessageFault>
+fn answer_of_world(
+    alloc: Global,
+    world: &ComponentWorld<'_>,
+) -> Result<WorldAnswer, RefusedComponent>
     requires { AreNameable (world_view world.now) }
     ensures answer { IfOk result (λ a. IsPlannedText (world_view world.now)
         (length a.modules.items) (a.modules.items ++ a.json.items)) }
-    ensures fault { IfErr result (IsPlanFaultOf (world_view world.now)) }
+    ensures fault { IfErr result (λ x. IsPlanFaultOf (world_view world.now) x.fault) }
 {
     match plan(alloc, world) {
         Ok(plan) => answer_of_plan(alloc, world, &plan),
-        Err(fault) => Err(MessageFault::from(fault)),
+        Err(fault) => Err(RefusedComponent::from(fault)),
     }
 }
 
 /// The answer for an encoder and options.
-fn answer_of_input(alloc: Global, input: &WorldInput) -> Result<WorldAnswer, MessageFault>
+fn answer_of_input(alloc: Global, input: &WorldInput) -> Result<WorldAnswer, RefusedComponent>
     ensures answer { IfOk result (λ a. IsPlannedFor (table_options input.now.options)
         input.now.encoder (length a.modules.items) (a.modules.items ++ a.json.items)) }
-    ensures fault { IfErr result (IsPlanFaultFor (table_options input.now.options)
-        input.now.encoder) }
+    ensures fault { IfErr result (λ x. IsPlanFaultFor (table_options input.now.options)
+        input.now.encoder x.fault) }
+    ensures place { IfErr result (λ x. IsPlacedFor input.now.encoder x.fault x.place) }
 {
     worlds_nameable(&input.encoder);
-    match ComponentWorld::new(alloc, &input.encoder, &input.options) {
+    match ComponentWorld::new_explained(alloc, &input.encoder, &input.options) {
         Ok(world) => answer_of_world(alloc, &world),
-        Err(fault) => Err(MessageFault::from(fault)),
+        Err(refused) => Err(RefusedComponent::from(refused)),
     }
 }
 
@@ -85,7 +91,7 @@ fn planned_world_for(alloc: Global, input: &WorldInput, out: &mut [u8]) -> Answe
 {
     match answer_of_input(alloc, input) {
         Ok(answer) => put(&answer.modules, &answer.json, out),
-        Err(fault) => answer_encoder_fault(alloc, &input.encoder, &fault, out),
+        Err(refused) => answer_no_world(alloc, &refused, out),
     }
 }
 

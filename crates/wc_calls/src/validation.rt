@@ -1,35 +1,30 @@
 //! The call that validates one module of a component.
 
-ghost use Rattle.std.specs.Prelude.{◌≡◌, ◌≢◌, ◌≤◌, ◌⊎◌, IfErr, IfOk, OnOk, Some, map, string_bytes};
+ghost use Rattle.std.specs.Prelude.{◌≡◌, ◌≢◌, ◌≤◌, IfErr, IfOk, OnOk, Some, map};
 ghost use Rattle.std.specs.Map.{lookup};
 ghost use Rattle.std.specs.Option.{option_map};
 ghost use Rattle.std.specs.Str.{bytes_eq};
 ghost use Rattle.wc_adapters.specs.Adapters.{adapter_view};
 ghost use Rattle.wc_validate.specs.Imports.Map.{required_entry, required_in};
-ghost use Rattle.wc_validate.specs.Validate.{IsValidateCause, module_record};
-ghost use Rattle.wc_world.specs.Places.{IsIn};
+ghost use Rattle.wc_validate.specs.Validate.{module_record};
 ghost use Rattle.wc_world.specs.World.{IsMainRecord};
-ghost use Rattle.wc_calls.specs.Answers.{AreOthersOfFaultZero, AreOthersOfTextZero, IsCheckStatus, IsModuleStatus, bad_argument, done, failed, out_of_memory, same, too_small};
+ghost use Rattle.wc_calls.specs.Answers.{AreOthersOfFaultZero, IsCheckStatus, IsModuleStatus, bad_argument, done, failed, same, too_small};
 ghost use Rattle.wc_calls.specs.FaultAnswers.{IsFaultAnswered};
-ghost use Rattle.wc_calls.specs.Private.ModuleAnswers.{IsInputFaultAnswer, IsInputPlaceText, IsInputRefused, IsInputValid, IsModuleFault, IsModulePlaceFor, input_of};
+ghost use Rattle.wc_calls.specs.Private.ModuleAnswers.{IsInputFault, IsInputPlaceFor, IsInputRefusal, IsInputValid, IsMainCause, IsModuleFault, IsModulePlaceFor};
+ghost use Rattle.wc_calls.specs.Private.RefusedComponent.{IsPlacedFor};
 ghost use Rattle.wc_calls.specs.Validation.{IsModuleValid, IsNoModule, IsNoModuleOf, IsValidOf, IsValidationFaultOf};
 
 use crate::answers::{Answer, BAD_ARGUMENT, DONE, MEMORY, answer_without_bytes};
 use crate::encoders::world_input;
-use crate::explained::{answer_refused, world_fault_place};
-use crate::fault_answers::answer_fault;
-use crate::message_fault::MessageFault;
-use crate::places::world_place_text;
-use std::alloc::{AllocError, Global};
+use crate::explained::{answer_no_world, answer_refused};
+use crate::refused_component::RefusedComponent;
+use std::alloc::Global;
 use std::str;
 use wc_encoder::{Adapter, ComponentEncoder};
 use wc_maps::{Map, Seed};
 use wc_read::FuncType;
-use wc_validate::{
-    Place, ValidateFault, ValidatedModule, explain_adapter_module, validate_adapter_module,
-    validate_module,
-};
-use wc_world::{ModulePlace, WorldFault, WorldPlace};
+use wc_validate::{ValidatedModule, validate_adapter_module_explained, validate_module_explained};
+use wc_world::{adapter_refusal, main_refusal};
 
 /// An adapter or a library, and what the main module imports from it.
 #[derive(Clone, Copy)]
@@ -47,101 +42,30 @@ struct ValidMain<'a> {
     validated: &'a ValidatedModule,
 }
 
-/// A place in the adapter or the library of a name.
-fn in_adapter(
+/// What is recorded of the main module.
+fn main_record(
     alloc: Global,
-    name: &str,
-    place: Option<Place>,
-) -> Result<Option<WorldPlace>, AllocError>
-    ensures { IfOk result (IsIn name.now (option_map ModulePlace.Validation place)) }
+    encoder: &ComponentEncoder,
+) -> Result<ValidatedModule, RefusedComponent>
+    ensures recorded { IfOk result (λ v. IsMainRecord encoder.now (module_record v)) }
+    ensures fault { IfErr result (λ x. IsMainCause encoder.now x.fault) }
+    ensures place { IfErr result (λ x. IsPlacedFor encoder.now x.fault x.place) }
 {
-    let Some(place) = place else {
-        return Ok(None);
-    };
-    let adapter = Some(String::from_str(alloc, name)?);
-    Ok(Some(WorldPlace {
-        adapter,
-        place: ModulePlace::Validation(place),
-    }))
-}
-
-/// The place of a fault of an adapter or a library, as JSON.
-fn input_place(
-    alloc: Global,
-    input: AdapterInput<'_>,
-    fault: &ValidateFault,
-) -> Result<Vec<u8>, AllocError>
-    ensures { IfOk result (λ v. IsInputPlaceText input.entry fault.now v.items) }
-{
-    let adapter = input.adapter;
-    let place = explain_adapter_module(
-        alloc,
-        input.encoder,
-        &adapter.wasm,
-        input.required,
-        &adapter.required_exports,
-        adapter.library_info.as_ref(),
-        fault,
-    )?;
-    let place = in_adapter(alloc, input.name, place)?;
-    world_place_text(alloc, &place)
-}
-
-/// Answers the fault of an adapter or a library, under its name.
-fn answer_under(
-    alloc: Global,
-    input: AdapterInput<'_>,
-    name: String,
-    fault: ValidateFault,
-    out: &mut [u8],
-) -> Answer
-    requires { string_bytes name ≡ input.name.now }
-    ensures fault { result.status ≡ failed
-        → IsInputFaultAnswer input.entry fault result out.old out.new }
-    ensures unchanged { result.status ≢ failed → out.new ≡ out.old }
-    ensures statuses { (result.status ≡ failed) ⊎ (result.status ≡ out_of_memory) }
-    ensures others { AreOthersOfTextZero result }
-{
-    match input_place(alloc, input, &fault) {
-        Ok(place) => {
-            let fault = MessageFault::World(WorldFault::Adapter(name, fault));
-            answer_fault(alloc, &fault, &place, out)
-        }
-        Err(_) => answer_without_bytes(MEMORY),
-    }
-}
-
-/// Answers the fault of an adapter or a library.
-fn answer_input_fault(
-    alloc: Global,
-    input: AdapterInput<'_>,
-    fault: ValidateFault,
-    out: &mut [u8],
-) -> Answer
-    ensures fault { result.status ≡ failed
-        → IsInputFaultAnswer input.entry fault result out.old out.new }
-    ensures memory { fault ≡ ValidateFault.Memory → result.status ≢ failed }
-    ensures unchanged { result.status ≢ failed → out.new ≡ out.old }
-    ensures statuses { (result.status ≡ failed) ⊎ (result.status ≡ out_of_memory) }
-    ensures others { AreOthersOfTextZero result }
-{
-    if let ValidateFault::Memory = fault {
-        return answer_without_bytes(MEMORY);
-    }
-    match String::from_str(alloc, input.name) {
-        Ok(name) => answer_under(alloc, input, name, fault, out),
-        Err(_) => answer_without_bytes(MEMORY),
+    let bytes = encoder.module();
+    let import_map = encoder.module_import_map();
+    match validate_module_explained(alloc, encoder, bytes, import_map) {
+        Ok(module) => Ok(module),
+        Err(refused) => Err(RefusedComponent::from(main_refusal(refused))),
     }
 }
 
 /// Validates an adapter or a library.
-fn check_input(alloc: Global, input: AdapterInput<'_>) -> Result<(), ValidateFault>
+fn check_input(alloc: Global, input: AdapterInput<'_>) -> Result<(), RefusedComponent>
     ensures valid { OnOk result (IsInputValid input.entry) }
-    ensures fault { IfErr result
-        (IsValidateCause (input_of input.entry) input.entry.adapter.now.wasm.items) }
+    ensures fault { IfErr result (IsInputRefusal input.entry) }
 {
     let adapter = input.adapter;
-    match validate_adapter_module(
+    match validate_adapter_module_explained(
         alloc,
         input.encoder,
         &adapter.wasm,
@@ -150,21 +74,22 @@ fn check_input(alloc: Global, input: AdapterInput<'_>) -> Result<(), ValidateFau
         adapter.library_info.as_ref(),
     ) {
         Ok(_record) => Ok(()),
-        Err(fault) => Err(fault),
+        Err(refused) => Err(RefusedComponent::from(adapter_refusal(alloc, input.name, refused))),
     }
 }
 
 /// Answers whether an adapter or a library is valid.
 fn validate_input(alloc: Global, input: AdapterInput<'_>, out: &mut [u8]) -> Answer
     ensures done { result.status ≡ done → IsInputValid input.entry }
-    ensures fault { result.status ≡ failed → IsInputRefused input.entry result out.old out.new }
+    ensures fault { result.status ≡ failed → IsFaultAnswered (IsInputFault input.entry)
+        (IsInputPlaceFor input.entry) result out.old out.new }
     ensures unchanged { result.status ≢ failed → out.new ≡ out.old }
     ensures statuses { IsCheckStatus result.status }
     ensures others { AreOthersOfFaultZero result }
 {
     match check_input(alloc, input) {
         Ok(()) => answer_without_bytes(DONE),
-        Err(fault) => answer_input_fault(alloc, input, fault, out),
+        Err(refused) => answer_no_world(alloc, &refused, out),
     }
 }
 
@@ -266,31 +191,6 @@ fn validate_named(alloc: Global, main: ValidMain<'_>, name: &[u8], out: &mut [u8
     }
 }
 
-/// Answers the fault of the main module.
-fn answer_main_fault(
-    alloc: Global,
-    encoder: &ComponentEncoder,
-    fault: ValidateFault,
-    out: &mut [u8],
-) -> Answer
-    ensures fault { result.status ≡ failed
-        → IsFaultAnswered (λ m. m ≡ MessageFault.World (WorldFault.Main fault))
-        (IsModulePlaceFor encoder.now) result out.old out.new }
-    ensures memory { fault ≡ ValidateFault.Memory → result.status ≢ failed }
-    ensures unchanged { result.status ≢ failed → out.new ≡ out.old }
-    ensures statuses { (result.status ≡ failed) ⊎ (result.status ≡ out_of_memory) }
-    ensures others { AreOthersOfTextZero result }
-{
-    if let ValidateFault::Memory = fault {
-        return answer_without_bytes(MEMORY);
-    }
-    let fault = WorldFault::Main(fault);
-    match world_fault_place(alloc, encoder, &fault) {
-        Ok(place) => answer_fault(alloc, &MessageFault::World(fault), &place, out),
-        Err(_) => answer_without_bytes(MEMORY),
-    }
-}
-
 /// Answers whether the module that is asked for is valid, where the main module is.
 fn validate_other(alloc: Global, main: ValidMain<'_>, name: Option<&[u8]>, out: &mut [u8]) -> Answer
     requires { IsMainRecord main.encoder.now (module_record main.validated.now) }
@@ -330,14 +230,12 @@ fn validate_for(
     ensures statuses { IsModuleStatus result.status }
     ensures others { AreOthersOfFaultZero result }
 {
-    let bytes = encoder.module();
-    let import_map = encoder.module_import_map();
-    match validate_module(alloc, encoder, bytes, import_map) {
+    match main_record(alloc, encoder) {
         Ok(module) => {
             let validated = &module;
             validate_other(alloc, ValidMain { encoder, validated }, adapter, out)
         }
-        Err(fault) => answer_main_fault(alloc, encoder, fault, out),
+        Err(refused) => answer_no_world(alloc, &refused, out),
     }
 }
 

@@ -14,6 +14,7 @@ use wc_fixtures::words::Words;
 use wc_gc::GcFault;
 use wc_lines::lines::Lines;
 use wc_lines::rows::Row;
+use wc_module_rows::validation::answers::{PutAbout, put_last_about, put_last_line};
 use wc_module_rows::validation::described_modules::described_of;
 use wc_resolve::Resolve;
 use wc_validate::ValidateFault;
@@ -33,20 +34,10 @@ fn put_fault(fault: &WorldFault, out: &mut Lines) {
     }
 }
 
-/// The parts of a component's world that are asked for, or why it has none.
-fn put_world(
-    alloc: Global,
-    world: &Result<ComponentWorld<'_>, WorldFault>,
-    parts: &[&str],
-    out: &mut Lines,
-) {
-    match world {
-        Ok(world) => {
-            for part in parts {
-                put_named_part(alloc, world, part, out);
-            }
-        }
-        Err(fault) => put_fault(fault, out),
+/// The parts that are asked for of a component's world.
+fn put_parts(alloc: Global, world: &ComponentWorld<'_>, parts: &[&str], out: &mut Lines) {
+    for part in parts {
+        put_named_part(alloc, world, part, out);
     }
 }
 
@@ -75,48 +66,84 @@ fn put_asked_place(
     }
 }
 
-/// The lines of a place.
-fn place_lines(alloc: Global, place: &Result<Option<WorldPlace>, AllocError>) -> Lines {
-    let mut lines = Lines::new(alloc);
-    match place {
-        Ok(Some(place)) => put_world_place(place, &mut lines),
-        Ok(None) => lines.push_str("none\n"),
-        Err(_) => lines.lack_memory(),
+/// That what a fault is about is asked for.
+#[derive(Clone, Copy)]
+struct OfFault;
+
+impl PutAbout<OfFault> for Result<Option<WorldPlace>, AllocError> {
+    /// Puts the place.
+    fn put_about(&self, _alloc: Global, _about: &OfFault, out: &mut Lines) {
+        match self {
+            Ok(Some(place)) => put_world_place(place, out),
+            Ok(None) => out.push_str("none\n"),
+            Err(_) => out.lack_memory(),
+        }
     }
-    lines
 }
 
-/// Puts the place that a world is refused with, unless it is as another call answered it.
-fn put_refused(
+/// The lines of a place that another call answered.
+#[derive(Clone, Copy)]
+struct OtherPlace<'a> {
+    lines: &'a Lines,
+}
+
+impl<'a, 'b> PutAbout<OtherPlace<'a>> for Result<ComponentWorld<'b>, RefusedWorld> {
+    /// Puts the place that a world is refused with, unless it is as another call answered it.
+    fn put_about(&self, alloc: Global, other: &OtherPlace<'a>, out: &mut Lines) {
+        if let Err(refused) = self {
+            put_unlike(alloc, &refused.place, other.lines, out);
+        }
+    }
+}
+
+/// Puts a place, unless it is as another call answered it.
+fn put_unlike(
     alloc: Global,
-    world: &Result<ComponentWorld<'_>, RefusedWorld>,
-    explained: &Lines,
+    place: &Result<Option<WorldPlace>, AllocError>,
+    others: &Lines,
     out: &mut Lines,
 ) {
-    if let Err(refused) = world {
-        let found = place_lines(alloc, &refused.place);
-        if found.text() != explained.text() {
-            out.push_lines(&found);
-        }
+    let mut found = Lines::new(alloc);
+    place.put_about(alloc, &OfFault, &mut found);
+    if found.text() != others.text() {
+        out.push_lines(&found);
     }
 }
 
 /// Puts what a fault is about, as two calls answer it; once, where they agree.
 fn put_explained(alloc: Global, encoder: &ComponentEncoder, fault: &WorldFault, out: &mut Lines) {
-    let place = explain(alloc, encoder, fault);
-    let explained = place_lines(alloc, &place);
-    out.push_lines(&explained);
+    let mut lines = Lines::new(alloc);
+    put_last_about(alloc, &OfFault, explain(alloc, encoder, fault), &mut lines);
+    out.push_lines(&lines);
     let world = ComponentWorld::new_explained(alloc, encoder, &PlainOptions);
-    put_refused(alloc, &world, &explained, out);
+    put_last_about(alloc, &OtherPlace { lines: &lines }, world, out);
+}
+
+/// The parts that are asked for of the world of an encoder.
+#[derive(Clone, Copy)]
+struct AskedParts<'a> {
+    encoder: &'a ComponentEncoder,
+    parts: &'a [&'a str],
+}
+
+impl<'a, 'b> PutAbout<AskedParts<'a>> for Result<ComponentWorld<'b>, WorldFault> {
+    /// Puts the parts of a component's world that are asked for, or why it has none.
+    fn put_about(&self, alloc: Global, asked: &AskedParts<'a>, out: &mut Lines) {
+        match self {
+            Ok(world) => put_parts(alloc, world, asked.parts, out),
+            Err(fault) => {
+                put_fault(fault, out);
+                put_asked_place(alloc, asked.encoder, fault, asked.parts, out);
+            }
+        }
+    }
 }
 
 /// `component_world PART..`, by plain options. `component_world explain`: why there is none, and what that is about.
 fn component_world(alloc: Global, encoder: &ComponentEncoder, parts: &[&str], out: &mut Lines) {
+    let asked = AskedParts { encoder, parts };
     let world = ComponentWorld::new(alloc, encoder, &PlainOptions);
-    put_world(alloc, &world, parts, out);
-    if let Err(fault) = &world {
-        put_asked_place(alloc, encoder, fault, parts, out);
-    }
+    put_last_about(alloc, &asked, world, out);
 }
 
 /// Where the input has a script, the main module is the one that its lines describe.
@@ -168,15 +195,10 @@ fn adapter_fault(alloc: Global, number: u32) -> Result<WorldFault, AllocError> {
 
 /// The text of each fault, in the order of `WorldFault`.
 fn put_faults(alloc: Global, out: &mut Lines) -> Result<(), AllocError> {
-    for fault in &[
-        WorldFault::Memory,
-        WorldFault::Main(ValidateFault::NotAModule),
-    ] {
-        writeln!(out, "{fault}");
-    }
+    put_last_line(out, WorldFault::Memory);
+    put_last_line(out, WorldFault::Main(ValidateFault::NotAModule));
     for number in 0..4 {
-        let fault = adapter_fault(alloc, number)?;
-        writeln!(out, "{fault}");
+        put_last_line(out, adapter_fault(alloc, number)?);
     }
     Ok(())
 }
@@ -192,8 +214,20 @@ fn answer_world<'a>(alloc: Global, row: &'a Row<'a>, out: &mut Lines) -> Result<
 }
 
 fn answer_options<'a>(alloc: Global, row: &'a Row<'a>, out: &mut Lines) -> Result<(), Stop<'a>> {
-    let resolve = resolve_of(alloc, &row.input)?;
-    plain_options(&resolve, &mut argument_words(alloc, row)?, out)
+    match resolve_of(alloc, &row.input) {
+        Ok(resolve) => options_in(alloc, &resolve, row, out),
+        Err(stop) => Err(stop),
+    }
+}
+
+fn options_in<'a>(
+    alloc: Global,
+    resolve: &Resolve,
+    row: &'a Row<'a>,
+    out: &mut Lines,
+) -> Result<(), Stop<'a>> {
+    let mut words = argument_words(alloc, row)?;
+    plain_options(resolve, &mut words, out)
 }
 
 fn answer_faults<'a>(alloc: Global, out: &mut Lines) -> Result<(), Stop<'a>> {

@@ -10,6 +10,7 @@ use wc_lines::lines::Lines;
 use wc_lines::rows::Row;
 use wc_lines::seeds::row_seed;
 use wc_maps::Map;
+use wc_module_rows::validation::answers::{PutAbout, put_last_about, put_last_line};
 use wc_plan::laws::worlds_nameable;
 use wc_plan::{Plan, PlanFault, plan, plan_encoder, write_plan};
 use wc_record::plan_to_json;
@@ -76,9 +77,17 @@ fn put_lines(alloc: Global, plan: &Plan, puts: u32, out: &mut Lines) {
         puts,
         failed: false,
     };
-    match write_plan(plan, &mut printed) {
-        Ok(()) => out.push_lines(&printed.lines),
-        Err(fault) => put_fault(&fault, out),
+    let written = write_plan(plan, &mut printed);
+    put_last_about(alloc, &printed, written, out);
+}
+
+impl PutAbout<Printed> for Result<(), PlanFault> {
+    /// Puts the lines that were printed, or why not all were.
+    fn put_about(&self, _alloc: Global, printed: &Printed, out: &mut Lines) {
+        match self {
+            Ok(()) => out.push_lines(&printed.lines),
+            Err(fault) => put_fault(fault, out),
+        }
     }
 }
 
@@ -124,18 +133,13 @@ fn function_fault(alloc: Global, number: u32) -> Result<PlanFault, AllocError> {
 
 /// The text of each fault, in the order of `PlanFault`.
 fn put_faults(alloc: Global, out: &mut Lines) -> Result<(), AllocError> {
-    let memory = PlanFault::Memory;
-    writeln!(out, "{memory}");
+    put_last_line(out, PlanFault::Memory);
     for number in 0..3 {
-        let fault = function_fault(alloc, number)?;
-        writeln!(out, "{fault}");
+        put_last_line(out, function_fault(alloc, number)?);
     }
-    for fault in &[
-        PlanFault::World(WorldFault::Main(ValidateFault::NotAModule)),
-        PlanFault::Output,
-    ] {
-        writeln!(out, "{fault}");
-    }
+    let main = WorldFault::Main(ValidateFault::NotAModule);
+    put_last_line(out, PlanFault::World(main));
+    put_last_line(out, PlanFault::Output);
     Ok(())
 }
 
@@ -186,17 +190,31 @@ fn puts_of<'a>(alloc: Global, call: Call, row: &'a Row<'a>) -> Result<u32, Stop<
     Ok(puts)
 }
 
+/// A call on a plan, and after how many puts the sink fails that its lines are printed to.
+#[derive(Clone, Copy)]
+struct Asked {
+    call: Call,
+    puts: u32,
+}
+
+impl PutAbout<Asked> for Result<Plan, PlanFault> {
+    /// Puts the answer to a call on a plan.
+    fn put_about(&self, alloc: Global, asked: &Asked, out: &mut Lines) {
+        match asked.call {
+            Call::Json => put_record(alloc, self, out),
+            _ => put_plan(alloc, self, asked.puts, out),
+        }
+    }
+}
+
 /// Puts the answer to a call on the plan of an encoder's world.
 fn put_planned(alloc: Global, call: Call, encoder: &ComponentEncoder, puts: u32, out: &mut Lines) {
-    let plan = if matches!(call, Call::WithoutLowerings) {
-        plan_without_lowerings(alloc, encoder)
+    let asked = Asked { call, puts };
+    if matches!(call, Call::WithoutLowerings) {
+        put_last_about(alloc, &asked, plan_without_lowerings(alloc, encoder), out);
     } else {
-        plan_encoder(alloc, encoder, &PlainOptions)
-    };
-    if matches!(call, Call::Json) {
-        put_record(alloc, &plan, out);
-    } else {
-        put_plan(alloc, &plan, puts, out);
+        let plan = plan_encoder(alloc, encoder, &PlainOptions);
+        put_last_about(alloc, &asked, plan, out);
     }
 }
 

@@ -14,6 +14,7 @@ mod world;
 mod write;
 
 use crate::examples::world::Summary;
+use crate::put_last::{PutFor, put_last_for};
 use std::alloc::Global;
 use std::str;
 use wc_encoder::{ComponentEncoder, EncoderFault};
@@ -202,22 +203,53 @@ fn answer_dropped_resource(row: &Row<'_>, out: &mut Lines) -> Result<(), Stop> {
 fn answer_encoder_for(alloc: Global, row: &Row<'_>, out: &mut Lines) -> Result<(), Stop> {
     let world = WorldId(number(row, 1, out)?);
     let module = bytes_of(alloc, &row.input, out)?;
-    let resolve = match empty_world(alloc) {
-        Ok(resolve) => resolve,
-        Err(fault) => {
-            put_fault(out, fault);
-            return Ok(());
-        }
-    };
-    match encoder::encoder_for(alloc, row_seed(), module, resolve, world) {
-        Ok(encoder) => {
-            put_bytes_lines(out, "module", encoder.module());
-            let id = encoder.metadata().world.0;
-            writeln!(out, "world {id}");
-        }
+    match empty_world(alloc) {
+        Ok(resolve) => put_encoder_for(alloc, module, resolve, world, out),
         Err(fault) => put_fault(out, fault),
     }
     Ok(())
+}
+
+fn put_encoder_for(
+    alloc: Global,
+    module: Vec<u8>,
+    resolve: Resolve,
+    world: WorldId,
+    out: &mut Lines,
+) {
+    match encoder::encoder_for(alloc, row_seed(), module, resolve, world) {
+        Ok(encoder) => put_last_for(alloc, &Asked::Fields, encoder, out),
+        Err(fault) => put_fault(out, fault),
+    }
+}
+
+/// What is asked of an encoder.
+#[derive(Clone, Copy)]
+enum Asked {
+    /// Its module and its world.
+    Fields,
+    ImportedMemory,
+    CanUseSlot1,
+    Summary,
+    PrintedPlan,
+}
+
+impl PutFor<Asked> for ComponentEncoder {
+    fn put_for(&self, alloc: Global, asked: &Asked, out: &mut Lines) {
+        match asked {
+            Asked::Fields => put_fields(self, out),
+            Asked::ImportedMemory => put_imported_memory(alloc, self, out),
+            Asked::CanUseSlot1 => put_can_use_slot_1(alloc, self, out),
+            Asked::Summary => put_summary(alloc, self, out),
+            Asked::PrintedPlan => put_printed_plan(alloc, self, out),
+        }
+    }
+}
+
+fn put_fields(encoder: &ComponentEncoder, out: &mut Lines) {
+    put_bytes_lines(out, "module", encoder.module());
+    let id = encoder.metadata().world.0;
+    writeln!(out, "world {id}");
 }
 
 /// `example printed_lines ARGUMENT..`.
@@ -243,7 +275,7 @@ fn answer_reaches_memory(alloc: Global, row: &Row<'_>, out: &mut Lines) -> Resul
     let required = names_from(alloc, row, 1)?;
     match gc::reaches_memory(alloc, &bytes, &required) {
         Ok(answer) => writeln!(out, "{answer}"),
-        Err(fault) => writeln!(out, "fault {fault}"),
+        Err(fault) => put_fault(out, fault),
     }
     Ok(())
 }
@@ -268,7 +300,7 @@ fn put_both(trimmed: Result<(Vec<u8>, Vec<u8>), GcFault>, out: &mut Lines) {
             out.push_str("second\n");
             put_bytes_lines(out, "bytes", &second);
         }
-        Err(fault) => writeln!(out, "fault {fault}"),
+        Err(fault) => put_fault(out, fault),
     }
 }
 
@@ -281,7 +313,7 @@ fn answer_trim_unedited(alloc: Global, row: &Row<'_>, out: &mut Lines) -> Result
     }
     match gc::trim_unedited(alloc, &bytes, &required) {
         Ok(trimmed) => put_bytes_lines(out, "bytes", &trimmed),
-        Err(fault) => writeln!(out, "fault {fault}"),
+        Err(fault) => put_fault(out, fault),
     }
     Ok(())
 }
@@ -290,8 +322,8 @@ fn answer_trim_unedited(alloc: Global, row: &Row<'_>, out: &mut Lines) -> Result
 fn answer_imported_memory(alloc: Global, row: &Row<'_>, out: &mut Lines) -> Result<(), Stop> {
     let module = bytes_of(alloc, &row.input, out)?;
     match empty_encoder(alloc, module) {
-        Ok(encoder) => put_imported_memory(alloc, &encoder, out),
-        Err(fault) => writeln!(out, "fault {fault}"),
+        Ok(encoder) => put_last_for(alloc, &Asked::ImportedMemory, encoder, out),
+        Err(fault) => put_fault(out, fault),
     }
     Ok(())
 }
@@ -300,8 +332,8 @@ fn answer_imported_memory(alloc: Global, row: &Row<'_>, out: &mut Lines) -> Resu
 fn answer_can_use_slot_1(alloc: Global, row: &Row<'_>, out: &mut Lines) -> Result<(), Stop> {
     let module = bytes_of(alloc, &row.input, out)?;
     match empty_encoder(alloc, module) {
-        Ok(encoder) => put_can_use_slot_1(alloc, &encoder, out),
-        Err(fault) => writeln!(out, "fault {fault}"),
+        Ok(encoder) => put_last_for(alloc, &Asked::CanUseSlot1, encoder, out),
+        Err(fault) => put_fault(out, fault),
     }
     Ok(())
 }
@@ -317,14 +349,14 @@ fn empty_encoder(alloc: Global, module: Vec<u8>) -> Result<ComponentEncoder, Enc
 fn put_imported_memory(alloc: Global, encoder: &ComponentEncoder, out: &mut Lines) {
     match validate::imported_memory(alloc, encoder, encoder.module()) {
         Ok(memory) => writeln!(out, "{memory:?}"),
-        Err(fault) => writeln!(out, "fault {fault}"),
+        Err(fault) => put_fault(out, fault),
     }
 }
 
 fn put_can_use_slot_1(alloc: Global, encoder: &ComponentEncoder, out: &mut Lines) {
     match world::can_use_slot_1(alloc, encoder) {
         Ok(answer) => writeln!(out, "{answer}"),
-        Err(fault) => writeln!(out, "fault {fault}"),
+        Err(fault) => put_fault(out, fault),
     }
 }
 
@@ -333,7 +365,7 @@ fn answer_summary(alloc: Global, row: &Row<'_>, out: &mut Lines) -> Result<(), S
     let main = bytes_beside(alloc, row, "adapter", false, out)?;
     let adapter = bytes_beside(alloc, row, "adapter", true, out)?;
     match demo::demo_encoder(alloc, row_seed(), &main, &adapter) {
-        Ok(encoder) => put_summary(alloc, &encoder, out),
+        Ok(encoder) => put_last_for(alloc, &Asked::Summary, encoder, out),
         Err(fault) => put_fault(out, fault),
     }
     Ok(())
@@ -344,26 +376,19 @@ fn answer_printed_plan(alloc: Global, row: &Row<'_>, out: &mut Lines) -> Result<
     let main = bytes_beside(alloc, row, "adapter", false, out)?;
     let adapter = bytes_beside(alloc, row, "adapter", true, out)?;
     match demo::demo_encoder(alloc, row_seed(), &main, &adapter) {
-        Ok(encoder) => put_printed_plan(alloc, &encoder, out),
-        Err(fault) => {
-            put_fault(out, fault);
-            Ok(())
-        }
-    }
-}
-
-fn put_printed_plan(
-    alloc: Global,
-    encoder: &ComponentEncoder,
-    out: &mut Lines,
-) -> Result<(), Stop> {
-    match plan::printed_plan(alloc, encoder) {
-        Ok(lines) => put_lines(out, &lines),
-        // The lines are put into memory, which ran out.
-        Err(PlanFault::Output) => return Err(Stop::Memory),
+        Ok(encoder) => put_last_for(alloc, &Asked::PrintedPlan, encoder, out),
         Err(fault) => put_fault(out, fault),
     }
     Ok(())
+}
+
+fn put_printed_plan(alloc: Global, encoder: &ComponentEncoder, out: &mut Lines) {
+    match plan::printed_plan(alloc, encoder) {
+        Ok(lines) => put_lines(out, &lines),
+        // The lines are put into memory, which ran out.
+        Err(PlanFault::Output) => out.lack_memory(),
+        Err(fault) => put_fault(out, fault),
+    }
 }
 
 /// The bytes of the lines before the line that separates two modules, or of those after it.
@@ -390,7 +415,7 @@ fn bytes_beside(
 fn put_summary(alloc: Global, encoder: &ComponentEncoder, out: &mut Lines) {
     match world::read_world(alloc, encoder) {
         Ok(summary) => put_parts(&summary, out),
-        Err(fault) => writeln!(out, "fault {fault}"),
+        Err(fault) => put_fault(out, fault),
     }
 }
 

@@ -1,9 +1,10 @@
 //! Calls of `wc_json`: texts read as resolved worlds.
 
+use crate::put_last::{PutFor, put_last_for};
 use std::alloc::Global;
 use wc_fixtures::shown_names::{put_id, put_name};
 use wc_fixtures::shown_worlds::{put_interface, put_package, put_type_def, put_world};
-use wc_json::{Document, JsonFault, document_from_json};
+use wc_json::{Document, document_from_json};
 use wc_lines::input::{Stop, end_answer};
 use wc_lines::lines::Lines;
 use wc_lines::rows::Row;
@@ -26,23 +27,23 @@ fn answer_document(alloc: Global, input: &[&str], out: &mut Lines) -> Result<(),
         text.push_str(line)?;
         text.push('\n')?;
     }
-    put_document(document_from_json(alloc, row_seed(), &text), out)
+    match document_from_json(alloc, row_seed(), &text) {
+        Ok(document) => put_last_for(alloc, &All, document, out),
+        Err(fault) => put_fault(out, fault),
+    }
+    Ok(())
 }
 
-/// Lines for the parts, the package of each world, and the worlds of each package; or for the
-/// fault.
-fn put_document(read: Result<Document, JsonFault>, out: &mut Lines) -> Result<(), Stop> {
-    match read {
-        Ok(document) => {
-            put_parts(out, &document.parts);
-            put_world_packages(out, &document.world_packages);
-            put_package_worlds(out, &document.package_worlds);
-            Ok(())
-        }
-        Err(fault) => {
-            put_fault(out, fault);
-            Ok(())
-        }
+/// That all of a document is asked for.
+#[derive(Clone, Copy)]
+struct All;
+
+impl PutFor<All> for Document {
+    /// Lines for the parts, the package of each world, and the worlds of each package.
+    fn put_for(&self, _alloc: Global, _asked: &All, out: &mut Lines) {
+        put_parts(out, &self.parts);
+        put_world_packages(out, &self.world_packages);
+        put_package_worlds(out, &self.package_worlds);
     }
 }
 

@@ -3,3 +3,4 @@
 
 pub mod examples;
 pub mod json_calls;
+pub(crate) mod put_last;

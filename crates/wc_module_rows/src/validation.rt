@@ -1,5 +1,6 @@
 //! Rows on validated modules.
 
+pub mod answers;
 pub mod calls;
 pub mod described_modules;
 pub(crate) mod explained;

@@ -1,5 +1,5 @@
 -- The texts of keys in sets and maps.
-use Rattle.std.proofs.Common.{◌≡◌, ℕ, ◌+◌, ◌<◌, ◌==◌, zero, suc, Bool, true, false, not, ◌&&◌, cond, if◌then◌else◌, List, [], ◌∷◌, ◌++◌, map, filter, length, take, get_or, Some, is_some, unwrap_or, String, Global, string_bytes, refl, sym, ◌∙◌, ap, append-nil, arith}
+use Rattle.std.proofs.Common.{◌≡◌, ◌⊎◌, inl, ℕ, ◌+◌, ◌<◌, ◌==◌, zero, suc, Bool, true, false, not, ◌&&◌, cond, if◌then◌else◌, List, [], ◌∷◌, ◌++◌, map, filter, length, take, get_or, Some, is_some, unwrap_or, String, Global, string_bytes, refl, sym, ◌∙◌, ap, subst, append-nil, arith}
 use Rattle.std.specs.Borrow.{Bor}
 use Rattle.std.specs.Str.{bytes_eq}
 use Rattle.std.proofs.lemmas.List.{map-append}
@@ -11,8 +11,11 @@ use Rattle.wc_selection.proofs.KeyNameLemmas.{not_one, texted}
 use Rattle.wc_selection.proofs.ListLemmas.{passed_more}
 use Rattle.wc_selection.specs.KeyNames.{count_unversioned, index_text, keys_as_given, keys_by_index, text_as_given, text_or_index_of, unversioned}
 use Rattle.wc_selection.specs.Keys.{NamedKey, named_key, texts_of}
-use Rattle.wc_selection.specs.KeyTexts.{HasSingles, ShortTexts, found_short, is_single, keys_found, single, text_found}
-use Rattle.wc_selection.specs.Texts.{HasTexts}
+use Rattle.wc_selection.specs.KeyTexts.{HasSingles, IsUnknownKey, ShortTexts, found_short, is_single, keys_found, single, text_found}
+use Rattle.wc_selection.specs.ModuleKeys.{IsKeysCause}
+use Rattle.wc_selection.specs.Texts.{HasTexts, IsFirstMissing, is_in}
+use Rattle.wc_selection.specs.declared.fault.RequestFault.{RequestFault}
+use Rattle.wc_selection.specs.declared.fault.RequestFault.TheVariants.{UnknownKey, SeveralKeys, RepeatedKey}
 
 abbrev Pair : Type 0
 Pair = WorldKey × String Global
@@ -106,3 +109,15 @@ module _ (given set : List (List ℕ)) (asked : HasTexts given set) where
   pub indexed_same : (keys : List NamedKey) → keys_by_index set keys ≡ keys_by_index given keys
   indexed_same [] = refl
   indexed_same (k ∷ keys) = λ i. (k.0, index_same k.0 k.1 i) ∷ indexed_same keys i
+
+-- the first text that is missing, by its fault
+
+pub unknown_cause : (given : List (List ℕ)) (own keys : List NamedKey) (text : List ℕ) (f : RequestFault) → IsFirstMissing given (texts_of keys) text
+    → IsUnknownKey own text f → IsKeysCause given own keys f
+unknown_cause given own keys text (UnknownKey key) missing h =
+    subst (λ t. IsFirstMissing given (texts_of keys) t × (is_in (texts_of own) t ≡ false) × (count_unversioned own t ≡ 0)) (sym h.0) (missing, h.1, h.2)
+unknown_cause given own keys text (SeveralKeys key) missing h =
+    subst (λ t. IsFirstMissing given (texts_of keys) t × (is_in (texts_of own) t ≡ false) × (1 < count_unversioned own t)) (sym h.0) (missing, h.1, h.2)
+unknown_cause given own keys text (RepeatedKey key) missing h =
+    inl (subst (λ t. IsFirstMissing given (texts_of keys) t × ((is_in (texts_of own) t ≡ true) ⊎ (count_unversioned own t ≡ 1))) (sym h.0) (missing, h.1))
+unknown_cause given own keys text f missing h = absurd h

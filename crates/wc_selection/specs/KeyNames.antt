@@ -63,7 +63,10 @@ text_or_index given k = text_or_index_of given k.0 k.1
 abbrev pub keys_by_index : List (List ℕ) → List NamedKey → List NamedKey
 keys_by_index given keys = map (λ (k : NamedKey). (k.0, text_or_index given k)) keys
 
--- the keys of a world's exports, in order, each under the text by which a request gives it, or under the index of its
--- interface, where the request gives this
+-- keys, each under the text by which a request gives it, or under the index of its interface, where the request gives this
+abbrev pub indexed_exports : RequestValue → List NamedKey → List NamedKey
+indexed_exports q keys = keys_by_index (given_keys q) (keys_as_given (given_keys q) keys)
+
+-- those of a world's exports, in order
 abbrev pub indexed_keys : RequestValue → ResolveView → ℕ → List NamedKey
-indexed_keys q r world = keys_by_index (given_keys q) (request_keys q r world)
+indexed_keys q r world = indexed_exports q (export_keys r world)

@@ -1,11 +1,20 @@
 -- Texts in sets and maps, in which the texts of keys are looked up. No contract of a public function cites these.
-use Rattle.std.specs.Prelude.{◌≡◌, ℕ, zero, suc, Bool, true, false, not, ◌&&◌, List, map, Option, Some, None, unwrap_or, if◌then◌else◌}
+use Rattle.std.specs.Prelude.{◌≡◌, ◌⊎◌, ◌<◌, ℕ, zero, suc, Bool, true, false, not, ◌&&◌, List, map, Option, Some, None, unwrap_or, if◌then◌else◌}
 use Rattle.std.specs.Borrow.{Bor}
 use Rattle.std.specs.Map.{lookup}
 use Rattle.std.specs.Str.{bytes_eq}
 use Rattle.wc_selection.specs.KeyNames.{count_unversioned, unversioned}
-use Rattle.wc_selection.specs.Keys.{NamedKey}
+use Rattle.wc_selection.specs.Keys.{NamedKey, texts_of}
 use Rattle.wc_selection.specs.Texts.{is_in}
+use Rattle.wc_selection.specs.declared.fault.RequestFault.{RequestFault}
+use Rattle.wc_selection.specs.declared.fault.RequestFault.TheVariants.{UnknownKey, SeveralKeys, RepeatedKey}
+
+-- the fault of a text by which no key is given, of exports with these keys by their own texts
+abbrev pub IsUnknownKey : List NamedKey → List ℕ → RequestFault → Type 0
+IsUnknownKey own text (UnknownKey key) = (key.now ≡ text) × (is_in (texts_of own) text ≡ false) × (count_unversioned own text ≡ 0)
+IsUnknownKey own text (SeveralKeys key) = (key.now ≡ text) × (is_in (texts_of own) text ≡ false) × (1 < count_unversioned own text)
+IsUnknownKey own text (RepeatedKey key) = (key.now ≡ text) × ((is_in (texts_of own) text ≡ true) ⊎ (count_unversioned own text ≡ 1))
+IsUnknownKey own text f = ⊥
 
 -- texts without versions, each with whether it is that of one key alone
 abbrev pub ShortTexts : Type 0

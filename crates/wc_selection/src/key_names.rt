@@ -2,7 +2,7 @@
 
 ghost use Rattle.std.specs.Prelude.{◌≡◌, ◌<◌, ◌&&◌, IfOk, filter, length, map, not, string_bytes};
 ghost use Rattle.std.specs.Str.{bytes_eq};
-ghost use Rattle.wc_selection.specs.KeyNames.{count_unversioned, index_or_text, index_text, indexed_keys, keys_as_given, keys_by_index, request_keys, text_or_index, unversioned, unversioned_text};
+ghost use Rattle.wc_selection.specs.KeyNames.{count_unversioned, index_or_text, index_text, indexed_exports, keys_as_given, keys_by_index, request_keys, text_or_index, unversioned, unversioned_text};
 ghost use Rattle.wc_selection.specs.Keys.{AreKeysApart, named_key};
 ghost use Rattle.wc_selection.specs.KeyTexts.{HasSingles, is_single, keys_found, text_found};
 ghost use Rattle.wc_selection.specs.Requests.{request_value};
@@ -43,9 +43,10 @@ pub fn request_keys(
 
 /// The keys of a world's exports, as [`request_keys`] has them, but that the key of an interface which the request gives by
 /// its index has that text: `interface-3`, as a document has the key of the interface 3 under its own id. So another
-/// export of the same text is not given by it. `seed`: the seed of the maps that are made.
+/// export of the same text is not given by it. `own`: the keys with their own texts, as [`export_keys`] has them. `seed`:
+/// the seed of the maps that are made.
 ///
-/// The world must be in range (`Resolve::has_world`).
+/// No key may be there twice, as in the answer of `export_keys`.
 ///
 /// # Errors
 ///
@@ -54,16 +55,15 @@ pub fn indexed_keys(
     alloc: Global,
     seed: Seed,
     request: &KeyRequest<'_, '_>,
-    resolve: &Resolve,
-    world: WorldId,
+    own: &[(WorldKey, String)],
 ) -> Result<Vec<(WorldKey, String)>, AllocError>
-    requires { world.0 < length resolve.now.worlds }
+    requires { AreKeysApart (map named_key own.now) }
     ensures keys { IfOk result (λ v. map named_key v.items
-        ≡ indexed_keys (request_value request.now) resolve.now world.0) }
+        ≡ indexed_exports (request_value request.now) (map named_key own.now)) }
     ensures differ { IfOk result (λ v. AreKeysApart (map named_key v.items)) }
 {
-    let keys = request_keys(alloc, seed, request, resolve, world)?;
     let given = given_keys(alloc, request)?;
+    let keys = keys_as_given(alloc, seed, &given, own)?;
     keys_by_index(alloc, seed, &given, &keys)
 }
 
@@ -242,7 +242,7 @@ fn is_single(short: &Map<&str, bool>, text: &str) -> bool
 }
 
 /// How many keys have this text without their versions.
-pub fn count_unversioned(keys: &[(WorldKey, String)], text: &str) -> usize
+pub(crate) fn count_unversioned(keys: &[(WorldKey, String)], text: &str) -> usize
     ensures { result ≡ count_unversioned (map named_key keys.now) text.now }
 {
     count_having(keys, text)

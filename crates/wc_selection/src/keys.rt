@@ -57,7 +57,7 @@ fn named_keys(
 }
 
 /// Whether a text is that of one of these keys.
-pub fn is_export(keys: &[(WorldKey, String)], text: &str) -> bool
+pub(crate) fn is_export(keys: &[(WorldKey, String)], text: &str) -> bool
     ensures { result ≡ is_in (texts_of (map named_key keys.now)) text.now }
 {
     has_key_text(keys, text)

@@ -22,8 +22,8 @@ mod worlds;
 
 pub use fault::RequestFault;
 pub use key_index::{AdapterKeys, KeyIndex};
-pub use key_names::{count_unversioned, indexed_keys, request_keys};
-pub use keys::{export_keys, is_export};
+pub use key_names::{indexed_keys, request_keys};
+pub use keys::export_keys;
 pub use main_module::MainModule;
 pub use module_keys::{check_keys, required_keys};
 pub use requests::{Exporter, KeyRequest};

@@ -4,47 +4,69 @@ ghost use Rattle.std.specs.Prelude.{◌≡◌, All, Contains, IfErr, IfNone, IfO
 ghost use Rattle.std.specs.Str.{bytes_eq};
 ghost use Rattle.wc_resolve.specs.Views.{key_view};
 ghost use Rattle.wc_selection.specs.Keys.{AreKeysApart, named_key, texts_of};
+ghost use Rattle.wc_selection.specs.KeyTexts.{IsUnknownKey};
 ghost use Rattle.wc_selection.specs.Requests.{exporter_name, given_keys, request_value};
 ghost use Rattle.wc_selection.specs.ModuleKeys.{AreKeysThere, IsKeysCause, required_keys};
 ghost use Rattle.wc_selection.specs.RequiredTexts.{exporter_texts, gives_keys, is_required_in, required_in, texts_under};
 ghost use Rattle.wc_selection.specs.Texts.{IsFirstMissing, second_parts, text_of, text_pair};
 
 use crate::fault::RequestFault;
-use crate::keys::key_text_set;
+use crate::key_names::count_unversioned;
+use crate::keys::{is_export, key_text_set};
 use crate::requests::{Exporter, KeyRequest, given_keys};
 use crate::texts::{first_outside, first_repeated, is_in_set, text_set};
 use std::alloc::{AllocError, Global};
 use wc_maps::{Seed, Set};
 use wc_resolve::WorldKey;
 
-/// Checks the keys of a request against a world's exports. `seed`: the seed of the sets that are made.
+/// Checks the keys of a request against a world's exports: `keys`, each with the text by which the request gives it. `own`:
+/// the same exports with their own texts, or `keys` again where none is given by its index. `seed`: the seed of the sets
+/// that are made.
 ///
 /// # Errors
 ///
 /// Of several causes, the first in this order is named, and of one in the order of the keys; `Memory` may come in place of
 /// any. Keys of the main module are before those of adapters.
 ///
-/// - `UnknownKey`: none of `keys` has this text.
+/// - A text is that of none of `keys`. `RepeatedKey`: it is that of one of `own`, which is given by its index, or that of
+///   one of them alone without its version, which is given with it too. `SeveralKeys`: it is that of several without their
+///   versions. `UnknownKey`: it is that of none.
 /// - `RepeatedKey`: a key is given twice, for one module or for two.
 /// - `Memory`: an allocation failed.
 pub fn check_keys<'a>(
     alloc: Global,
     seed: Seed,
     request: &KeyRequest<'_, 'a>,
+    own: &[(WorldKey, String)],
     keys: &[(WorldKey, String)],
 ) -> Result<(), RequestFault<'a>>
     ensures there { OnOk result (AreKeysThere (given_keys (request_value request.now))
         (texts_of (map named_key keys.now))) }
     ensures fault { IfErr result (IsKeysCause (given_keys (request_value request.now))
-        (texts_of (map named_key keys.now))) }
+        (map named_key own.now) (map named_key keys.now)) }
 {
     let given = given_keys(alloc, request)?;
     if let Some(unknown) = first_unknown(alloc, seed, &given, keys)? {
-        return Err(RequestFault::UnknownKey(unknown));
+        return Err(unknown_key(own, unknown));
     }
     match first_repeated(alloc, seed, &given)? {
         Some(key) => Err(RequestFault::RepeatedKey(key)),
         None => Ok(()),
+    }
+}
+
+/// The fault of a text by which a request gives none of these keys: it is that of one, or of one alone without its version,
+/// which is given otherwise; or that of several without their versions; or that of none.
+fn unknown_key<'a>(own: &[(WorldKey, String)], text: &'a str) -> RequestFault<'a>
+    ensures { IsUnknownKey (map named_key own.now) text.now result }
+{
+    if is_export(own, text) {
+        return RequestFault::RepeatedKey(text);
+    }
+    match count_unversioned(own, text) {
+        0 => RequestFault::UnknownKey(text),
+        1 => RequestFault::RepeatedKey(text),
+        _ => RequestFault::SeveralKeys(text),
     }
 }
 

@@ -14,8 +14,8 @@ use Rattle.wc_validate.specs.declared.refused.RefusedModule.{RefusedModule}
 use Rattle.wc_world.specs.Causes.{IsStopOf}
 use Rattle.wc_world.specs.Places.{IsInAdapter, IsInMain, IsMinimizedPlace, IsNeededUnder, IsOfAdapter, IsOriginalPlace, IsTrimPlace, IsTrimUnplaced, IsValidationPlace}
 use Rattle.wc_world.specs.Private.Adapters.{main_of, named_adapter}
-use Rattle.wc_world.specs.Private.Refused.{IsInputRefusal, IsMainRefusal, IsModuleRefusal, IsNamedRefusal, IsOfNoPlace, IsPlaceFound, IsPlaceOf, IsPlaceWith, IsPlacedBy}
-use Rattle.wc_world.specs.Refused.{HasNoPlace, IsMemoryRefusal, IsPlaceOrNone, IsRefusedAt}
+use Rattle.wc_world.specs.Private.Refused.{IsInputRefusal, IsModuleRefusal, IsOfNoPlace, IsPlaceOf, IsPlacedBy}
+use Rattle.wc_world.specs.Refused.{HasNoPlace, IsMainRefusal, IsMemoryRefusal, IsNamedRefusal, IsPlaceFound, IsPlaceOrNone, IsPlaceWith, IsRefusedAt}
 use Rattle.wc_world.specs.Trimming.{NamedAdapter}
 use Rattle.wc_world.specs.World.{IsMainRecord}
 use Rattle.wc_world.specs.declared.adapters.AdapterInput.{AdapterInput}

@@ -1,10 +1,16 @@
 -- A component that has no world: its fault, and what that is about.
-use Rattle.std.specs.Prelude.{◌≡◌, IfOk, MatchOption, None, Ok, Option, string_bytes}
+use Rattle.std.specs.Prelude.{◌≡◌, ◌⊎◌, ℕ, IfOk, IsOkAnd, List, MatchOption, None, Ok, Option, Result, Some, String, string_bytes}
+use Rattle.std.specs.Option.{option_map}
+use Rattle.std.specs.declared.alloc.AllocError.{AllocError}
+use Rattle.std.specs.declared.alloc.Global.{Global}
 use Rattle.wc_encoder.specs.EncoderParts.{EncoderView}
 use Rattle.wc_validate.specs.Refused.{HasNoPlace as HasNoPlaceInModule}
-use Rattle.wc_world.specs.Places.{IsOfAdapter, IsTrimUnplaced, IsWorldPlace}
+use Rattle.wc_validate.specs.declared.refused.RefusedModule.{RefusedModule}
+use Rattle.wc_world.specs.Places.{IsInAdapter, IsInMain, IsOfAdapter, IsTrimUnplaced, IsWorldPlace}
 use Rattle.wc_world.specs.declared.fault.WorldFault.{WorldFault}
 use Rattle.wc_world.specs.declared.fault.WorldFault.TheVariants.{Memory, Main, Adapter, Trim, Minimized, PageSize}
+use Rattle.wc_world.specs.declared.places.ModulePlace.{ModulePlace}
+use Rattle.wc_world.specs.declared.places.ModulePlace.TheVariants as place
 use Rattle.wc_world.specs.declared.places.WorldPlace.{WorldPlace}
 use Rattle.wc_world.specs.declared.refused.RefusedWorld.{RefusedWorld}
 
@@ -28,3 +34,25 @@ IsRefusedAt e x = IfOk x.place (IsPlaceOrNone e x.fault)
 -- an allocation failed
 abbrev pub IsMemoryRefusal : RefusedWorld → Type 0
 IsMemoryRefusal x = (x.fault ≡ Memory) × (x.place ≡ Ok None)
+
+-- a place in a module of which this is so; nothing, if there is none
+abbrev pub IsPlaceWith : (WorldPlace → Type 0) → Option ModulePlace → Option WorldPlace → Type 0
+IsPlaceWith Q found answer = MatchOption answer (found ≡ None) (λ (p : WorldPlace). Q p × (found ≡ Some p.place))
+
+-- the same of what was found in a module, if there was memory for it
+abbrev pub IsPlaceFound : {X : Type 0} → (WorldPlace → Type 0) → (X → ModulePlace) → Result (Option X) AllocError → Result (Option WorldPlace) AllocError → Type 0
+IsPlaceFound Q kind found answer = IfOk answer (λ o. IsOkAnd found (λ p. IsPlaceWith Q (option_map kind p) o))
+
+-- the refusal of the main module
+abbrev pub IsMainRefusal : RefusedModule → RefusedWorld → Type 0
+IsMainRefusal m x = (x.fault ≡ Main m.fault) × IsPlaceFound IsInMain place.Validation m.place x.place
+
+-- the refusal of the adapter of a name, with a fault that is made of the name; or else an allocation failed
+abbrev pub IsNamedRefusal : {X : Type 0} → (String Global → WorldFault) → (X → ModulePlace) → List ℕ → Result (Option X) AllocError → RefusedWorld → Type 0
+IsNamedRefusal make kind name found x =
+    IsMemoryRefusal x
+    ⊎ ((s : String Global) × (string_bytes s ≡ name) × (x.fault ≡ make s) × IsPlaceFound (IsInAdapter name) kind found x.place)
+
+-- the refusal of the adapter or the library of a name, as the encoder has it; or else an allocation failed
+abbrev pub IsAdapterRefusal : List ℕ → RefusedModule → RefusedWorld → Type 0
+IsAdapterRefusal name m x = IsNamedRefusal (λ s. Adapter s m.fault) place.Validation name m.place x

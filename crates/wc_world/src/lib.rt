@@ -33,6 +33,6 @@ pub use fault::WorldFault;
 pub use imported::{ImportedInterface, Lowering};
 pub use options::{ImportOptions, PlainOptions, RequiredOptions};
 pub use places::{ModulePlace, WorldPlace, explain};
-pub use refused::RefusedWorld;
+pub use refused::{RefusedWorld, adapter_refusal, main_refusal};
 pub use required::required_exports;
 pub use world::ComponentWorld;

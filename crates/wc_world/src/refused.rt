@@ -1,7 +1,7 @@
 //! Why a component has no world, and what that is about.
 
 ghost use Rattle.wc_world.specs.Places.{IsInAdapter, IsInMain};
-ghost use Rattle.wc_world.specs.Private.Refused.{IsMainRefusal, IsNamedRefusal, IsPlaceFound, IsPlaceWith};
+ghost use Rattle.wc_world.specs.Refused.{IsAdapterRefusal, IsMainRefusal, IsNamedRefusal, IsPlaceFound, IsPlaceWith};
 
 use crate::fault::WorldFault;
 use crate::places::{ModulePlace, WorldPlace, in_adapter, in_module, in_part};
@@ -88,8 +88,10 @@ fn trimming_place(
     in_adapter(alloc, name, in_part(place?))
 }
 
-/// The refusal of a main module that is not valid.
-pub(crate) fn main_refusal(refused: RefusedModule) -> RefusedWorld
+/// The refusal of a component whose main module was refused (`wc_validate::validate_module_explained`): `Main` with the
+/// fault, and the place in the main module; `None` where the fault has none, and `AllocError` where there was no memory for
+/// it.
+pub fn main_refusal(refused: RefusedModule) -> RefusedWorld
     ensures { IsMainRefusal refused result }
 {
     let RefusedModule { fault, place } = refused;
@@ -99,10 +101,12 @@ pub(crate) fn main_refusal(refused: RefusedModule) -> RefusedWorld
     }
 }
 
-/// The refusal of the adapter or the library of a name that is not valid.
-pub(crate) fn adapter_refusal(alloc: Global, name: &str, refused: RefusedModule) -> RefusedWorld
-    ensures { IsNamedRefusal (λ s. WorldFault.Adapter s refused.fault) ModulePlace.Validation
-        name.now refused.place result }
+/// The refusal of a component whose adapter or library of a name was refused, as the encoder has it
+/// (`wc_validate::validate_adapter_module_explained`): `Adapter` with the name and the fault, and the place in this module,
+/// under its name; `None` where the fault has none, and `AllocError` where there was, or is, no memory for it. `Memory`
+/// without a place where there is no memory for the name.
+pub fn adapter_refusal(alloc: Global, name: &str, refused: RefusedModule) -> RefusedWorld
+    ensures { IsAdapterRefusal name.now refused result }
 {
     let RefusedModule { fault, place } = refused;
     match String::from_str(alloc, name) {

@@ -1,13 +1,14 @@
 -- The names of adapters and the keys of a command, one check after another.
-use Rattle.std.proofs.Common.{◌≡◌, ℕ, List, map, All, Contains, refl, sym, subst, Option, Some, None, Result, Ok, Err}
+use Rattle.std.proofs.Common.{◌≡◌, ◌⊎◌, inl, inr, ℕ, true, List, map, All, Contains, refl, sym, subst, Option, Some, None, Result, Ok, Err}
 use Rattle.std.specs.Prelude.{IfErr, OnOk}
-use Rattle.wc_selection.proofs.FirstLemmas.{Words}
+use Rattle.wc_selection.proofs.FirstLemmas.{Words, in_contains}
+use Rattle.wc_selection.specs.KeyNames.{count_unversioned}
 use Rattle.wc_selection.specs.Keys.{NamedKey, texts_of}
 use Rattle.wc_selection.specs.Requests.{given_keys}
 use Rattle.wc_selection.specs.ModuleKeys.{AreKeysThere, IsKeysCause}
-use Rattle.wc_selection.specs.Texts.{AreDistinct, first_parts, text_of}
+use Rattle.wc_selection.specs.Texts.{AreDistinct, IsFirstMissing, first_parts, is_in, text_of}
 use Rattle.wc_selection.specs.declared.fault.RequestFault.{RequestFault}
-use Rattle.wc_selection.specs.declared.fault.RequestFault.TheVariants.{Memory as request_memory}
+use Rattle.wc_selection.specs.declared.fault.RequestFault.TheVariants.{Memory as request_memory, RepeatedKey, SeveralKeys, UnknownKey}
 use Rattle.wcplan_command.specs.Arguments.{CommandView}
 use Rattle.wcplan_command.specs.Fault.{of_request}
 use Rattle.wcplan_command.specs.FileNames.{IsFilesCause}
@@ -40,19 +41,28 @@ pub keys_done : (c : CommandView) (keys : List NamedKey) (r : Result (Unit {0}) 
 keys_done c keys (Ok x) there h = record { adapters = there.0; exporters = there.1; files = there.2; keys_there = h }
 keys_done c keys (Err f) there h = tt
 
--- a fault of a request, as that of a command
-pub request_cause : (given texts : List (List ℕ)) (f : RequestFault) → IsKeysCause given texts f → IsGivenCause given texts (of_request f)
-request_cause given texts request_memory h = tt
-request_cause given texts f h = h
+-- a fault of a request, as that of a command, by whose texts all keys are known
+known_once : (given : List (List ℕ)) (keys : List NamedKey) (text : List ℕ) → IsFirstMissing given (texts_of keys) text
+    → (is_in (texts_of keys) text ≡ true) ⊎ (count_unversioned keys text ≡ 1) → count_unversioned keys text ≡ 1
+known_once given keys text missing (inl has) = absurd (missing.missing (in_contains (texts_of keys) text has))
+known_once given keys text missing (inr one) = one
+
+pub request_cause : (given : List (List ℕ)) (keys : List NamedKey) (f : RequestFault) → IsKeysCause given keys keys f → IsGivenCause given keys (of_request f)
+request_cause given keys request_memory h = tt
+request_cause given keys (UnknownKey key) h = (h.0, h.2)
+request_cause given keys (SeveralKeys key) h = (h.0, h.2)
+request_cause given keys (RepeatedKey key) (inl h) = inl (h.0, known_once given keys key.now h.0 h.1)
+request_cause given keys (RepeatedKey key) (inr h) = inr h
+request_cause given keys f h = absurd h
 
 cause_of_keys : (c : CommandView) (keys : List NamedKey) (f : SelectionFault) → AreAdaptersThere c
-    → IsGivenCause (given_keys (request_of c)) (texts_of keys) f → IsNamesCause c keys f
+    → IsGivenCause (given_keys (request_of c)) keys f → IsNamesCause c keys f
 cause_of_keys c keys Memory there h = tt
 cause_of_keys c keys (Request f) there h = (there, h)
 cause_of_keys c keys f there h = absurd h
 
 pub keys_failed : (c : CommandView) (keys : List NamedKey) (r : Result (Unit {0}) SelectionFault) → AreAdaptersThere c
-    → IfErr r (IsGivenCause (given_keys (request_of c)) (texts_of keys)) → IfErr r (IsNamesCause c keys)
+    → IfErr r (IsGivenCause (given_keys (request_of c)) keys) → IfErr r (IsNamesCause c keys)
 keys_failed c keys (Ok x) there h = tt
 keys_failed c keys (Err f) there h = cause_of_keys c keys f there h
 

@@ -11,13 +11,13 @@ use Rattle.wc_resolve.specs.Views.{key_view}
 use Rattle.wc_resolve.specs.Kinds.{ResolveView}
 use Rattle.wc_resolve.specs.WellFormed.{IsWellFormed as IsResolve}
 use Rattle.wc_selection.proofs.ListLemmas.{passed_more}
-use Rattle.wc_selection.specs.KeyNames.{count_unversioned, request_keys}
-use Rattle.wc_selection.specs.Keys.{NamedKey}
+use Rattle.wc_selection.specs.KeyNames.{request_keys}
+use Rattle.wc_selection.specs.Keys.{NamedKey, texts_of}
 use Rattle.wc_selection.specs.ModuleKeys.{required_keys}
 use Rattle.wc_selection.specs.Texts.{first_parts, second_parts, text_pair}
 use Rattle.wcplan_command.specs.declared.fault.SelectionFault.{SelectionFault}
 use Rattle.wcplan_command.specs.declared.fault.SelectionFault.TheVariants.{Request}
-use Rattle.wc_selection.specs.declared.fault.RequestFault.TheVariants.{UnknownKey, SeveralKeys, RepeatedKey}
+use Rattle.wc_selection.specs.declared.fault.RequestFault.TheVariants.{UnknownKey}
 use Rattle.std.proofs.lemmas.List.{map-append}
 use Rattle.std.specs.List.{AllPairs, AllZip}
 use Rattle.std.proofs.lemmas.Bool.{cases_Bool}
@@ -35,7 +35,7 @@ use Rattle.wcplan_command.specs.Fault.{of_dedupe, of_encoder}
 use Rattle.wcplan_command.specs.ModuleKeys.{AreNamesThere, IsMeant, IsNamesCause, request_of}
 use Rattle.wc_program.specs.Files.{Held}
 use Rattle.wcplan_command.specs.Arguments.{CommandView}
-use Rattle.wcplan_command.specs.Program.{AreWorldsIn, HoldsInput, IsAdapterIn, IsAdaptersCause, IsChosen, IsDocumentIn, IsListed, IsListedCause, IsListedSelection, IsMainCause, IsModulesCause, IsPartsOf, IsPartsWith, IsPlanCause, IsReadFault, IsUnknownKey, Reads}
+use Rattle.wcplan_command.specs.Program.{AreWorldsIn, HoldsInput, IsAdapterIn, IsAdaptersCause, IsChosen, IsDocumentIn, IsListed, IsListedCause, IsMainCause, IsModulesCause, IsNoExport, IsPartsOf, IsPartsWith, IsPlanCause, IsReadFault, Reads}
 use Rattle.wcplan_command.specs.declared.fault.ProgramFault.{ProgramFault}
 use Rattle.wcplan_command.specs.declared.fault.ProgramFault.TheVariants.{Memory, CannotRead, Selection, NoExport, Dedupe}
 
@@ -160,23 +160,16 @@ names_cause c before fails d world f document selected formed cause = absurd cau
 
 -- a key that isn't there
 unknown_listed : (c : CommandView) (keys : List NamedKey) (key : Bor (List ℕ)) (g : ProgramFault) → IsNamesCause c keys (Request (UnknownKey key))
-    → IsUnknownKey keys key g → IsListedCause c keys g
+    → IsNoExport (texts_of keys) key g → IsListedCause c keys g
 unknown_listed c keys key Memory cause h = tt
-unknown_listed c keys key (Selection (Request (RepeatedKey k))) cause h =
-    inr (subst (λ z. IsNamesCause c keys (Request (UnknownKey z))) (sym h.0) cause, subst (λ z. count_unversioned keys z.now ≡ 1) (sym h.0) h.1)
-unknown_listed c keys key (Selection (Request (SeveralKeys k))) cause h =
-    (subst (λ z. IsNamesCause c keys (Request (UnknownKey z))) (sym h.0) cause, subst (λ z. 1 < count_unversioned keys z.now) (sym h.0) h.1)
-unknown_listed c keys key (NoExport k listing) cause h =
-    (subst (λ z. IsNamesCause c keys (Request (UnknownKey z))) (sym h.0.0) cause, subst (λ z. count_unversioned keys z.now ≡ 0) (sym h.0.0) h.1, h.0.1)
+unknown_listed c keys key (NoExport k listing) cause h = (subst (λ z. IsNamesCause c keys (Request (UnknownKey z))) (sym h.0) cause, h.1)
 unknown_listed c keys key g cause h = absurd h
 
 -- another fault of names
 selection_listed : (c : CommandView) (keys : List NamedKey) (f g : SelectionFault) → IsNamesCause c keys f → IsListed f keys (Selection g)
     → IsListedCause c keys (Selection g)
-selection_listed c keys (Request (UnknownKey key)) g cause listed = unknown_listed c keys key (Selection g) cause listed
-selection_listed c keys (Request (SeveralKeys key)) g cause listed = absurd cause.1
-selection_listed c keys (Request (RepeatedKey key)) g cause listed = subst (IsListedSelection c keys) (sym listed) (inl cause)
-selection_listed c keys f g cause listed = subst (IsListedSelection c keys) (sym listed) cause
+selection_listed c keys (Request (UnknownKey key)) g cause listed = absurd listed
+selection_listed c keys f g cause listed = subst (λ s. IsListedCause c keys (Selection s)) (sym listed) cause
 
 pub listed_cause : (c : CommandView) (keys : List NamedKey) (f : SelectionFault) (g : ProgramFault) → IsNamesCause c keys f
     → IsListed f keys g → IsListedCause c keys g

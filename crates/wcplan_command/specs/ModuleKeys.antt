@@ -1,17 +1,18 @@
 -- What a command asks of adapters and of exports.
-use Rattle.std.specs.Prelude.{◌≡◌, ℕ, List, All, Contains, unwrap_or, Option, Some, None, String, string_bytes}
+use Rattle.std.specs.Prelude.{◌≡◌, ◌⊎◌, ◌<◌, ℕ, List, All, Contains, unwrap_or, Option, Some, None, String, string_bytes}
 use Rattle.std.specs.Borrow.{Bor}
 use Rattle.std.specs.Option.{option_map}
 use Rattle.std.specs.declared.alloc.Global.{Global}
 use Rattle.wc_json.specs.Document.{DocumentView}
+use Rattle.wc_selection.specs.KeyNames.{count_unversioned}
 use Rattle.wc_selection.specs.Keys.{NamedKey, texts_of}
 use Rattle.wc_selection.specs.Requests.{RequestValue, given_keys}
-use Rattle.wc_selection.specs.ModuleKeys.{AreKeysThere, IsKeysCause}
+use Rattle.wc_selection.specs.ModuleKeys.{AreKeysThere}
 use Rattle.wc_selection.specs.TaskHook.{no_task_hook}
 use Rattle.wc_selection.specs.Texts.{AreDistinct, IsFirstMissing, IsFirstRepeated, first_parts, text_of}
 use Rattle.wc_selection.specs.WorldParts.{IsWholeWorld}
 use Rattle.wc_selection.specs.Worlds.{IsNoWorld, IsSelected, IsWorldCause}
-use Rattle.wc_selection.specs.declared.fault.RequestFault.TheVariants.{UnknownWorld}
+use Rattle.wc_selection.specs.declared.fault.RequestFault.TheVariants.{Memory as no_memory, UnknownWorld, UnknownKey, SeveralKeys, RepeatedKey}
 use Rattle.wcplan_command.specs.Arguments.{CommandView}
 use Rattle.wcplan_command.specs.FileNames.{AreFilesNamed, IsFilesCause}
 use Rattle.wcplan_command.specs.Listing.{world_listing}
@@ -58,11 +59,17 @@ adapter_names c = first_parts c.adapters
 abbrev pub AreExportersThere : CommandView → Type 0
 AreExportersThere c = All (Contains (adapter_names c)) (first_parts c.adapter_exports)
 
--- why keys are not there, or are given twice
-abbrev pub IsGivenCause : List (List ℕ) → List (List ℕ) → SelectionFault → Type 0
-IsGivenCause given texts Memory = Unit {0}
-IsGivenCause given texts (Request f) = IsKeysCause given texts f
-IsGivenCause given texts f = ⊥
+-- why keys are not there, or are given twice: no key is given by a text, which is that of none without its version, of several,
+-- or of one, which is given with it too; or all are there, and one is given twice
+abbrev pub IsGivenCause : List (List ℕ) → List NamedKey → SelectionFault → Type 0
+IsGivenCause given keys Memory = Unit {0}
+IsGivenCause given keys (Request no_memory) = Unit {0}
+IsGivenCause given keys (Request (UnknownKey key)) = IsFirstMissing given (texts_of keys) key.now × (count_unversioned keys key.now ≡ 0)
+IsGivenCause given keys (Request (SeveralKeys key)) = IsFirstMissing given (texts_of keys) key.now × (1 < count_unversioned keys key.now)
+IsGivenCause given keys (Request (RepeatedKey key)) =
+    (IsFirstMissing given (texts_of keys) key.now × (count_unversioned keys key.now ≡ 1))
+    ⊎ (All (Contains (texts_of keys)) given × IsFirstRepeated given key.now)
+IsGivenCause given keys f = ⊥
 
 -- the names of adapters and the keys of a command are there, and none is given twice
 pub record AreNamesThere (c : CommandView) (keys : List NamedKey) : Type 0 where
@@ -82,4 +89,4 @@ IsNamesCause c keys (UnknownAdapter name) = AreDistinct (adapter_names c) × IsF
 IsNamesCause c keys EmptyDirectory = AreDistinct (adapter_names c) × AreExportersThere c × IsFilesCause c.out (adapter_names c) EmptyDirectory
 IsNamesCause c keys (FileName name) = AreDistinct (adapter_names c) × AreExportersThere c × IsFilesCause c.out (adapter_names c) (FileName name)
 IsNamesCause c keys (MainFile name) = AreDistinct (adapter_names c) × AreExportersThere c × IsFilesCause c.out (adapter_names c) (MainFile name)
-IsNamesCause c keys (Request f) = AreAdaptersThere c × IsKeysCause (given_keys (request_of c)) (texts_of keys) f
+IsNamesCause c keys (Request f) = AreAdaptersThere c × IsGivenCause (given_keys (request_of c)) keys (Request f)

@@ -1,5 +1,5 @@
 -- The program: what it prints, what becomes of files, and its exit status.
-use Rattle.std.specs.Prelude.{◌≡◌, ◌≢◌, ◌⊎◌, ◌<◌, ℕ, Bool, List, [], ◌∷◌, ◌++◌, map, codes, true, false, MatchOption, Option, Some, None, IfOk, IfSome, IsSomeAnd, cond, if◌then◌else◌, Ok, Err, Contains, String, string_bytes}
+use Rattle.std.specs.Prelude.{◌≡◌, ◌≢◌, ◌⊎◌, ℕ, Bool, List, [], ◌∷◌, ◌++◌, map, codes, true, false, MatchOption, Option, Some, None, IfOk, IfSome, IsSomeAnd, cond, if◌then◌else◌, Ok, Err, Contains, String, string_bytes}
 use Rattle.std.specs.declared.alloc.Global.{Global}
 use Rattle.std.specs.Borrow.{Bor}
 use Rattle.std.specs.List.{AllZip}
@@ -41,7 +41,7 @@ use Rattle.wc_ways.specs.Ways.{IsWaysText}
 use Rattle.wc_ways.specs.WaysFaults.{IsWaysFault}
 use Rattle.wc_ways.specs.Nodes.{IsWaysGraph}
 use Rattle.wc_ways.specs.Steps.{IsWaysJson}
-use Rattle.wc_selection.specs.KeyNames.{count_unversioned, request_keys}
+use Rattle.wc_selection.specs.KeyNames.{request_keys}
 use Rattle.wc_selection.specs.Keys.{NamedKey, texts_of}
 use Rattle.wc_selection.specs.ModuleKeys.{required_keys}
 use Rattle.wc_selection.specs.Texts.{second_parts}
@@ -60,7 +60,7 @@ use Rattle.wc_program.specs.Screen.{Printing, nothing, printed, failed}
 use Rattle.wcplan_command.specs.Usage.{fault_and_usage, fault_line, help_text, no_text, usage_text, version_text, wrong_text}
 use Rattle.wcplan_command.specs.declared.fault.SelectionFault.{SelectionFault}
 use Rattle.wcplan_command.specs.declared.fault.SelectionFault.TheVariants.{Request}
-use Rattle.wc_selection.specs.declared.fault.RequestFault.TheVariants.{UnknownKey, SeveralKeys, RepeatedKey}
+use Rattle.wc_selection.specs.declared.fault.RequestFault.TheVariants.{UnknownKey}
 use Rattle.wcplan_command.specs.declared.fault.ProgramFault.{ProgramFault}
 use Rattle.wcplan_command.specs.declared.fault.ProgramFault.TheVariants.{Memory, CannotRead, NotText, NotJson, RepeatedMember, Json, Selection, NoWorld, NoExport, Resolve, Dedupe, Encoder, World, Plan, Ways, CannotMake, CannotWrite, Output}
 
@@ -274,39 +274,25 @@ IsModulesCause c before fails f = IsMainCause before fails c.main f
 abbrev pub IsAnyChosen : CommandView → Option Held → Type 0
 IsAnyChosen c before = (d : DocumentView) × (world : ℕ) × IsChosen c before d world
 
--- no key has a text: what exports there are is said; or the text is that of one key without its version, which is given
--- with it too, or that of several
+-- no key has a text: what exports there are is said
 abbrev pub IsNoExport : List (List ℕ) → Bor (List ℕ) → ProgramFault → Type 0
 IsNoExport texts key Memory = Unit {0}
 IsNoExport texts key (NoExport k listing) = (k ≡ key) × (string_bytes listing ≡ listing_text texts)
 IsNoExport texts key f = ⊥
 
-abbrev pub IsUnknownKey : List NamedKey → Bor (List ℕ) → ProgramFault → Type 0
-IsUnknownKey keys key (Selection (Request (RepeatedKey k))) = (k ≡ key) × (count_unversioned keys key.now ≡ 1)
-IsUnknownKey keys key (Selection (Request (SeveralKeys k))) = (k ≡ key) × (1 < count_unversioned keys key.now)
-IsUnknownKey keys key (NoExport k listing) = IsNoExport (texts_of keys) key (NoExport k listing) × (count_unversioned keys key.now ≡ 0)
-IsUnknownKey keys key Memory = Unit {0}
-IsUnknownKey keys key f = ⊥
-
 -- the fault of a program for a fault of names
 abbrev pub IsListed : SelectionFault → List NamedKey → ProgramFault → Type 0
-IsListed (Request (UnknownKey key)) keys g = IsUnknownKey keys key g
+IsListed (Request (UnknownKey key)) keys g = IsNoExport (texts_of keys) key g
 IsListed f keys Memory = Unit {0}
 IsListed f keys (Selection g) = g ≡ f
 IsListed f keys g = ⊥
 
-abbrev pub IsListedSelection : CommandView → List NamedKey → SelectionFault → Type 0
-IsListedSelection c keys (Request (UnknownKey key)) = ⊥
-IsListedSelection c keys (Request (SeveralKeys key)) = IsNamesCause c keys (Request (UnknownKey key)) × (1 < count_unversioned keys key.now)
-IsListedSelection c keys (Request (RepeatedKey key)) =
-    IsNamesCause c keys (Request (RepeatedKey key)) ⊎ (IsNamesCause c keys (Request (UnknownKey key)) × (count_unversioned keys key.now ≡ 1))
-IsListedSelection c keys f = IsNamesCause c keys f
-
 abbrev pub IsListedCause : CommandView → List NamedKey → ProgramFault → Type 0
 IsListedCause c keys Memory = Unit {0}
 IsListedCause c keys (NoExport key listing) =
-    IsNamesCause c keys (Request (UnknownKey key)) × (count_unversioned keys key.now ≡ 0) × (string_bytes listing ≡ listing_text (texts_of keys))
-IsListedCause c keys (Selection f) = IsListedSelection c keys f
+    IsNamesCause c keys (Request (UnknownKey key)) × (string_bytes listing ≡ listing_text (texts_of keys))
+IsListedCause c keys (Selection (Request (UnknownKey key))) = ⊥
+IsListedCause c keys (Selection f) = IsNamesCause c keys f
 IsListedCause c keys f = ⊥
 
 -- names are not there, of a world that is selected of worlds that are well-formed

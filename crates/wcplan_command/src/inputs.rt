@@ -10,7 +10,7 @@ ghost use Rattle.wc_selection.specs.Texts.{AreDistinct};
 ghost use Rattle.wc_program.specs.Files.{FailsToRead};
 ghost use Rattle.wcplan_command.specs.Arguments.{command_view};
 ghost use Rattle.wcplan_command.specs.ModuleKeys.{AreNamesThere, adapter_names, request_of};
-ghost use Rattle.wcplan_command.specs.Program.{AreAdaptersIn, AreWorldsIn, IsAdaptersCause, IsEncoderOf, IsListed, IsListedCause, IsMainCause, IsMainIn, IsModulesCause, IsNoExport, IsPartsWith, IsPlanCause, IsUnknownKey};
+ghost use Rattle.wcplan_command.specs.Program.{AreAdaptersIn, AreWorldsIn, IsAdaptersCause, IsEncoderOf, IsListed, IsListedCause, IsMainCause, IsMainIn, IsModulesCause, IsNoExport, IsPartsWith, IsPlanCause};
 
 use crate::arguments::Command;
 use crate::documents::{read_file, read_worlds};
@@ -23,7 +23,7 @@ use wc_encoder::{Adapter, ComponentEncoder, EncoderParts, Metadata};
 use wc_maps::{Map, Seed};
 use wc_program::FileStore;
 use wc_resolve::WorldKey;
-use wc_selection::{Exporter, MainModule, RequestFault, count_unversioned};
+use wc_selection::{Exporter, MainModule, RequestFault};
 
 /// The encoder of a command, from its files.
 pub(crate) fn read_encoder<'a, F: FileStore>(
@@ -73,8 +73,8 @@ fn chosen_world<'a, F: FileStore>(
     Ok(ChosenWorld { metadata, keys })
 }
 
-/// Checks the names of adapters and the keys of a command, as `check_names` does, with the fault of `unknown_key` for that
-/// of a key that isn't there.
+/// Checks the names of adapters and the keys of a command, as `check_names` does; the fault of a key that isn't there has
+/// what exports there are.
 fn check_listed<'a>(
     alloc: Global,
     seed: Seed,
@@ -92,7 +92,7 @@ fn check_listed<'a>(
     }
 }
 
-/// A fault of names; for that of a key that isn't there the one of `unknown_key`.
+/// A fault of names; for that of a key that isn't there the one of `no_export`.
 fn listed_fault<'a>(
     alloc: Global,
     fault: SelectionFault<'a>,
@@ -101,20 +101,8 @@ fn listed_fault<'a>(
     ensures { IsListed fault.entry (map named_key keys.now) result }
 {
     match fault {
-        SelectionFault::Request(RequestFault::UnknownKey(key)) => unknown_key(alloc, key, keys),
+        SelectionFault::Request(RequestFault::UnknownKey(key)) => no_export(alloc, key, keys),
         _ => ProgramFault::from(fault),
-    }
-}
-
-/// Why a text is that of none of these keys: it is that of several without their versions, or of one that is given with it
-/// too; or else there is none, and the fault has what exports there are.
-fn unknown_key<'a>(alloc: Global, key: &'a str, keys: &[(WorldKey, String)]) -> ProgramFault<'a>
-    ensures { IsUnknownKey (map named_key keys.now) key.entry result }
-{
-    match count_unversioned(keys, key) {
-        0 => no_export(alloc, key, keys),
-        1 => ProgramFault::from(RequestFault::RepeatedKey(key)),
-        _ => ProgramFault::from(RequestFault::SeveralKeys(key)),
     }
 }
 

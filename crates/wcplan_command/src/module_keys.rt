@@ -66,7 +66,8 @@ pub(crate) fn command_keys(
 /// - `RepeatedAdapter`: two adapters have one name.
 /// - `UnknownAdapter`: no adapter has the name of one that has to export a key.
 /// - `EmptyDirectory`, `FileName`, `MainFile`: files are to be written, and can't be named (`file_fault`).
-/// - `UnknownKey`: the world doesn't export the key.
+/// - `UnknownKey`, `SeveralKeys`, `RepeatedKey`: no export is given by a text, which is that of none without its version, of
+///   several, or of one that is given with its version too.
 /// - `RepeatedKey`: a key is given twice, for one module or for two.
 /// - `Memory`: an allocation failed.
 pub(crate) fn check_names<'a>(
@@ -104,10 +105,10 @@ fn check_keys<'a>(
     ensures there { OnOk result (AreKeysThere (given_keys (request_of (command_view command.now)))
         (texts_of (map named_key keys.now))) }
     ensures fault { IfErr result (IsGivenCause (given_keys (request_of (command_view command.now)))
-        (texts_of (map named_key keys.now))) }
+        (map named_key keys.now)) }
 {
     let request = key_request(command);
-    match wc_selection::check_keys(alloc, seed, &request, keys) {
+    match wc_selection::check_keys(alloc, seed, &request, keys, keys) {
         Ok(()) => Ok(()),
         Err(fault) => Err(SelectionFault::from(fault)),
     }

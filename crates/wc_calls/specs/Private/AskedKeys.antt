@@ -1,13 +1,12 @@
 -- Words of contracts of private functions. No contract of a public function cites these, directly or through others.
 -- What is asked of a world's exports, and the faults of keys.
-use Rattle.std.specs.Prelude.{◌≡◌, ◌⊎◌, ◌<◌, ℕ, Bool, true, false, List, map, Option, ⊤, string_bytes}
+use Rattle.std.specs.Prelude.{◌≡◌, ℕ, Bool, List, map, Option, ⊤, string_bytes}
 use Rattle.wc_resolve.specs.Views.{key_view}
 use Rattle.wc_resolve.specs.Kinds.{ResolveView}
-use Rattle.wc_selection.specs.KeyNames.{count_unversioned, indexed_keys}
+use Rattle.wc_selection.specs.KeyNames.{indexed_keys}
 use Rattle.wc_selection.specs.Keys.{AreKeysApart, NamedKey, export_keys, named_key, texts_of}
 use Rattle.wc_selection.specs.ModuleKeys.{AreKeysThere}
 use Rattle.wc_selection.specs.Requests.{RequestValue, given_keys}
-use Rattle.wc_selection.specs.Texts.{is_in}
 use Rattle.wc_selection.specs.declared.fault.RequestFault.{RequestFault}
 use Rattle.wc_selection.specs.declared.fault.RequestFault.TheVariants as request
 use Rattle.wc_json.specs.Messages.{AdapterMessageView, KeyMessageView}
@@ -44,21 +43,10 @@ IsExportersCause r world exports ms bytes Memory = ⊤
 IsExportersCause r world exports ms bytes f =
     AreKeysThere (given_keys (request_of exports ms)) (texts_of (keys_in r world exports ms)) × IsAdaptersCause ms bytes f
 
--- the fault of a key that no export is given by, of exports with these keys by their own texts
-abbrev pub IsUnknownKey : List NamedKey → List ℕ → MessageFault → Type 0
-IsUnknownKey own key Memory = ⊤
-IsUnknownKey own key (UnknownKey k) = (string_bytes k ≡ key) × (count_unversioned own key ≡ 0)
-IsUnknownKey own key (RepeatedKey k) = (string_bytes k ≡ key) × ((is_in (texts_of own) key ≡ true) ⊎ (count_unversioned own key ≡ 1))
-IsUnknownKey own key (SeveralKeys k) = (string_bytes k ≡ key) × (is_in (texts_of own) key ≡ false) × (1 < count_unversioned own key)
-IsUnknownKey own key f = ⊥
-
-abbrev pub IsRepeatedKey : List ℕ → MessageFault → Type 0
-IsRepeatedKey key Memory = ⊤
-IsRepeatedKey key (RepeatedKey k) = string_bytes k ≡ key
-IsRepeatedKey key f = ⊥
-
 -- the fault of a message for that of its keys as a request
-abbrev pub IsKeyFault : List NamedKey → RequestFault → MessageFault → Type 0
-IsKeyFault own (request.UnknownKey key) g = IsUnknownKey own key.now g
-IsKeyFault own (request.RepeatedKey key) g = IsRepeatedKey key.now g
-IsKeyFault own f g = g ≡ Memory
+abbrev pub IsKeyFault : RequestFault → MessageFault → Type 0
+IsKeyFault f Memory = ⊤
+IsKeyFault (request.UnknownKey key) (UnknownKey k) = string_bytes k ≡ key.now
+IsKeyFault (request.SeveralKeys key) (SeveralKeys k) = string_bytes k ≡ key.now
+IsKeyFault (request.RepeatedKey key) (RepeatedKey k) = string_bytes k ≡ key.now
+IsKeyFault f g = ⊥

@@ -1,26 +1,24 @@
 -- Words of contracts of private functions. No contract of a public function cites these, directly or through others.
 -- What is answered for one module of an encoder.
-use Rattle.std.specs.Prelude.{◌≡◌, ℕ, List, [], map, MatchOption, Option, String, ⊤, string_bytes}
+use Rattle.std.specs.Prelude.{◌≡◌, ℕ, List, [], map, MatchOption, Option, ⊤, string_bytes}
 use Rattle.std.specs.Option.{option_map}
-use Rattle.std.specs.declared.alloc.Global.{Global}
 use Rattle.wc_adapters.specs.Adapters.{library_view}
 use Rattle.wc_encoder.specs.EncoderParts.{EncoderView}
 use Rattle.wc_resolve.specs.Views.{key_view}
 use Rattle.wc_validate.specs.Imports.Map.{required_entry}
-use Rattle.wc_validate.specs.Explain.{IsUnplaced}
-use Rattle.wc_validate.specs.Validate.{IsRecordOf, ModuleRecord, ValidationInput, adapter_input}
+use Rattle.wc_validate.specs.Refused.{HasNoPlace}
+use Rattle.wc_validate.specs.Validate.{IsRecordOf, IsValidateCause, ModuleRecord, ValidationInput, adapter_input, main_input}
 use Rattle.wc_validate.specs.declared.fault.ValidateFault.{ValidateFault}
 use Rattle.wc_world.specs.Causes.{IsRefused}
 use Rattle.wc_world.specs.Places.{IsInAdapter, IsValidationPlace}
-use Rattle.wc_world.specs.declared.fault.WorldFault.TheVariants.{Adapter}
+use Rattle.wc_world.specs.declared.fault.WorldFault.TheVariants.{Adapter, Main}
 use Rattle.wc_world.specs.declared.places.WorldPlace.{WorldPlace}
 use Rattle.wc_record.specs.Places.{world_place_json}
-use Rattle.wc_calls.specs.FaultAnswers.{IsFaultAnswered}
 use Rattle.wc_calls.specs.Places.{place_text}
 use Rattle.wc_calls.specs.Validation.{IsModulePlaceText, IsModuleRefused}
-use Rattle.wc_calls.specs.declared.answers.Answer.{Answer}
 use Rattle.wc_calls.specs.declared.message_fault.MessageFault.{MessageFault}
 use Rattle.wc_calls.specs.declared.message_fault.MessageFault.TheVariants.{Memory, World}
+use Rattle.wc_calls.specs.declared.refused_component.RefusedComponent.{RefusedComponent}
 use Rattle.wc_calls.specs.declared.validation.AdapterInput.{AdapterInput}
 
 -- why a module of an encoder is refused
@@ -44,22 +42,34 @@ input_of g =
 abbrev pub IsInputValid : AdapterInput → Type 0
 IsInputValid g = (r : ModuleRecord) × IsRecordOf (input_of g) g.adapter.now.wasm.items r
 
--- what a fault of it is about, as a text
+-- what a fault of it is about: a place under its name, or none
 abbrev pub IsInputPlace : AdapterInput → ValidateFault → Option WorldPlace → Type 0
 IsInputPlace g f place =
-    MatchOption place (IsUnplaced (input_of g) g.adapter.now.wasm.items f)
-    (λ (p : WorldPlace). IsInAdapter g.name.now p × IsValidationPlace (input_of g) g.adapter.now.wasm.items f p.place)
+    MatchOption place (HasNoPlace f) (λ (p : WorldPlace). IsInAdapter g.name.now p × IsValidationPlace (input_of g) g.adapter.now.wasm.items f p.place)
 
-abbrev pub IsInputPlaceText : AdapterInput → ValidateFault → List ℕ → Type 0
-IsInputPlaceText g f text = (p : Option WorldPlace) × IsInputPlace g f p × (text ≡ place_text world_place_json p)
+-- why the main module is refused
+abbrev pub IsMainCause : EncoderView → MessageFault → Type 0
+IsMainCause e Memory = ⊤
+IsMainCause e (World (Main f)) = IsValidateCause (main_input e e.module_import_map) e.module_bytes f
+IsMainCause e f = ⊥
 
--- the answer is this fault of it, which is not that an allocation failed, under its name
-pub record IsInputFaultAnswer (g : AdapterInput) (f : ValidateFault) (answer : Answer) (old new : List ℕ) : Type 0 where
-  pub name : String Global
-  pub named : string_bytes name ≡ g.name.now
-  pub answered : IsFaultAnswered (λ (m : MessageFault). m ≡ World (Adapter name f)) (λ (m : MessageFault) (text : List ℕ). IsInputPlaceText g f text) answer old new
+-- why an adapter or a library is, and what that is about
+abbrev pub IsInputCause : AdapterInput → MessageFault → Option WorldPlace → Type 0
+IsInputCause g Memory place = ⊤
+IsInputCause g (World (Adapter own f)) place =
+    (string_bytes own ≡ g.name.now) × IsValidateCause (input_of g) g.adapter.now.wasm.items f × IsInputPlace g f place
+IsInputCause g f place = ⊥
 
--- it is refused
-abbrev pub IsInputRefused : AdapterInput → Answer → List ℕ → List ℕ → Type 0
-IsInputRefused g answer old new =
-    (f : ValidateFault) × IsRefused (input_of g) g.adapter.now.wasm.items f × IsInputFaultAnswer g f answer old new
+abbrev pub IsInputRefusal : AdapterInput → RefusedComponent → Type 0
+IsInputRefusal g x = IsInputCause g x.fault x.place
+
+-- the fault of an adapter or a library, which is not that an allocation failed, and what it is about, as a text
+
+abbrev pub IsInputFault : AdapterInput → MessageFault → Type 0
+IsInputFault g Memory = ⊤
+IsInputFault g (World (Adapter own f)) = (string_bytes own ≡ g.name.now) × IsRefused (input_of g) g.adapter.now.wasm.items f
+IsInputFault g f = ⊥
+
+abbrev pub IsInputPlaceFor : AdapterInput → MessageFault → List ℕ → Type 0
+IsInputPlaceFor g (World (Adapter own f)) text = (p : Option WorldPlace) × IsInputPlace g f p × (text ≡ place_text world_place_json p)
+IsInputPlaceFor g f text = text ≡ []

@@ -1,7 +1,12 @@
 //! The calls of `wc_validate`.
 
+use crate::validation::answers::{
+    PutAbout, PutAsked, put_last_about, put_last_asked, put_last_line,
+};
 use crate::validation::described_modules::{DescribedModule, described_of};
-use crate::validation::explained::{AdapterModule, MainModule, explain_adapter, explain_main};
+use crate::validation::explained::{
+    AdapterModule, AmongInterfaces, MainModule, explain_adapter, explain_main,
+};
 use crate::validation::export_calls::{classify_exports, put_found_reallocs, put_recorded};
 use crate::validation::shown_modules::{put_imports, put_memory, put_modules, put_required};
 use std::alloc::Global;
@@ -15,9 +20,12 @@ use wc_fixtures::stop::{Stop, put_answered};
 use wc_fixtures::words::Words;
 use wc_lines::lines::Lines;
 use wc_lines::rows::Row;
+use wc_lines::values::put_fault;
 use wc_name_rows::shown_imports::put_copy;
 use wc_read::ReadFault;
-use wc_validate::{ImportInstance, ValidateFault, ValidatedModule, validate_module};
+use wc_validate::{
+    ImportInstance, ValidateFault, ValidatedModule, WorldInterfaces, validate_module,
+};
 
 /// The calls on an encoder, and that for the texts of faults.
 #[derive(Clone, Copy)]
@@ -49,23 +57,20 @@ fn put_asked(validated: &ValidatedModule, words: &mut Words, out: &mut Lines) ->
     words.end()
 }
 
-/// Puts the answers of a validated module, or why it was refused.
-fn put_validated(
-    validated: &Result<ValidatedModule, ValidateFault>,
-    words: &mut Words,
-    out: &mut Lines,
-) -> Result<(), Bad> {
-    match validated {
-        Ok(validated) => put_asked(validated, words, out),
-        // a copy of it has the same text
-        Err(ValidateFault::AdapterModuleDidNotExport(missing)) => {
-            let copy = missing.clone(words.alloc)?;
-            writeln!(out, "fault {copy}");
-            Ok(())
-        }
-        Err(fault) => {
-            writeln!(out, "fault {fault}");
-            Ok(())
+impl PutAsked for Result<ValidatedModule, ValidateFault> {
+    /// Puts the answers of a validated module, or why it was refused.
+    fn put_asked(&self, words: &mut Words, out: &mut Lines) -> Result<(), Bad> {
+        match self {
+            Ok(validated) => put_asked(validated, words, out),
+            // a copy of it has the same text
+            Err(ValidateFault::AdapterModuleDidNotExport(missing)) => {
+                put_fault(out, missing.clone(words.alloc)?);
+                Ok(())
+            }
+            Err(fault) => {
+                writeln!(out, "fault {fault}");
+                Ok(())
+            }
         }
     }
 }
@@ -88,7 +93,7 @@ fn put_as_main(
         explain_main(words.alloc, &checked, out);
         return words.end();
     }
-    put_validated(&checked.validated(words.alloc), words, out)
+    put_last_asked(checked.validated(words.alloc), words, out)
 }
 
 /// Puts single imports, without their names.
@@ -100,16 +105,22 @@ fn put_own(alloc: Global, instance: &ImportInstance, out: &mut Lines) {
     }
 }
 
-/// Puts the record of the one import of a module, or why the module was refused.
-fn put_alone(alloc: Global, validated: &Result<ValidatedModule, ValidateFault>, out: &mut Lines) {
-    match validated {
-        Ok(validated) => {
-            for (_, instance) in validated.imports.modules().iter() {
-                put_own(alloc, instance, out);
+/// That a module has one import.
+#[derive(Clone, Copy)]
+struct OneImport;
+
+impl PutAbout<OneImport> for Result<ValidatedModule, ValidateFault> {
+    /// Puts the record of the one import of a module, or why the module was refused.
+    fn put_about(&self, alloc: Global, _about: &OneImport, out: &mut Lines) {
+        match self {
+            Ok(validated) => {
+                for (_, instance) in validated.imports.modules().iter() {
+                    put_own(alloc, instance, out);
+                }
+                out.push('\n');
             }
-            out.push('\n');
+            Err(fault) => writeln!(out, "fault {fault}"),
         }
-        Err(fault) => writeln!(out, "fault {fault}"),
     }
 }
 
@@ -125,7 +136,8 @@ fn classify_line(
     described.put_names(out);
     let bytes = described.into_bytes(alloc)?;
     encoder.well_formedness();
-    put_alone(alloc, &validate_module(alloc, encoder, &bytes, None), out);
+    let validated = validate_module(alloc, encoder, &bytes, None);
+    put_last_about(alloc, &OneImport, validated, out);
     Ok(())
 }
 
@@ -212,10 +224,30 @@ fn put_adapter_module(
         return words.end();
     }
     if words.take("among") {
-        let modules = words.number()? as usize;
-        return put_validated(&checked.validated_among(words.alloc, modules), words, out);
+        return put_among(checked, words, out);
     }
-    put_validated(&checked.validated(words.alloc), words, out)
+    put_last_asked(checked.validated(words.alloc), words, out)
+}
+
+impl PutAsked for AmongInterfaces<'_> {
+    fn put_asked(&self, words: &mut Words, out: &mut Lines) -> Result<(), Bad> {
+        put_last_asked(self.validated(words.alloc), words, out)
+    }
+}
+
+/// Puts the answers of a module as an adapter, by interfaces that are made for so many modules as the next word says.
+fn put_among(checked: &AdapterModule<'_>, words: &mut Words, out: &mut Lines) -> Result<(), Bad> {
+    let modules = words.number()? as usize;
+    match WorldInterfaces::new(words.alloc, checked.encoder, modules) {
+        Ok(interfaces) => {
+            let among = AmongInterfaces {
+                checked: *checked,
+                interfaces,
+            };
+            put_last_asked(among, words, out)
+        }
+        Err(_) => Err(Bad::Memory),
+    }
 }
 
 /// The module that is described, as the adapter of the name that is the first word.
@@ -236,34 +268,29 @@ fn put_adapter<'a>(
 
 /// The text of each fault of imports, in the order of `ValidateFault`.
 fn put_faults(out: &mut Lines) {
-    let faults = [
-        ValidateFault::Memory,
-        ValidateFault::Read(ReadFault::NotWasm),
-        ValidateFault::NotAModule,
-        ValidateFault::NotAFunction,
-        ValidateFault::SignatureMismatch,
-        ValidateFault::NoRootImport,
-        ValidateFault::RootNotFunction,
-        ValidateFault::BadSyntax,
-        ValidateFault::UnknownInterface,
-        ValidateFault::UnknownIntrinsic,
-        ValidateFault::MissingFunction,
-        ValidateFault::NoSuchExport,
-        ValidateFault::WholeDiffers,
-        ValidateFault::Mixed,
-        ValidateFault::SeveralMemoryImports,
-        ValidateFault::DuplicateImport,
-        ValidateFault::AdapterTypesDiffer,
-        ValidateFault::SeveralMemoryExports,
-        ValidateFault::MissingCallback,
-        ValidateFault::MissingInterfaceExport,
-        ValidateFault::MissingWorldExport,
-        ValidateFault::AdapterExportType,
-        ValidateFault::TypedReference,
-    ];
-    for fault in &faults {
-        writeln!(out, "{fault}");
-    }
+    put_last_line(out, ValidateFault::Memory);
+    put_last_line(out, ValidateFault::Read(ReadFault::NotWasm));
+    put_last_line(out, ValidateFault::NotAModule);
+    put_last_line(out, ValidateFault::NotAFunction);
+    put_last_line(out, ValidateFault::SignatureMismatch);
+    put_last_line(out, ValidateFault::NoRootImport);
+    put_last_line(out, ValidateFault::RootNotFunction);
+    put_last_line(out, ValidateFault::BadSyntax);
+    put_last_line(out, ValidateFault::UnknownInterface);
+    put_last_line(out, ValidateFault::UnknownIntrinsic);
+    put_last_line(out, ValidateFault::MissingFunction);
+    put_last_line(out, ValidateFault::NoSuchExport);
+    put_last_line(out, ValidateFault::WholeDiffers);
+    put_last_line(out, ValidateFault::Mixed);
+    put_last_line(out, ValidateFault::SeveralMemoryImports);
+    put_last_line(out, ValidateFault::DuplicateImport);
+    put_last_line(out, ValidateFault::AdapterTypesDiffer);
+    put_last_line(out, ValidateFault::SeveralMemoryExports);
+    put_last_line(out, ValidateFault::MissingCallback);
+    put_last_line(out, ValidateFault::MissingInterfaceExport);
+    put_last_line(out, ValidateFault::MissingWorldExport);
+    put_last_line(out, ValidateFault::AdapterExportType);
+    put_last_line(out, ValidateFault::TypedReference);
 }
 
 /// A module, as the main one: that of the encoder after the word `main`, else the one that is described.

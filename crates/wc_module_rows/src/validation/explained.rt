@@ -1,5 +1,6 @@
 //! Places of faults of modules.
 
+use crate::validation::answers::{PutAbout, put_last_about};
 use std::alloc::{AllocError, Global};
 use wc_dedupe::ModuleImportMap;
 use wc_encoder::{Adapter, ComponentEncoder};
@@ -21,21 +22,19 @@ fn put_found(lines: &mut Lines, place: &Result<Option<Place>, AllocError>) {
     }
 }
 
-/// The lines of a fault, and of what it is about.
-fn fault_lines(
-    alloc: Global,
-    fault: &ValidateFault,
-    place: &Result<Option<Place>, AllocError>,
-) -> Lines {
-    let mut lines = Lines::new(alloc);
-    writeln!(lines, "fault {fault}");
-    put_found(&mut lines, place);
-    lines
+impl PutAbout<ValidateFault> for Result<Option<Place>, AllocError> {
+    /// Appends the fault, and the place that it is about.
+    fn put_about(&self, _alloc: Global, fault: &ValidateFault, out: &mut Lines) {
+        writeln!(out, "fault {fault}");
+        put_found(out, self);
+    }
 }
 
 /// The lines of a module that is refused.
 fn refused_lines(alloc: Global, refused: &RefusedModule) -> Lines {
-    fault_lines(alloc, &refused.fault, &refused.place)
+    let mut lines = Lines::new(alloc);
+    refused.place.put_about(alloc, &refused.fault, &mut lines);
+    lines
 }
 
 /// Appends lines, unless they are as those that another call answered.
@@ -62,8 +61,10 @@ impl MainModule<'_> {
 
     /// The lines of this fault, and of the place that `explain_module` answers of it.
     fn explained(&self, alloc: Global, fault: &ValidateFault) -> Lines {
+        let mut lines = Lines::new(alloc);
         let place = explain_module(alloc, self.encoder, self.bytes, self.renames, fault);
-        fault_lines(alloc, fault, &place)
+        put_last_about(alloc, fault, place, &mut lines);
+        lines
     }
 }
 
@@ -75,15 +76,24 @@ fn put_main(alloc: Global, checked: &MainModule<'_>, refused: &RefusedModule, ou
     put_unlike(out, &explained, &lines);
 }
 
+/// The record of a module, or why it is refused and what that is about.
+type Explained = Result<ValidatedModule, RefusedModule>;
+
+impl<'a> PutAbout<MainModule<'a>> for Explained {
+    fn put_about(&self, alloc: Global, checked: &MainModule<'a>, out: &mut Lines) {
+        match self {
+            Ok(_) => out.push_str("ok\n"),
+            Err(refused) => put_main(alloc, checked, refused, out),
+        }
+    }
+}
+
 /// Why a module is refused as an encoder's main one, and what that is about, as two calls answer it; once, where they agree.
 pub(crate) fn explain_main(alloc: Global, checked: &MainModule<'_>, out: &mut Lines) {
     let encoder = checked.encoder;
     encoder.well_formedness();
     let answer = validate_module_explained(alloc, encoder, checked.bytes, checked.renames);
-    match &answer {
-        Ok(_) => out.push_str("ok\n"),
-        Err(refused) => put_main(alloc, checked, refused, out),
-    }
+    put_last_about(alloc, checked, answer, out);
 }
 
 /// A module, as one of an encoder's adapters, of which these functions are required.
@@ -109,25 +119,8 @@ impl AdapterModule<'_> {
         )
     }
 
-    /// The record of the module, or why it is refused, by interfaces that are made for so many modules.
-    pub(crate) fn validated_among(
-        &self,
-        alloc: Global,
-        modules: usize,
-    ) -> Result<ValidatedModule, ValidateFault> {
-        self.encoder.well_formedness();
-        let interfaces = WorldInterfaces::new(alloc, self.encoder, modules)?;
-        interfaces.validate_adapter_module(
-            alloc,
-            self.bytes,
-            self.required,
-            &self.adapter.required_exports,
-            self.adapter.library_info.as_ref(),
-        )
-    }
-
     /// The record of the module, or why it is refused, and what that is about.
-    fn validated_explained(&self, alloc: Global) -> Result<ValidatedModule, RefusedModule> {
+    fn validated_explained(&self, alloc: Global) -> Explained {
         self.encoder.well_formedness();
         validate_adapter_module_explained(
             alloc,
@@ -139,21 +132,9 @@ impl AdapterModule<'_> {
         )
     }
 
-    /// The same, by interfaces that are made for one module; `None` where there is no memory for them.
-    fn explained_among(&self, alloc: Global) -> Option<Result<ValidatedModule, RefusedModule>> {
-        self.encoder.well_formedness();
-        let interfaces = WorldInterfaces::new(alloc, self.encoder, 1).ok()?;
-        Some(interfaces.validate_adapter_module_explained(
-            alloc,
-            self.bytes,
-            self.required,
-            &self.adapter.required_exports,
-            self.adapter.library_info.as_ref(),
-        ))
-    }
-
     /// The lines of this fault, and of the place that `explain_adapter_module` answers of it.
     fn explained(&self, alloc: Global, fault: &ValidateFault) -> Lines {
+        let mut lines = Lines::new(alloc);
         let place = explain_adapter_module(
             alloc,
             self.encoder,
@@ -163,17 +144,75 @@ impl AdapterModule<'_> {
             self.adapter.library_info.as_ref(),
             fault,
         );
-        fault_lines(alloc, fault, &place)
+        put_last_about(alloc, fault, place, &mut lines);
+        lines
     }
 }
 
-/// Appends what a module is refused for among interfaces, unless that is as another call answered it.
+impl PutAbout<Lines> for Explained {
+    /// Appends what the module is refused for, unless that is as another call answered it.
+    fn put_about(&self, alloc: Global, others: &Lines, out: &mut Lines) {
+        match self {
+            Ok(_) => out.push_str("ok\n"),
+            Err(refused) => put_unlike(out, &refused_lines(alloc, refused), others),
+        }
+    }
+}
+
+/// A module, as one of an encoder's adapters, and interfaces of that encoder.
+#[derive(Drop)]
+pub(crate) struct AmongInterfaces<'a> {
+    pub(crate) checked: AdapterModule<'a>,
+    pub(crate) interfaces: WorldInterfaces<'a>,
+}
+
+impl AmongInterfaces<'_> {
+    /// The record of the module, or why it is refused, by these interfaces.
+    pub(crate) fn validated(&self, alloc: Global) -> Result<ValidatedModule, ValidateFault> {
+        let checked = &self.checked;
+        checked.encoder.well_formedness();
+        self.interfaces.validate_adapter_module(
+            alloc,
+            checked.bytes,
+            checked.required,
+            &checked.adapter.required_exports,
+            checked.adapter.library_info.as_ref(),
+        )
+    }
+
+    /// The record of the module, or why it is refused, and what that is about.
+    fn validated_explained(&self, alloc: Global) -> Explained {
+        let checked = &self.checked;
+        checked.encoder.well_formedness();
+        self.interfaces.validate_adapter_module_explained(
+            alloc,
+            checked.bytes,
+            checked.required,
+            &checked.adapter.required_exports,
+            checked.adapter.library_info.as_ref(),
+        )
+    }
+}
+
+impl PutAbout<Lines> for AmongInterfaces<'_> {
+    /// Appends what the module is refused for, unless that is as another call answered it.
+    fn put_about(&self, alloc: Global, others: &Lines, out: &mut Lines) {
+        put_last_about(alloc, others, self.validated_explained(alloc), out);
+    }
+}
+
+/// Appends what a module is refused for by interfaces that are made for one module, unless that is as another call answered
+/// it.
 fn put_among(alloc: Global, checked: &AdapterModule<'_>, others: &Lines, out: &mut Lines) {
-    let answer = checked.explained_among(alloc);
-    match &answer {
-        None => out.lack_memory(),
-        Some(Ok(_)) => out.push_str("ok\n"),
-        Some(Err(refused)) => put_unlike(out, &refused_lines(alloc, refused), others),
+    match WorldInterfaces::new(alloc, checked.encoder, 1) {
+        Ok(interfaces) => {
+            let among = AmongInterfaces {
+                checked: *checked,
+                interfaces,
+            };
+            put_last_about(alloc, others, among, out);
+        }
+        Err(_) => out.lack_memory(),
     }
 }
 
@@ -191,12 +230,17 @@ fn put_adapter(
     put_among(alloc, checked, &lines, out);
 }
 
+impl<'a> PutAbout<AdapterModule<'a>> for Explained {
+    fn put_about(&self, alloc: Global, checked: &AdapterModule<'a>, out: &mut Lines) {
+        match self {
+            Ok(_) => out.push_str("ok\n"),
+            Err(refused) => put_adapter(alloc, checked, refused, out),
+        }
+    }
+}
+
 /// Why a module is refused as one of an encoder's adapters, and what that is about, as three calls answer it; once, where
 /// they agree.
 pub(crate) fn explain_adapter(alloc: Global, checked: &AdapterModule<'_>, out: &mut Lines) {
-    let answer = checked.validated_explained(alloc);
-    match &answer {
-        Ok(_) => out.push_str("ok\n"),
-        Err(refused) => put_adapter(alloc, checked, refused, out),
-    }
+    put_last_about(alloc, checked, checked.validated_explained(alloc), out);
 }

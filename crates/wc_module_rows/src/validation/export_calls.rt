@@ -1,5 +1,6 @@
 //! Records of a module's exports, and look-ups in them.
 
+use crate::validation::answers::{PutAbout, put_last_about};
 use crate::validation::described_modules::{DescribedModule, described_of};
 use std::alloc::Global;
 use wc_encoder::ComponentEncoder;
@@ -7,7 +8,7 @@ use wc_fixtures::bad::Bad;
 use wc_fixtures::functions::complete_function;
 use wc_fixtures::members::world_key;
 use wc_fixtures::shown_names::put_name;
-use wc_fixtures::stop::Stop;
+use wc_fixtures::stop::{Stop, put_answered};
 use wc_fixtures::types::type_id;
 use wc_fixtures::words::Words;
 use wc_lines::lines::Lines;
@@ -188,6 +189,21 @@ fn put_answers<'a>(
     Ok(())
 }
 
+impl<'a> PutAbout<Row<'a>> for Result<ValidatedModule, ValidateFault> {
+    /// Puts the record of the exports, and the answers to the questions of a row.
+    fn put_about(&self, alloc: Global, row: &Row<'a>, out: &mut Lines) {
+        match self {
+            Ok(validated) => {
+                put_exports(&validated.exports, out);
+                let mut lines = Lines::new(alloc);
+                let answered = put_answers(alloc, &validated.exports, &row.input, &mut lines);
+                put_answered(out, answered, &lines);
+            }
+            Err(fault) => writeln!(out, "fault {fault}"),
+        }
+    }
+}
+
 /// Puts the record of the exports of the module that is described, and the answers to the questions.
 pub(crate) fn put_recorded<'a>(
     alloc: Global,
@@ -197,26 +213,25 @@ pub(crate) fn put_recorded<'a>(
 ) -> Result<(), Stop<'a>> {
     let bytes = described_of(alloc, &row.input)?.into_bytes(alloc)?;
     encoder.well_formedness();
-    match validate_module(alloc, encoder, &bytes, None) {
-        Ok(validated) => {
-            put_exports(&validated.exports, out);
-            put_answers(alloc, &validated.exports, &row.input, out)
-        }
-        Err(fault) => {
-            writeln!(out, "fault {fault}");
-            Ok(())
-        }
-    }
+    let validated = validate_module(alloc, encoder, &bytes, None);
+    put_last_about(alloc, row, validated, out);
+    Ok(())
 }
 
-/// The one export that is recorded, `none`, or why the module was refused.
-fn put_alone(validated: &Result<ValidatedModule, ValidateFault>, out: &mut Lines) {
-    match validated {
-        Ok(validated) => match validated.exports.iter().next() {
-            Some((_, export)) => writeln!(out, "{export:?}"),
-            None => out.push_str("none\n"),
-        },
-        Err(fault) => writeln!(out, "fault {fault}"),
+/// That a module has one export.
+#[derive(Clone, Copy)]
+struct OneExport;
+
+impl PutAbout<OneExport> for Result<ValidatedModule, ValidateFault> {
+    /// Puts the one export that is recorded, `none`, or why the module was refused.
+    fn put_about(&self, _alloc: Global, _about: &OneExport, out: &mut Lines) {
+        match self {
+            Ok(validated) => match validated.exports.iter().next() {
+                Some((_, export)) => writeln!(out, "{export:?}"),
+                None => out.push_str("none\n"),
+            },
+            Err(fault) => writeln!(out, "fault {fault}"),
+        }
     }
 }
 
@@ -232,7 +247,8 @@ fn classify_line(
     described.put_export_names(out);
     let bytes = described.into_bytes(alloc)?;
     encoder.well_formedness();
-    put_alone(&validate_module(alloc, encoder, &bytes, None), out);
+    let validated = validate_module(alloc, encoder, &bytes, None);
+    put_last_about(alloc, &OneExport, validated, out);
     Ok(())
 }
 

@@ -1,43 +1,24 @@
 -- Refusals of the main module and of adapters, as the code makes them.
-use Rattle.std.specs.Prelude.{◌≡◌, ◌⊎◌, ℕ, IfOk, IsOkAnd, List, MatchOption, None, Option, Result, Some, String, string_bytes, true}
-use Rattle.std.specs.Option.{option_map}
+use Rattle.std.specs.Prelude.{◌≡◌, ◌⊎◌, ℕ, IfOk, List, MatchOption, Option, Result, true}
 use Rattle.std.specs.declared.alloc.AllocError.{AllocError}
-use Rattle.std.specs.declared.alloc.Global.{Global}
 use Rattle.wc_encoder.specs.EncoderParts.{EncoderView}
 use Rattle.wc_validate.specs.Explain.{IsPlace}
 use Rattle.wc_validate.specs.Refused.{HasNoPlace as HasNoPlaceInModule, IsRefusedAt as IsModuleRefusedAt}
 use Rattle.wc_validate.specs.Validate.{IsValidateCause, ModuleRecord, ValidationInput}
 use Rattle.wc_validate.specs.declared.refused.RefusedModule.{RefusedModule}
 use Rattle.wc_world.specs.Causes.{IsFirst, IsStopOf}
-use Rattle.wc_world.specs.Places.{IsInAdapter, IsInMain, IsMinimizedPlace, IsNeededUnder, IsOriginalPlace, IsTrimPlace, IsTrimUnplaced}
+use Rattle.wc_world.specs.Places.{IsInAdapter, IsMinimizedPlace, IsNeededUnder, IsOriginalPlace, IsTrimPlace, IsTrimUnplaced}
 use Rattle.wc_world.specs.Private.Adapters.{main_of, named_adapter}
 use Rattle.wc_world.specs.Refused.{IsMemoryRefusal}
+pub use Rattle.wc_world.specs.Refused.{IsMainRefusal, IsNamedRefusal}
 use Rattle.wc_world.specs.Trimming.{NamedAdapter, is_adapter_needed, needed_adapters}
 use Rattle.wc_world.specs.declared.adapters.AdapterInput.{AdapterInput}
 use Rattle.wc_world.specs.declared.fault.WorldFault.{WorldFault}
-use Rattle.wc_world.specs.declared.fault.WorldFault.TheVariants.{Main, Adapter, Trim, Minimized}
+use Rattle.wc_world.specs.declared.fault.WorldFault.TheVariants.{Adapter, Trim, Minimized}
 use Rattle.wc_world.specs.declared.places.ModulePlace.{ModulePlace}
 use Rattle.wc_world.specs.declared.places.ModulePlace.TheVariants as place
 use Rattle.wc_world.specs.declared.places.WorldPlace.{WorldPlace}
 use Rattle.wc_world.specs.declared.refused.RefusedWorld.{RefusedWorld}
-
--- a place in a module of which this is so; nothing, if there is none
-abbrev pub IsPlaceWith : (WorldPlace → Type 0) → Option ModulePlace → Option WorldPlace → Type 0
-IsPlaceWith Q found answer = MatchOption answer (found ≡ None) (λ (p : WorldPlace). Q p × (found ≡ Some p.place))
-
--- the same of what was found in a module, if there was memory for it
-abbrev pub IsPlaceFound : {X : Type 0} → (WorldPlace → Type 0) → (X → ModulePlace) → Result (Option X) AllocError → Result (Option WorldPlace) AllocError → Type 0
-IsPlaceFound Q kind found answer = IfOk answer (λ o. IsOkAnd found (λ p. IsPlaceWith Q (option_map kind p) o))
-
--- the refusal of the main module
-abbrev pub IsMainRefusal : RefusedModule → RefusedWorld → Type 0
-IsMainRefusal m x = (x.fault ≡ Main m.fault) × IsPlaceFound IsInMain place.Validation m.place x.place
-
--- the refusal of the adapter of a name, with a fault that is made of the name; or else an allocation failed
-abbrev pub IsNamedRefusal : {X : Type 0} → (String Global → WorldFault) → (X → ModulePlace) → List ℕ → Result (Option X) AllocError → RefusedWorld → Type 0
-IsNamedRefusal make kind name found x =
-    IsMemoryRefusal x
-    ⊎ ((s : String Global) × (string_bytes s ≡ name) × (x.fault ≡ make s) × IsPlaceFound (IsInAdapter name) kind found x.place)
 
 -- why bytes are refused, with the place
 abbrev pub IsModuleRefusal : ValidationInput → List ℕ → RefusedModule → Type 0

@@ -1,6 +1,6 @@
-use Rattle.std.proofs.Common.{◌∙◌, Bool, List, ap, map, subst}
-use Rattle.wc_selection.specs.KeyNames.{indexed_keys}
-use Rattle.wc_selection.specs.Keys.{AreKeysApart, NamedKey, named_key, texts_of}
+use Rattle.std.proofs.Common.{◌≡◌, ◌∙◌, Bool, List, ap, map, subst}
+use Rattle.wc_selection.specs.KeyNames.{indexed_exports, indexed_keys}
+use Rattle.wc_selection.specs.Keys.{AreKeysApart, NamedKey, export_keys, named_key, texts_of}
 use Rattle.wc_selection.specs.ModuleKeys.{AreKeysThere}
 use Rattle.wc_selection.specs.Requests.{given_keys, request_value}
 use Rattle.wc_calls.specs.AskedKeys.{main_keys}
@@ -9,9 +9,11 @@ use Rattle.wc_calls.proofs.asked_keys.asked_by.Goals as goal
 pub returns-clause-asked : goal.returns-clause-asked
 returns-clause-asked c =
     let q = request_value c.args.request.now in
-    let listed = c.in_ok-keys.ensures.keys in
-    let first = ap (map named_key) c.deref.ensures.value ∙ listed in
-    let second = ap (map named_key) c.deref-2.ensures.value ∙ listed in
+    let own : map named_key c.deref.result.now ≡ export_keys c.args.world.resolve.now c.args.world.world.0 =
+    ap (map named_key) c.deref.ensures.value ∙ c.in_ok-own.ensures.keys in
+    let listed = c.in_ok-keys.ensures.keys ∙ ap (indexed_exports q) own in
+    let first = ap (map named_key) c.deref-3.ensures.value ∙ listed in
+    let second = ap (map named_key) c.deref-4.ensures.value ∙ listed in
     let keys = indexed_keys q c.args.world.resolve.now c.args.world.world.0 in
     record {
       listed = listed;

@@ -1,7 +1,7 @@
-use Rattle.wc_calls.specs.Private.EncoderAnswers.{IsAnswerFor, IsFaultFor, IsPlaceFor}
+use Rattle.wc_calls.specs.Private.EncoderAnswers.{IsAnswerFor, IsFaultFor}
 use Rattle.wc_calls.specs.Private.OptionTables.{table_options}
 use Rattle.wc_calls.proofs.ComponentWorldLemmas.{too_long, written}
-use Rattle.wc_calls.proofs.FaultAnswerLemmas.{answered_as}
+use Rattle.wc_calls.proofs.RefusedComponentLemmas.{refusal_answered}
 use Rattle.wc_calls.proofs.component_worlds.world_for.Goals as goal
 
 pub returns-in-Ok-clause-done : goal.returns-in-Ok-clause-done
@@ -21,5 +21,5 @@ returns-in-Ok-clause-too_small c = λ is.
 pub returns-in-Err-clause-fault : goal.returns-in-Err-clause-fault
 returns-in-Err-clause-fault c = λ is.
     let e = c.args.input.now.encoder in
-    answered_as c.in-Err.fault (IsFaultFor e) (IsPlaceFor e) (IsPlaceFor e) c.answer_encoder_fault.result c.args.out.now c.answer_encoder_fault.new.out
-    c.in-Err.ensures.fault (λ place at. at) (c.answer_encoder_fault.ensures.fault is)
+    refusal_answered e (IsFaultFor e) c.in-Err.refused c.answer_no_world.result c.args.out.now c.answer_no_world.new.out c.in-Err.ensures.fault
+    c.in-Err.ensures.place (c.answer_no_world.ensures.fault is)

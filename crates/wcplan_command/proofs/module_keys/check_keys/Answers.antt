@@ -13,6 +13,6 @@ returns-in-Ok-clause-there c =
 
 pub returns-in-Err-clause-fault : goal.returns-in-Err-clause-fault
 returns-in-Err-clause-fault c =
-    let texts = texts_of (map named_key c.args.keys.now) in
-    rw c.from.ensures (request_cause (given_keys (request_of (command_view c.args.command.now))) texts c.in-Err.fault
-    (subst (λ q. IsKeysCause (given_keys q) texts c.in-Err.fault) c.key_request-request.ensures c.in-Err.ensures.fault))
+    let keys = map named_key c.args.keys.now in
+    rw c.from.ensures (request_cause (given_keys (request_of (command_view c.args.command.now))) keys c.in-Err.fault
+    (subst (λ q. IsKeysCause (given_keys q) keys keys c.in-Err.fault) c.key_request-request.ensures c.in-Err.ensures.fault))

@@ -1,0 +1,44 @@
+//! Answers that own much. What puts one and drops it doesn't know its type, and so none of its variants, which makes proofs
+//! short.
+
+use std::alloc::Global;
+use std::fmt::Display;
+use wc_fixtures::bad::Bad;
+use wc_fixtures::words::Words;
+use wc_lines::lines::Lines;
+
+/// An answer about something, as lines show it.
+pub trait PutAbout<A> {
+    /// Appends the answer.
+    fn put_about(&self, alloc: Global, about: &A, out: &mut Lines);
+}
+
+/// Appends an answer that nothing else is left of.
+pub fn put_last_about<A, V: PutAbout<A> + Drop>(
+    alloc: Global,
+    about: &A,
+    answer: V,
+    out: &mut Lines,
+) {
+    answer.put_about(alloc, about, out);
+}
+
+/// An answer of which words say what is asked.
+pub(crate) trait PutAsked {
+    /// Appends what is asked of the answer.
+    fn put_asked(&self, words: &mut Words, out: &mut Lines) -> Result<(), Bad>;
+}
+
+/// Appends what is asked of an answer that nothing else is left of.
+pub(crate) fn put_last_asked<V: PutAsked + Drop>(
+    answer: V,
+    words: &mut Words,
+    out: &mut Lines,
+) -> Result<(), Bad> {
+    answer.put_asked(words, out)
+}
+
+/// A line of a value that nothing else is left of.
+pub fn put_last_line<D: Display + Drop>(out: &mut Lines, value: D) {
+    writeln!(out, "{value}");
+}
