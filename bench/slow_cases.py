@@ -306,16 +306,20 @@ def _(count):
 # Types
 
 
-@case("export-types", "wcplan")
-def _(count):
-    """n exported interfaces, each of which uses the end of one chain of n types of an imported one."""
+def chain_users(count):
+    """An interface with a chain of types, and as many that use its end; and all their types."""
     kinds = [{"type": "u8"}, *({"tuple": {"types": [at]}} for at in range(count - 1))]
     types = [typed(kind, "t%d" % at, {"interface": 0}) for at, kind in enumerate(kinds)]
     types += [typed({"type": count - 1}, "u", {"interface": at + 1}) for at in range(count)]
     held = [interface("x", (), {"t%d" % at: at for at in range(count)})]
-    held += [interface("i%d" % at, (), {"u": count + at}) for at in range(count)]
+    return [*held, *(interface("i%d" % at, (), {"u": count + at}) for at in range(count))], types
+
+
+@case("export-types", "wcplan")
+def _(count):
+    """n exported interfaces, each of which uses the end of one chain of n types of an imported one."""
     core(MAIN)
-    return plan(resolved(imported(), every(count, lambda at: imported(at + 1)), held, types))
+    return plan(resolved(imported(), every(count, lambda at: imported(at + 1)), *chain_users(count)))
 
 
 @case("export-own-types", "wcplan")
@@ -331,13 +335,8 @@ def _(count):
 @case("export-used-types", "wcplan")
 def _(count):
     """The same, and the chain is of another exported interface, which all of them use."""
-    kinds = [{"type": "u8"}, *({"tuple": {"types": [at]}} for at in range(count - 1))]
-    types = [typed(kind, "t%d" % at, {"interface": 0}) for at, kind in enumerate(kinds)]
-    types += [typed({"type": count - 1}, "u", {"interface": at + 1}) for at in range(count)]
-    held = [interface("x", (), {"t%d" % at: at for at in range(count)})]
-    held += [interface("i%d" % at, (), {"u": count + at}) for at in range(count)]
     core(MAIN)
-    return plan(resolved({}, every(count + 1), held, types))
+    return plan(resolved({}, every(count + 1), *chain_users(count)))
 
 
 @case("export-parameters", "wcplan")
