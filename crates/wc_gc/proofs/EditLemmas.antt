@@ -45,6 +45,15 @@ old_new new funcs p exported body call some e = ap (λ o. record { locals = (new
     by true (Some body) h = refl
     by false (Some body) h = refl
 
+-- what exported functions call first is called where a function is exported
+pub called_if : (new : Renumbering) (funcs : ℕ) (p : Parts) (exported : Bool) (call : Option ℕ) → call ≡ call_added new funcs p true → cond exported call None ≡ call_added new funcs p exported
+called_if new funcs p true call e = e
+called_if new funcs p false call e = by p.lazy
+  where
+    by : (b : Bool) → None ≡ cond (b && false) (Some (new Funcs (funcs + lazy_position p))) None
+    by true = refl
+    by false = refl
+
 -- the import that is added
 
 pub text_or : {A : Type 0} (o : Option (Bor A)) (d : Bor A) → (unwrap_or o d).now ≡ unwrap_or (option_map (λ b. b.now) o) d.now

@@ -1,8 +1,10 @@
 -- How many items the image of an edited adapter has, and where its memory is.
 use Rattle.std.proofs.Common.{◌≡◌, ℕ, zero, suc, ◌+◌, ◌≤◌, List, [], ◌∷◌, ◌++◌, length, map, refl, sym, ◌∙◌, ap, Bool, true, false, ◌&&◌, cond, Some, ◌⊎◌}
-use Rattle.std.proofs.Common.{inl, inr, arith, unwrap_or}
-use Rattle.std.specs.Prelude.{filter, Err, IsErrOf}
+use Rattle.std.proofs.Common.{inl, inr, arith, unwrap_or, Option, None}
+use Rattle.std.specs.Prelude.{filter, not, Err, IsErrOf}
+use Rattle.std.specs.Borrow.{Bor}
 use Rattle.std.specs.List.{range_with_len, slice_get}
+use Rattle.std.specs.Option.{option_map_or}
 use Rattle.std.proofs.lemmas.List.{length-append, length-map}
 use Rattle.std.proofs.lemmas.List.Elements.{filter-append}
 use Rattle.std.proofs.lemmas.List.Sums.{length-filter}
@@ -10,13 +12,14 @@ use Rattle.wc_gc.proofs.KeptItemLemmas.{get_some}
 use Rattle.wc_read.specs.Exports.{ExportValue}
 use Rattle.wc_read.specs.Renumbering.{renumber_func_type}
 use Rattle.wc_read.specs.declared.core_module.Module.{Module}
+use Rattle.wc_read.specs.declared.items.Item.{Item}
 use Rattle.wc_read.specs.declared.operators.Space.TheVariants.{Types, Funcs, Memories}
 use Rattle.wc_write.specs.Modules.{BuiltValue, SizesFit}
 use Rattle.wc_write.specs.declared.fault.WriteFault.{WriteFault}
 use Rattle.wc_write.specs.declared.fault.WriteFault.TheVariants.{Memory as write_memory, TooLarge as write_too_large}
 use Rattle.wc_gc.specs.AddedCode.{empty_type, realloc_type}
 use Rattle.wc_gc.specs.Counts.{AreDisjoint, count_below}
-use Rattle.wc_gc.specs.Decoded.{DecodedModule, ItemIndex, decoded_module, size_of}
+use Rattle.wc_gc.specs.Decoded.{DecodedModule, ItemIndex, decoded_module, func_code, size_of}
 use Rattle.wc_gc.specs.Edit.{EditedModule, added_types, edit, edited_by, growing_func, import_func, lazy_func, memory_of, one_if, only_if, start_func}
 use Rattle.wc_gc.specs.Edit.{start_position}
 use Rattle.wc_gc.specs.EditedImage.{FitsBits, count_defined, count_imports, edited_image, edited_rank, is_kept_defined, is_kept_import}
@@ -25,8 +28,10 @@ use Rattle.wc_gc.specs.Found.{FoundView, found_in, is_empty}
 use Rattle.wc_gc.specs.Image.{kept_items, new_func}
 use Rattle.wc_gc.specs.NewIndices.{AreRanksOf, HasRoom, HasRoomFor, new_of}
 use Rattle.wc_gc.specs.Parts.{SettingsView, parts_of}
+use Rattle.wc_gc.specs.Private.FuncGroups.{AreGroups, is_in_group}
 use Rattle.wc_gc.specs.Ranks.{has_number, rank_of}
 use Rattle.wc_gc.specs.declared.fault.GcFault.{GcFault}
+use Rattle.wc_gc.specs.declared.func_groups.FuncGroups.{FuncGroups}
 use Rattle.wc_gc.specs.declared.fault.GcFault.TheVariants.{Memory, TooLarge}
 use Rattle.wc_gc.specs.declared.new_indices.Counts.{Counts}
 use Rattle.wc_gc.specs.declared.new_indices.NewIndices.{NewIndices}
@@ -129,6 +134,17 @@ module _ (kept : ItemIndex → Bool) (i d : ℕ → Bool) (r : SpaceRanks) (rank
 pub disjoint_ranks : (kept : ItemIndex → Bool) (i d : ℕ → Bool) (r : SpaceRanks) → AreRanksOf kept i d r → AreDisjoint i d
     → AreDisjoint (has_number r.imports) (has_number r.defined)
 disjoint_ranks kept i d r ranks disjoint n h = ap (λ (g : ℕ → Bool). g n) ranks.defined ∙ disjoint n (sym (ap (λ (g : ℕ → Bool). g n) ranks.imports) ∙ h)
+
+-- no live function is in two groups
+
+apart : (s : SettingsView) (live : Bool) (f : Option (Item ℕ (Bor (List ℕ)))) → (live && option_map_or (λ g. is_in_group s true (func_code g)) f false) ≡ true
+    → (live && option_map_or (λ g. is_in_group s false (func_code g)) f false) ≡ false
+apart s false f e = refl
+apart s true None e = refl
+apart s true (Some g) e = ap not e
+
+pub groups_apart : {L : Type 0} (has : L → ℕ → Bool) (s : SettingsView) (funcs : List (Item ℕ (Bor (List ℕ)))) (live : ℕ → Bool) (exports : List ExportValue) (g : FuncGroups L) → AreGroups has s funcs live exports g → AreDisjoint (has g.imports) (has g.defined)
+groups_apart has s funcs live exports g groups n h = groups.defined n ∙ apart s (live n) (slice_get funcs n) (sym (groups.imports n) ∙ h)
 
 -- how many types and functions the image has
 

@@ -29,8 +29,9 @@ use Rattle.wc_write.specs.Text.{vector_text}
 use Rattle.wc_write.specs.Operators.{instr_text}
 use Rattle.wc_write.specs.Bodies.{locals_text, body_text}
 use Rattle.wc_gc.specs.Image.{new_body, renumber_code, renumber_locals}
-use Rattle.wc_gc.specs.NewBodies.{calls_of, text_left}
+use Rattle.wc_gc.specs.NewBodies.{calls_of}
 use Rattle.wc_gc.specs.NewIndices.{new_of}
+use Rattle.wc_gc.specs.Private.BodyCuts.{text_left}
 use Rattle.wc_gc.specs.declared.new_indices.NewIndices.{NewIndices}
 
 -- some operators were written, and these are left of all

@@ -1,16 +1,14 @@
 -- The bodies that are written.
-use Rattle.std.specs.Prelude.{ℕ, ◌+◌, List, ◌++◌, Bool, ◌&&◌, cond, Option, Some, None, unwrap_or, []}
-use Rattle.std.specs.List.{flat_map}
+use Rattle.std.specs.Prelude.{ℕ, ◌+◌, List, ◌++◌, Bool, ◌&&◌, cond, Option, Some, None}
 use Rattle.std.specs.Option.{option_map, option_to_list}
 use Rattle.wc_read.specs.Operators.{InstrValue}
 use Rattle.wc_read.specs.Bodies.{BodyValue}
 use Rattle.wc_read.specs.BodyOperators.{body_in}
 use Rattle.wc_read.specs.Renumbering.{Renumbering}
 use Rattle.wc_read.specs.declared.operators.Space.TheVariants.{Funcs}
-use Rattle.wc_write.specs.Operators.{instr_text}
 use Rattle.wc_gc.specs.AddedCode.{call, growing_body, stack_body}
 use Rattle.wc_gc.specs.Edit.{lazy_position}
-use Rattle.wc_gc.specs.Image.{new_body, renumber_code}
+use Rattle.wc_gc.specs.Image.{new_body}
 use Rattle.wc_gc.specs.NewIndices.{new_of}
 use Rattle.wc_gc.specs.declared.parts.Parts.{Parts}
 use Rattle.wc_gc.specs.declared.new_bodies.NewBody.{NewBody}
@@ -26,11 +24,15 @@ calls_of func = option_to_list (option_map call func)
 abbrev pub call_added : Renumbering → ℕ → Parts → Bool → Option ℕ
 call_added new funcs p exported = cond (p.lazy && exported) (Some (new Funcs (funcs + lazy_position p))) None
 
+-- what an exported function calls first
+abbrev pub first_call : OldBody → Option ℕ
+first_call b = cond b.exported b.bodies.now.call None
+
 -- a body of the adapter under new indices, after a call
 abbrev pub old_body_written : OldBody → BodyValue
 old_body_written b = record {
-  locals = (new_body (new_of b.new.now) (body_in b.bytes.now)).locals;
-  operators = calls_of b.call ++ (new_body (new_of b.new.now) (body_in b.bytes.now)).operators;
+  locals = (new_body (new_of b.bodies.now.new.now) (body_in b.bytes.now)).locals;
+  operators = calls_of (first_call b) ++ (new_body (new_of b.bodies.now.new.now) (body_in b.bytes.now)).operators;
 }
 
 abbrev pub stack_body_written : StackBody → BodyValue
@@ -40,7 +42,3 @@ abbrev pub body_written : NewBody → BodyValue
 body_written (Old b) = old_body_written b
 body_written (Growing g) = growing_body g.page_size_log2 0
 body_written (Stack b) = stack_body_written b
-
--- the text of operators that are left, under new indices
-abbrev pub text_left : Renumbering → Option (List InstrValue) → List ℕ
-text_left new left = flat_map instr_text (renumber_code new (unwrap_or left []))

@@ -1,4 +1,6 @@
 -- Words of contracts of private functions. No contract of a public function cites these, directly or through others.
+pub mod BodyCuts
+pub mod KeptBodies
 pub mod Edit
 pub mod TrimPlace
 pub mod Finders

@@ -16,6 +16,7 @@ ghost use Rattle.wc_gc.specs.Edit.{only_if, types_added};
 ghost use Rattle.wc_gc.specs.EditedImage.{edited_image, edited_rank};
 ghost use Rattle.wc_gc.specs.Private.Edit.{AreCoded, AreCodedAt, IsCodedAt, edited_of, funcs_at, funcs_of, image_funcs, image_types, live_funcs, new_funcs, new_indices, settings_of, types_of, written_funcs};
 ghost use Rattle.wc_gc.specs.Private.ItemCounts.{ItemCountsFitU32};
+ghost use Rattle.wc_gc.specs.Private.KeptBodies.{AreBodiesCut};
 ghost use Rattle.wc_gc.specs.Private.FuncGroups.{AreGroups};
 ghost use Rattle.wc_gc.specs.Image.{kept_items, new_export, new_global, new_table};
 ghost use Rattle.wc_gc.specs.Live.{has_item};
@@ -37,6 +38,9 @@ use wc_read::{
 };
 use wc_write::Built;
 
+/// The most functions that are added after those of a set: what allocates a stack, a realloc, and the start function.
+const MOST_ADDED: usize = 3;
+
 /// The image of an adapter with some of its exports: its live items and what is added, in their order, under their new
 /// indices.
 pub fn image<'a, 'n, L: LiveSet>(
@@ -50,6 +54,7 @@ pub fn image<'a, 'n, L: LiveSet>(
         (L.has source.now.live.now.funcs) (map export_value source.now.exports.now) groups.now }
     requires in_range { (n : ℕ) → IsTrue (L.has source.now.live.now.funcs n)
         → is_item_in_range (decoded_module source.now.adapter.now) (Funcs, n) ≡ true }
+    requires cut { AreBodiesCut source.now.adapter.now.funcs.items edit.bodies.now.cuts.now }
     requires types { types_of edit ≡ length source.now.adapter.now.types.items }
     requires funcs { funcs_of edit ≡ length source.now.adapter.now.funcs.items }
     requires indices { let s = source.now in new_indices edit ≡ edited_rank (edited_of edit
@@ -150,6 +155,7 @@ fn new_funcs<'a, 'n, L: LiveSet>(
     edit: Edit<'a, 'n>,
 ) -> Result<Vec<NewFunc<'a, 'n>>, AllocError>
     requires bounded { length funcs.now < 2 ^ 32 }
+    requires cut { AreBodiesCut funcs.now edit.bodies.now.cuts.now }
     requires imports { AreCoded (L.has groups.now.imports) funcs.now }
     requires defined { AreCoded (L.has groups.now.defined) funcs.now }
     ensures { let g = groups.now in IfOk result (λ v. written_funcs v.items ≡ image_funcs
@@ -173,11 +179,13 @@ fn append_funcs<'a, 'n, L: LiveSet>(
     edit: Edit<'a, 'n>,
 ) -> Result<(), AllocError>
     requires bounded { length funcs.now < 2 ^ 32 }
+    requires cut { AreBodiesCut funcs.now edit.bodies.now.cuts.now }
     requires coded { AreCoded (L.has kept.now) funcs.now }
     ensures { OnOk result (written_funcs items.new.items ≡ written_funcs items.old.items
         ++ live_funcs edit.entry (L.has kept.now) (bit_of exported.now.words.items) funcs.now) }
 {
     let indices = kept.numbers_below(*items.allocator(), funcs.len() as u32)?;
+    items.reserve_exact(indices.len().saturating_add(MOST_ADDED))?;
     append_funcs_at(items, funcs, &indices, exported, edit)
 }
 
@@ -189,7 +197,8 @@ fn append_funcs_at<'a, 'n>(
     exported: &BitVec,
     edit: Edit<'a, 'n>,
 ) -> Result<(), AllocError>
-    requires { AreCodedAt indices.now funcs.now }
+    requires cut { AreBodiesCut funcs.now edit.bodies.now.cuts.now }
+    requires coded { AreCodedAt indices.now funcs.now }
     ensures { OnOk result (written_funcs items.new.items ≡ written_funcs items.old.items
         ++ funcs_at edit.entry (bit_of exported.now.words.items) funcs.now indices.now) }
 {
@@ -208,14 +217,15 @@ fn append_func_at<'a, 'n>(
     exported: &BitVec,
     edit: Edit<'a, 'n>,
 ) -> Result<(), AllocError>
-    requires { IsCodedAt funcs.now index }
+    requires cut { AreBodiesCut funcs.now edit.bodies.now.cuts.now }
+    requires coded { IsCodedAt funcs.now index }
     ensures { OnOk result (written_funcs items.new.items ≡ written_funcs items.old.items
         ++ funcs_at edit.entry (bit_of exported.now.words.items) funcs.now (index ∷ [])) }
 {
     match funcs.get(index as usize) {
         Some(func) => {
             let is_exported = exported.contains(index);
-            items.push(edit.edited_func(func, is_exported))?;
+            items.push(edit.edited_func(func, index, is_exported))?;
             Ok(())
         }
         None => Ok(()),

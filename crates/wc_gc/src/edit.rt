@@ -11,12 +11,13 @@ ghost use Rattle.wc_gc.specs.Decoded.{func_code, is_code};
 ghost use Rattle.wc_gc.specs.Edit.{added_types, called_realloc, edited_body, memory_of, one_if, only_if, replaced, stack_of, start_of, start_type, state_of};
 ghost use Rattle.wc_gc.specs.Found.{found_view};
 ghost use Rattle.wc_gc.specs.Image.{new_body};
+ghost use Rattle.wc_gc.specs.Private.KeptBodies.{IsCutAt, IsFuncCutAt};
 ghost use Rattle.wc_gc.specs.NewBodies.{body_written, call_added};
 ghost use Rattle.wc_gc.specs.NewIndices.{new_of};
 
 use crate::found::{Found, MAIN_MODULE, imports_realloc};
 use crate::live::{LiveSet, LiveSets};
-use crate::new_bodies::{GrowingBody, NewBody, OldBody, StackBody};
+use crate::new_bodies::{GrowingBody, NewBody, OldBodies, OldBody, StackBody};
 use crate::new_indices::NewIndices;
 use crate::parts::Parts;
 use crate::settings::Settings;
@@ -41,20 +42,25 @@ pub struct Edit<'a, 'n> {
     pub parts: Parts,
     pub found: &'n Found,
     pub new: &'n NewIndices,
+    pub bodies: &'n OldBodies<'a, 'n>,
     ghost types: { new.now.counts.added_types
         ≡ length (added_types parts (found_view found.now)) },
     ghost imports: { new.now.counts.added_imports ≡ one_if parts.import_realloc },
     ghost funcs: { new.now.counts.added_funcs
         ≡ one_if parts.lazy + (one_if parts.growing + one_if parts.start) },
     ghost memory: { new_of new.now Memories (memory_of (found_view found.now)) ≡ 0 },
+    ghost same: { bodies.now.new.now ≡ new.now },
+    ghost called: { bodies.now.call
+        ≡ call_added (new_of new.now) new.now.counts.funcs parts true },
 }
 
 impl<'a, 'n> Edit<'a, 'n> {
     ghost use Rattle.wc_gc.specs.Private.Edit.{found_of, funcs_added, funcs_of, growing_of, imports_added, lazy_of, new_edited, new_funcs, new_indices, settings_of, start_func_of, types_of, written_funcs};
 
-    /// A function of the adapter.
-    pub fn edited_func(self, func: &Func<'a>, exported: bool) -> NewFunc<'a, 'n>
-        requires { is_code (func_code func.now).def ≡ true }
+    /// A function of the adapter, by its index.
+    pub fn edited_func(self, func: &Func<'a>, index: u32, exported: bool) -> NewFunc<'a, 'n>
+        requires code { is_code (func_code func.now).def ≡ true }
+        requires cut { IsFuncCutAt self.bodies.now.cuts.now index func.now }
         ensures { item_value body_written result
             ≡ new_edited self.entry exported (func_code func.now) }
     {
@@ -67,7 +73,7 @@ impl<'a, 'n> Edit<'a, 'n> {
                     Def::Import(module, name)
                 }
             }
-            Def::Local(bytes) => Def::Local(self.edited_body(bytes, exported)),
+            Def::Local(bytes) => Def::Local(self.edited_body(bytes, index, exported)),
         };
         Item { ty, def }
     }
@@ -83,28 +89,19 @@ impl<'a, 'n> Edit<'a, 'n> {
         }
     }
 
-    /// A body of the adapter.
-    fn edited_body(self, bytes: &'a [u8], exported: bool) -> NewBody<'a, 'n>
-        requires { is_some (body_in bytes.now) ≡ true }
+    /// The body of the function of an index.
+    fn edited_body(self, bytes: &'a [u8], index: u32, exported: bool) -> NewBody<'a, 'n>
+        requires code { is_some (body_in bytes.now) ≡ true }
+        requires cut { IsCutAt self.bodies.now.cuts.now index (body_in bytes.now) }
         ensures { body_written result ≡ new_body (new_indices self.entry)
             (edited_body (funcs_of self.entry) self.entry.parts exported (body_in bytes.now)) }
     {
         NewBody::Old(OldBody {
             bytes,
-            new: self.new,
-            call: self.call(exported),
+            bodies: self.bodies,
+            index,
+            exported,
         })
-    }
-
-    /// The lazy code, if a function begins with a call of it.
-    fn call(self, exported: bool) -> Option<u32>
-        ensures { result ≡ call_added
-            (new_indices self.entry) (funcs_of self.entry) self.entry.parts exported }
-    {
-        if self.parts.lazy && exported {
-            return Some(self.new.added_func(self.parts.lazy_position()));
-        }
-        None
     }
 
     /// The body of a realloc that grows memory.
@@ -255,4 +252,16 @@ impl<'a, 'n> Edit<'a, 'n> {
         }
         None
     }
+}
+
+/// The lazy code, if exported functions begin with a call of it.
+pub fn lazy_call(new: &NewIndices, parts: Parts) -> Option<u32>
+    requires { new.now.counts.added_funcs
+        ≡ one_if parts.lazy + (one_if parts.growing + one_if parts.start) }
+    ensures { result ≡ call_added (new_of new.now) new.now.counts.funcs parts true }
+{
+    if parts.lazy {
+        return Some(new.added_func(parts.lazy_position()));
+    }
+    None
 }

@@ -9,6 +9,7 @@ ghost use Rattle.wc_gc.specs.Decoded.{decoded_module};
 ghost use Rattle.wc_gc.specs.Edit.{added_types, edit, one_if};
 ghost use Rattle.wc_gc.specs.EditedImage.{FitsBits, IsImageFault, edited_image};
 ghost use Rattle.wc_gc.specs.Private.ItemCounts.{ItemCountsFitU32};
+ghost use Rattle.wc_gc.specs.Private.KeptBodies.{AreBodiesCut};
 ghost use Rattle.wc_gc.specs.Found.{found_in, found_view};
 ghost use Rattle.wc_gc.specs.Live.{has_item};
 ghost use Rattle.wc_gc.specs.NewIndices.{AreRanksOf, HasRoomFor};
@@ -16,11 +17,13 @@ ghost use Rattle.wc_gc.specs.Parts.{settings_view};
 ghost use Rattle.wc_gc.specs.InRange.{is_item_in_range};
 
 use crate::assemble::image;
-use crate::edit::{Edit, EditSource};
+use crate::edit::{Edit, EditSource, lazy_call};
 use crate::fault::GcFault;
 use crate::found::Found;
 use crate::func_groups::FuncGroups;
 use crate::live::{LiveSet, LiveSets};
+use crate::live_items::Reached;
+use crate::new_bodies::OldBodies;
 use crate::new_indices::{Counts, NewIndices, SpaceRanks};
 use crate::parts::Parts;
 use crate::settings::Settings;
@@ -28,40 +31,55 @@ use std::alloc::Global;
 use wc_read::Module;
 use wc_write::write_module_of;
 
-/// The text of the image of an adapter with some of its exports, edited for what is found among its live items.
-pub fn edited_text<L: LiveSet>(
+/// The text of the image of an adapter with some of its exports, edited for what is found among its live items. The
+/// adapter is let go before the text is made.
+pub fn edited_text<'a, 'n, L: LiveSet>(
     alloc: Global,
-    source: &EditSource<'_, '_, L>,
-    settings: Settings<'_>,
-    found: &Found,
+    adapter: Module<'a>,
+    reached: &'n Reached<'a, L>,
+    settings: Settings<'a>,
+    found: &'n Found,
 ) -> Result<Vec<u8>, GcFault>
-    requires bounded { ItemCountsFitU32 source.now.adapter.now }
-    requires in_range { (n : ℕ) → IsTrue (L.has source.now.live.now.funcs n)
-        → is_item_in_range (decoded_module source.now.adapter.now) (Funcs, n) ≡ true }
+    requires bounded { ItemCountsFitU32 adapter }
+    requires in_range { (n : ℕ) → IsTrue (L.has reached.now.found.live.funcs n)
+        → is_item_in_range (decoded_module adapter) (Funcs, n) ≡ true }
     requires found { found_view found.now ≡ found_in
-        (decoded_module source.now.adapter.now) (has_item L.has source.now.live.now) }
-    ensures written { let s = source.now in IfOk result (λ v. v.items ≡ built_text (edited_image
-        (edit (settings_view settings.entry) (decoded_module s.adapter.now)
-        (map export_value s.exports.now) (has_item L.has s.live.now)))) }
-    ensures fits { let s = source.now in IsOk result → FitsBits (edited_image
-        (edit (settings_view settings.entry) (decoded_module s.adapter.now)
-        (map export_value s.exports.now) (has_item L.has s.live.now))) }
-    ensures fault { let s = source.now in IfErr result (IsImageFault (edited_image
-        (edit (settings_view settings.entry) (decoded_module s.adapter.now)
-        (map export_value s.exports.now) (has_item L.has s.live.now)))) }
+        (decoded_module adapter) (has_item L.has reached.now.found.live) }
+    requires cut { AreBodiesCut adapter.funcs.items reached.now.cuts }
+    ensures written { let r = reached.now in IfOk result (λ v. v.items ≡ built_text (edited_image
+        (edit (settings_view settings.entry) (decoded_module adapter.entry)
+        (map export_value r.exports.items) (has_item L.has r.found.live)))) }
+    ensures fits { let r = reached.now in IsOk result → FitsBits (edited_image
+        (edit (settings_view settings.entry) (decoded_module adapter.entry)
+        (map export_value r.exports.items) (has_item L.has r.found.live))) }
+    ensures fault { let r = reached.now in IfErr result (IsImageFault (edited_image
+        (edit (settings_view settings.entry) (decoded_module adapter.entry)
+        (map export_value r.exports.items) (has_item L.has r.found.live)))) }
 {
-    let adapter = source.adapter;
-    let live = source.live;
+    let live = &reached.found.live;
+    let exports = &reached.exports;
     let parts = Parts::of(settings, found);
-    let groups = FuncGroups::new(alloc, &adapter.funcs, &live.funcs, source.exports, settings)?;
-    let new = new_indices(alloc, live, &groups, counts(adapter, parts, found))?;
+    let groups = FuncGroups::new(alloc, &adapter.funcs, &live.funcs, exports, settings)?;
+    let new = new_indices(alloc, live, &groups, counts(&adapter, parts, found))?;
+    let bodies = OldBodies {
+        cuts: &reached.cuts,
+        new: &new,
+        call: lazy_call(&new, parts),
+    };
     let edit = Edit {
         settings,
         parts,
         found,
         new: &new,
+        bodies: &bodies,
     };
-    let built = image(alloc, source, &groups, edit)?;
+    let source = EditSource {
+        adapter: &adapter,
+        exports,
+        live,
+    };
+    let built = image(alloc, &source, &groups, edit)?;
+    drop(adapter);
     Ok(write_module_of(alloc, &built)?)
 }
 

@@ -1,6 +1,6 @@
 //! The live functions of an edited adapter: those that are imported, and those that are defined.
 
-ghost use Rattle.std.specs.Prelude.{◌≡◌, ◌<◌, ◌^◌, ℕ, ◌&&◌, map, nat_eq, length, IfOk};
+ghost use Rattle.std.specs.Prelude.{◌≡◌, ◌<◌, ◌^◌, ℕ, ◌&&◌, map, nat_eq, length, false, true, IfOk};
 ghost use Rattle.std.specs.List.{list_any};
 ghost use Rattle.wc_read.specs.Exports.{export_value};
 ghost use Rattle.wc_gc.specs.Bits.{bit_of};
@@ -40,31 +40,38 @@ impl<L: LiveSet> FuncGroups<L> {
             funcs.now (L.has live.now) (map export_value exports.now)) }
     {
         let live = live.numbers_below(alloc, funcs.len() as u32)?;
+        let (imports, defined) = groups(alloc, funcs, &live, settings)?;
         Ok(FuncGroups {
-            imports: group(alloc, funcs, &live, settings, true)?,
-            defined: group(alloc, funcs, &live, settings, false)?,
+            imports,
+            defined,
             exported: exported_funcs(alloc, exports)?,
         })
     }
 }
 
-/// Of functions, by their indices, those that are imported after the edit, or those that are not.
-fn group<L: LiveSet>(
+/// Of functions, by their indices, those that are imported after the edit, and those that are not.
+fn groups<L: LiveSet>(
     alloc: Global,
     funcs: &[Func<'_>],
     indices: &[u32],
     settings: Settings<'_>,
-    imported: bool,
-) -> Result<L, AllocError>
-    ensures { IfOk result (λ r. (n : ℕ) → L.has r n ≡ (list_any (nat_eq n) indices.now
-        && has_func (is_in_group (settings_view settings.entry) imported) funcs.now n)) }
+) -> Result<(L, L), AllocError>
+    ensures imports { IfOk result (λ r. (n : ℕ) → L.has r.0 n
+        ≡ (list_any (nat_eq n) indices.now
+        && has_func (is_in_group (settings_view settings.entry) true) funcs.now n)) }
+    ensures defined { IfOk result (λ r. (n : ℕ) → L.has r.1 n
+        ≡ (list_any (nat_eq n) indices.now
+        && has_func (is_in_group (settings_view settings.entry) false) funcs.now n)) }
 {
-    let mut set = L::new(alloc);
+    let mut imports = L::new(alloc);
+    let mut defined = L::new(alloc);
     for index in indices {
-        let member = has_func_in_group(funcs, *index, settings, imported);
-        insert_if(&mut set, *index, member)?;
+        let is_imported = has_func_in_group(funcs, *index, settings, true);
+        insert_if(&mut imports, *index, is_imported)?;
+        let is_defined = has_func_in_group(funcs, *index, settings, false);
+        insert_if(&mut defined, *index, is_defined)?;
     }
-    Ok(set)
+    Ok((imports, defined))
 }
 
 /// Whether the function of an index is imported after the edit, or whether it is not.

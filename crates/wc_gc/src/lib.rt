@@ -30,6 +30,7 @@
 
 mod added_code;
 mod assemble;
+mod body_cuts;
 mod causes;
 mod edit;
 mod edited_image;

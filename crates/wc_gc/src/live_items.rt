@@ -6,8 +6,10 @@ ghost use Rattle.wc_read.specs.Modules.{IsModule, module_value};
 ghost use Rattle.wc_gc.specs.Decoded.{exported_item};
 ghost use Rattle.wc_gc.specs.Exports.{kept_exports};
 ghost use Rattle.wc_gc.specs.Live.{has_item};
+ghost use Rattle.wc_gc.specs.Private.KeptBodies.{AreBodiesCut};
 ghost use Rattle.wc_gc.specs.LiveItems.{HasUnsupported, IsLivenessCause, IsFault, IsFaultOf, IsLiveness, IsLivenessOf, IsSupported, names_of, trim_input};
 
+use crate::body_cuts::BodyCuts;
 use crate::exports::required_exports;
 use crate::fault::GcFault;
 use crate::live::{BitVec, LiveSet, LiveSets};
@@ -54,31 +56,50 @@ pub fn liveness_counted(
         (f : GcFault) → ¬ (IsLivenessCause (trim_input wasm.now required.now.keys) f) }
 {
     let adapter = read_module(alloc, wasm)?;
-    let (_, found) = find_live_in(alloc, &adapter, required)?;
-    Ok(found)
+    let reached = find_live_in(alloc, &adapter, required, 0)?;
+    Ok(reached.found)
+}
+
+/// What the required exports of an adapter reach.
+#[derive(Drop)]
+pub struct Reached<'a, L> {
+    /// The exports that are kept.
+    pub exports: Vec<Export<'a>>,
+    /// The live items.
+    pub found: Liveness<L>,
+    /// The live bodies, as they were cut.
+    pub cuts: BodyCuts<'a>,
 }
 
 /// The exports that are kept of a module that was read, and its live items, in sets of any kind. The search marks what it
-/// finds by bits.
+/// finds by bits. Of live bodies those of the first so many functions are kept as they were cut.
 pub fn find_live_in<'a, L: LiveSet>(
     alloc: Global,
     adapter: &Module<'a>,
     required: &Set<String>,
-) -> Result<(Vec<Export<'a>>, Liveness<L>), GcFault>
+    places: usize,
+) -> Result<Reached<'a, L>, GcFault>
     requires { IsModule (module_value adapter.now) }
-    ensures kept { IfOk result (λ r. map export_value r.0.items
+    ensures kept { IfOk result (λ r. map export_value r.exports.items
         ≡ kept_exports (names_of required.now.keys) (module_value adapter.now).exports) }
     ensures live { IfOk result (λ r. IsLivenessOf (names_of required.now.keys)
-        (module_value adapter.now) (has_item L.has r.1.live) r.1.turns) }
+        (module_value adapter.now) (has_item L.has r.found.live) r.found.turns) }
+    ensures cut { IfOk result (λ r. AreBodiesCut adapter.now.funcs.items r.cuts) }
     ensures fault { IfErr result
         (IsFaultOf (names_of required.now.keys) (module_value adapter.now)) }
 {
     let exports = supported_exports(alloc, adapter, required)?;
     let roots = exported_items(alloc, &exports)?;
     let mut search = Search::<BitVec>::new(alloc);
-    let turns = search.reach_all(alloc, adapter, &roots)?;
+    let mut cuts = BodyCuts::new(alloc, places)?;
+    let turns = search.reach_all(alloc, adapter, &roots, &mut cuts)?;
+    cuts.finish(alloc);
     let live = LiveSets::of_bits(alloc, &search.live)?;
-    Ok((exports, Liveness { live, turns }))
+    Ok(Reached {
+        exports,
+        found: Liveness { live, turns },
+        cuts,
+    })
 }
 
 /// The exports that are kept, where there is nothing that is not supported.

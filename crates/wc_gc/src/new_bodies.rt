@@ -2,8 +2,10 @@
 
 ghost use Rattle.std.specs.Prelude.{◌≡◌, ◌≤◌, is_some, true};
 ghost use Rattle.wc_read.specs.BodyOperators.{body_in};
+ghost use Rattle.wc_gc.specs.Private.KeptBodies.{IsCutAt};
 
 use crate::added_code::{append_growing_body, append_stack_body};
+use crate::body_cuts::BodyCuts;
 use crate::new_indices::NewIndices;
 use crate::rewrite::append_old_body;
 use std::alloc::AllocError;
@@ -52,14 +54,43 @@ pub struct StackBody {
     pub state: Option<u32>,
 }
 
-/// The body of a live function of the adapter, to be written under new indices. Its operators are read and written one
-/// after another, and none of them is kept.
+/// By what the bodies of live functions of the adapter are written.
+#[derive(Clone, Copy)]
+pub struct OldBodies<'a, 'n> {
+    /// The bodies, as they were cut.
+    pub cuts: &'n BodyCuts<'a>,
+    pub new: &'n NewIndices,
+    /// The new index of a function that exported ones call first.
+    pub call: Option<u32>,
+}
+
+/// The body of a live function of the adapter, to be written under new indices: by its stretches, if there are any; else
+/// its operators are read and written one after another, and none of them is kept.
 #[derive(Clone, Copy)]
 pub struct OldBody<'a, 'n> {
     /// Bytes that spell a body.
     pub bytes: &'a [u8],
-    pub new: &'n NewIndices,
-    /// The new index of a function that is called first.
-    pub call: Option<u32>,
+    pub bodies: &'n OldBodies<'a, 'n>,
+    /// The index of the function.
+    pub index: u32,
+    /// Whether an export names the function.
+    pub exported: bool,
     ghost is_code: { is_some (body_in bytes.now) ≡ true },
+    ghost cut: { IsCutAt bodies.now.cuts.now index (body_in bytes.now) },
+}
+
+impl<'a, 'n> OldBody<'a, 'n> {
+    ghost use Rattle.wc_gc.specs.NewBodies.{first_call};
+
+    /// The new index of a function that is called first, if there is one.
+    #[inline(always)]
+    pub fn first_call(&self) -> Option<u32>
+        ensures { result ≡ first_call self.now }
+    {
+        if self.exported {
+            self.bodies.call
+        } else {
+            None
+        }
+    }
 }

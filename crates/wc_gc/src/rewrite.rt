@@ -10,12 +10,14 @@ ghost use Rattle.wc_read.specs.BodyOperators.{body_in, body_of, bytes_left, init
 ghost use Rattle.wc_write.specs.Bodies.{locals_text, body_text};
 ghost use Rattle.wc_write.specs.Text.{vector_text};
 ghost use Rattle.wc_gc.specs.Image.{new_init, renumber_code, renumber_locals};
-ghost use Rattle.wc_gc.specs.NewBodies.{calls_of, old_body_written, text_left};
+ghost use Rattle.wc_gc.specs.NewBodies.{calls_of, old_body_written};
 ghost use Rattle.wc_gc.specs.NewIndices.{new_of};
+ghost use Rattle.wc_gc.specs.Private.BodyCuts.{stretch_text, text_left};
 ghost use Rattle.wc_gc.specs.Private.Rewrite.{WritesRun};
 ghost use Rattle.wc_gc.specs.AddedCode.{call};
 ghost use Rattle.wc_write.specs.Operators.{instr_text};
 
+use crate::body_cuts::Stretch;
 use crate::new_bodies::OldBody;
 use crate::new_indices::NewIndices;
 use crate::search::init_of;
@@ -32,10 +34,66 @@ pub fn append_old_body(out: &mut Vec<u8>, body: &OldBody<'_, '_>) -> Result<(), 
         ≡ out.old.items ++ body_text (old_body_written body.now)) }
 {
     let alloc = *out.allocator();
+    let new = body.bodies.new;
     let mut operators = operators_of(alloc, body.bytes);
-    append_old_locals(out, &operators, body.new)?;
-    append_call(out, body.call)?;
-    append_operators(out, alloc, &mut operators, body.new)
+    append_old_locals(out, &operators, new)?;
+    append_call(out, body.first_call())?;
+    let stretches = body.bodies.cuts.cut(body.index as usize);
+    if stretches.is_empty() {
+        append_operators(out, alloc, &mut operators, new)
+    } else {
+        append_stretches(out, stretches, new)
+    }
+}
+
+/// Appends the operators of stretches under new indices.
+#[inline(never)]
+fn append_stretches(
+    out: &mut Vec<u8>,
+    stretches: &[Stretch<'_>],
+    new: &NewIndices,
+) -> Result<(), AllocError>
+    ensures { OnOk result (out.new.items ≡ out.old.items
+        ++ flat_map (stretch_text (new_of new.now)) stretches.now) }
+{
+    for stretch in stretches {
+        append_stretch(out, stretch, new)?;
+    }
+    Ok(())
+}
+
+/// Appends the bytes of a stretch, and the operator after them under new indices.
+#[inline(always)]
+fn append_stretch(
+    out: &mut Vec<u8>,
+    stretch: &Stretch<'_>,
+    new: &NewIndices,
+) -> Result<(), AllocError>
+    ensures { OnOk result (out.new.items ≡ out.old.items
+        ++ stretch_text (new_of new.now) stretch.now) }
+{
+    append_passed(out, stretch.run)?;
+    if stretch.named {
+        let index = Index {
+            kind: IndexKind::In(stretch.space),
+            number: stretch.number,
+        };
+        append_index(out, Opcode::Byte(stretch.code), new.index(index))
+    } else {
+        Ok(())
+    }
+}
+
+/// Appends the bytes of a stretch, if it has any.
+#[inline(always)]
+fn append_passed(out: &mut Vec<u8>, run: &[u8]) -> Result<(), AllocError>
+    ensures { OnOk result (out.new.items ≡ out.old.items ++ run.now) }
+{
+    if run.is_empty() {
+        return Ok(());
+    }
+    out.extend_from_slice(run)?;
+    Ok(())
 }
 
 /// Appends the locals of a body under new indices, by one copy where no fewer bytes spell them.

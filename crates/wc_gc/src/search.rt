@@ -5,7 +5,7 @@ ghost use Rattle.std.specs.List.{list_all};
 ghost use Rattle.std.specs.Option.{option_map, option_to_list};
 ghost use Rattle.wc_read.specs.Bodies.{local_types};
 ghost use Rattle.wc_read.specs.Operators.{instr_value, instr_values};
-ghost use Rattle.wc_read.specs.declared.operators.Space.TheVariants.{Memories};
+ghost use Rattle.wc_read.specs.declared.operators.Space.TheVariants.{Funcs, Memories};
 ghost use Rattle.wc_read.specs.References.{is_segment, reference, type_reference, type_refs_of};
 ghost use Rattle.wc_read.specs.Types.{func_type_value};
 ghost use Rattle.wc_read.specs.Inits.{init_value};
@@ -13,10 +13,13 @@ ghost use Rattle.wc_read.specs.BodyOperators.{body_in, body_of, bytes_left, init
 ghost use Rattle.wc_gc.specs.Decoded.{ItemIndex, decoded_module, func_code, global_code, is_in};
 ghost use Rattle.wc_gc.specs.Entries.{body_refs, code_refs, func_refs, func_type_refs, global_refs, instr_refs, present, refs_in, refs_list, type_items, val_type_refs};
 ghost use Rattle.wc_gc.specs.Reached.{IsReachedFrom};
+ghost use Rattle.wc_gc.specs.Private.BodyCuts.{IsCutIfKept, IsFuncCutIfKept, Passes};
+ghost use Rattle.wc_gc.specs.Private.KeptBodies.{KeepsCuts};
 ghost use Rattle.wc_gc.specs.Private.Search.{FindsItems, IsConsistent, PassesKnown, finds};
 ghost use Rattle.wc_gc.specs.InRange.{is_body_in_range, is_def_in_range, is_item_in_range, is_operator_in_range};
 ghost use Rattle.wc_gc.specs.LiveItems.{IsCount, IsReachFault};
 
+use crate::body_cuts::{BodyCut, BodyCuts};
 use crate::fault::GcFault;
 use crate::live::{LiveSet, LiveSets};
 use std::alloc::{AllocError, Global};
@@ -77,6 +80,22 @@ impl<L: LiveSet> Search<L> {
             (item ∷ []))) }
         ensures there { IfOk result (λ there. there ≡ is_in (decoded_module adapter.now) item) }
     {
+        let there = has_item(adapter, item);
+        if there {
+            self.reach_again(item)?;
+        }
+        Ok(there)
+    }
+
+    /// Finds a function where the adapter has it, and answers whether it has: most operators that name an item are calls.
+    #[inline(always)]
+    fn reach_called(&mut self, adapter: &Module<'_>, number: u32) -> Result<bool, AllocError>
+        ensures found { OnOk result (FindsItems L.has self.old self.new
+            (present (decoded_module adapter.now) ((Funcs, number) ∷ []))) }
+        ensures there { IfOk result
+            (λ there. there ≡ is_in (decoded_module adapter.now) (Funcs, number)) }
+    {
+        let item = (Space::Funcs, number);
         let there = has_item(adapter, item);
         if there {
             self.reach_again(item)?;
@@ -184,6 +203,7 @@ impl<L: LiveSet> Search<L> {
             && not (is_segment index.kind))) }
     {
         match index.kind {
+            IndexKind::In(Space::Funcs) => self.reach_called(adapter, index.number),
             IndexKind::In(space) => self.reach_present(adapter, (space, index.number)),
             IndexKind::Elem => Ok(false),
             IndexKind::Data => Ok(false),
@@ -206,23 +226,26 @@ impl<L: LiveSet> Search<L> {
     }
 
     /// The next operator of a body that may name an item that was not found. Operators that name nothing are passed
-    /// over, and once memory 0 is found, so are those that name nothing else.
+    /// over, and once memory 0 is found, so are those that name nothing else; their bytes are the run of the cut.
     #[inline(always)]
     fn next_unknown<'a>(
         &self,
         alloc: Global,
         adapter: &Module<'_>,
         operators: &mut Operators<'a>,
+        cut: &mut BodyCut<'a>,
     ) -> Result<Option<Instr<'a>>, GcFault>
         ensures found { IfOk result (λ i. PassesKnown L.has (decoded_module adapter.now) self.now
             (operators_left operators.old)
+            (next_and_left (option_map instr_value i) (operators_left operators.new))) }
+        ensures cut { IfOk result (λ i. Passes cut.old cut.new (operators_left operators.old)
             (next_and_left (option_map instr_value i) (operators_left operators.new))) }
         ensures shorter { IfOk result (λ i.
             IfSome i (λ _. bytes_left operators.new < bytes_left operators.old)) }
         ensures fault { IfErr result (λ f. (f ≡ GcFault.Memory)
             ⊎ ((f ≡ GcFault.LiveBody) × (operators_left operators.old ≡ None))) }
     {
-        self.pass_known(adapter, operators);
+        self.pass_known(adapter, operators, cut);
         if operators.is_done() {
             return Ok(None);
         }
@@ -235,13 +258,20 @@ impl<L: LiveSet> Search<L> {
 
     /// Goes past operators that name no item that was not found.
     #[inline(always)]
-    fn pass_known(&self, adapter: &Module<'_>, operators: &mut Operators<'_>)
+    fn pass_known<'a>(
+        &self,
+        adapter: &Module<'_>,
+        operators: &mut Operators<'a>,
+        cut: &mut BodyCut<'a>,
+    )
         ensures passed { PassesKnown L.has (decoded_module adapter.now) self.now
+            (operators_left operators.old) (operators_left operators.new) }
+        ensures cut { Passes cut.old cut.new
             (operators_left operators.old) (operators_left operators.new) }
         ensures not_longer { bytes_left operators.new ≤ bytes_left operators.old }
     {
         if operators.begins_run() {
-            operators.pass(self.has_memory(adapter));
+            cut.run = operators.pass(self.has_memory(adapter));
         }
     }
 
@@ -294,17 +324,19 @@ impl<L: LiveSet> Search<L> {
         Ok(there)
     }
 
-    /// Finds the items that a body names.
-    fn reach_body(
+    /// Finds the items that a body names, and cuts it.
+    fn reach_body<'a>(
         &mut self,
         alloc: Global,
         adapter: &Module<'_>,
-        bytes: &[u8],
+        bytes: &'a [u8],
+        cut: &mut BodyCut<'a>,
     ) -> Result<(), GcFault>
         ensures found { OnOk result (FindsItems L.has self.old self.new
             (present (decoded_module adapter.now) (body_refs (body_in bytes.now)))) }
         ensures in_range { IsOk result →
             is_body_in_range (decoded_module adapter.now) (body_in bytes.now) ≡ true }
+        ensures cut { IsOk result → IsCutIfKept cut.new (body_in bytes.now) }
         ensures fault { IfErr result (λ f. (f ≡ GcFault.Memory) ⊎ ((f ≡ GcFault.LiveBody)
             × (is_body_in_range (decoded_module adapter.now) (body_in bytes.now) ≡ false))) }
     {
@@ -312,13 +344,16 @@ impl<L: LiveSet> Search<L> {
         if !self.reach_locals(alloc, adapter, &operators)? {
             return Err(GcFault::LiveBody);
         }
-        while let Some(instr) = self.next_unknown(alloc, adapter, &mut operators)? {
+        cut.begin(bytes.len());
+        while let Some(instr) = self.next_unknown(alloc, adapter, &mut operators, cut)? {
+            cut.push(&instr)?;
             let is_operator_in_range = self.reach_operator(adapter, &instr)?;
             drop(instr);
             if !is_operator_in_range {
                 return Err(GcFault::LiveBody);
             }
         }
+        cut.end()?;
         Ok(())
     }
 
@@ -335,24 +370,52 @@ impl<L: LiveSet> Search<L> {
 }
 
 impl<L: LiveSet> Search<L> {
-    /// Finds the items that a function names.
-    fn reach_func(
+    /// Finds the items that a function names, and cuts its body.
+    fn reach_func<'a>(
         &mut self,
         alloc: Global,
         adapter: &Module<'_>,
-        func: Func<'_>,
+        func: Func<'a>,
+        cut: &mut BodyCut<'a>,
     ) -> Result<(), GcFault>
         ensures found { OnOk result (FindsItems L.has self.old self.new (present
             (decoded_module adapter.now) (func_refs (func_code func.entry)))) }
         ensures in_range { IsOk result →
             is_def_in_range (decoded_module adapter.now) (func_code func.entry).def ≡ true }
+        ensures cut { IsOk result → IsFuncCutIfKept cut.new func.entry }
         ensures fault { IfErr result (λ f. (f ≡ GcFault.Memory) ⊎ ((f ≡ GcFault.LiveBody)
             × (is_def_in_range (decoded_module adapter.now) (func_code func.entry).def ≡ false))) }
     {
         self.reach_present(adapter, (Space::Types, func.ty))?;
         match func.def {
             Def::Import(_, _) => Ok(()),
-            Def::Local(bytes) => self.reach_body(alloc, adapter, bytes),
+            Def::Local(bytes) => self.reach_body(alloc, adapter, bytes, cut),
+        }
+    }
+
+    /// Finds the items that the function of an index names, and keeps its body as it was cut.
+    fn reach_func_at<'a>(
+        &mut self,
+        alloc: Global,
+        adapter: &Module<'a>,
+        index: usize,
+        cuts: &mut BodyCuts<'a>,
+    ) -> Result<(), GcFault>
+        ensures found { OnOk result (FindsItems L.has self.old self.new
+            (refs_in (decoded_module adapter.now) (Funcs, index))) }
+        ensures in_range { IsOk result →
+            is_item_in_range (decoded_module adapter.now) (Funcs, index) ≡ true }
+        ensures cut { OnOk result (KeepsCuts adapter.now.funcs.items cuts.old cuts.new) }
+        ensures fault { IfErr result (λ f. (f ≡ GcFault.Memory) ⊎ ((f ≡ GcFault.LiveBody)
+            × (is_item_in_range (decoded_module adapter.now) (Funcs, index) ≡ false))) }
+    {
+        match adapter.funcs.get(index) {
+            Some(func) => {
+                self.reach_func(alloc, adapter, *func, &mut cuts.current)?;
+                cuts.keep(index)?;
+                Ok(())
+            }
+            None => Ok(()),
         }
     }
 
@@ -395,6 +458,40 @@ impl<L: LiveSet> Search<L> {
         }
     }
 
+    /// Finds the items that an item names, and keeps the body of a function as it was cut.
+    fn reach_and_cut<'a>(
+        &mut self,
+        alloc: Global,
+        adapter: &Module<'a>,
+        item: (Space, u32),
+        cuts: &mut BodyCuts<'a>,
+    ) -> Result<(), GcFault>
+        ensures found { OnOk result
+            (FindsItems L.has self.old self.new (refs_in (decoded_module adapter.now) item)) }
+        ensures in_range { IsOk result → is_item_in_range (decoded_module adapter.now) item ≡ true }
+        ensures cut { OnOk result (KeepsCuts adapter.now.funcs.items cuts.old cuts.new) }
+        ensures fault { IfErr result (λ f. (f ≡ GcFault.Memory) ⊎ ((f ≡ GcFault.LiveBody)
+            × (is_item_in_range (decoded_module adapter.now) item ≡ false))) }
+    {
+        let index = item.1 as usize;
+        match item.0 {
+            Space::Types => match adapter.types.get(index) {
+                Some(ty) => Ok(self.reach_func_type(adapter, ty)?),
+                None => Ok(()),
+            },
+            Space::Funcs => self.reach_func_at(alloc, adapter, index, cuts),
+            Space::Tables => match adapter.tables.get(index) {
+                Some(table) => Ok(self.reach_table(adapter, table.ty)?),
+                None => Ok(()),
+            },
+            Space::Globals => match adapter.globals.get(index) {
+                Some(global) => Ok(self.reach_global(alloc, adapter, *global)?),
+                None => Ok(()),
+            },
+            Space::Memories => Ok(()),
+        }
+    }
+
     /// Finds the items that an item names.
     pub fn reach_from(
         &mut self,
@@ -408,34 +505,17 @@ impl<L: LiveSet> Search<L> {
         ensures fault { IfErr result (λ f. (f ≡ GcFault.Memory) ⊎ ((f ≡ GcFault.LiveBody)
             × (is_item_in_range (decoded_module adapter.now) item ≡ false))) }
     {
-        let index = item.1 as usize;
-        match item.0 {
-            Space::Types => match adapter.types.get(index) {
-                Some(ty) => Ok(self.reach_func_type(adapter, ty)?),
-                None => Ok(()),
-            },
-            Space::Funcs => match adapter.funcs.get(index) {
-                Some(func) => self.reach_func(alloc, adapter, *func),
-                None => Ok(()),
-            },
-            Space::Tables => match adapter.tables.get(index) {
-                Some(table) => Ok(self.reach_table(adapter, table.ty)?),
-                None => Ok(()),
-            },
-            Space::Globals => match adapter.globals.get(index) {
-                Some(global) => Ok(self.reach_global(alloc, adapter, *global)?),
-                None => Ok(()),
-            },
-            Space::Memories => Ok(()),
-        }
+        let mut cuts = BodyCuts::new(alloc, 0)?;
+        self.reach_and_cut(alloc, adapter, item, &mut cuts)
     }
 
-    /// Finds what roots reach, and answers how many items were taken up.
-    pub fn reach_all(
+    /// Finds what roots reach, keeps bodies as they were cut, and answers how many items were taken up.
+    pub fn reach_all<'a>(
         &mut self,
         alloc: Global,
-        adapter: &Module<'_>,
+        adapter: &Module<'a>,
         roots: &[(Space, u32)],
+        cuts: &mut BodyCuts<'a>,
     ) -> Result<u64, GcFault>
         requires consistent { IsConsistent L.has self.old }
         requires none { self.old.order.items ≡ [] }
@@ -447,6 +527,7 @@ impl<L: LiveSet> Search<L> {
         ensures in_range { IsOk result → (x : ItemIndex) →
             IsReachedFrom (refs_in (decoded_module adapter.now)) roots.now x →
             is_item_in_range (decoded_module adapter.now) x ≡ true }
+        ensures cut { OnOk result (KeepsCuts adapter.now.funcs.items cuts.old cuts.new) }
         ensures fault { IfErr result (IsReachFault (decoded_module adapter.now) roots.now) }
     {
         for root in roots {
@@ -455,7 +536,7 @@ impl<L: LiveSet> Search<L> {
         let mut next: usize = 0;
         while next < self.order.len() {
             let item = self.order[next];
-            match self.reach_from(alloc, adapter, item) {
+            match self.reach_and_cut(alloc, adapter, item, cuts) {
                 Ok(()) => next += 1,
                 Err(fault) => return Err(fault),
             }

@@ -8,6 +8,7 @@ ghost use Rattle.wc_write.specs.Modules.{built_text};
 ghost use Rattle.wc_write.specs.Values.{AreBytes};
 ghost use Rattle.wc_gc.specs.Decoded.{decoded_module};
 ghost use Rattle.wc_gc.specs.Private.ItemCounts.{ItemCountsFitU32};
+ghost use Rattle.wc_gc.specs.Private.KeptBodies.{AreBodiesCut};
 ghost use Rattle.wc_gc.specs.Edit.{edit};
 ghost use Rattle.wc_gc.specs.EditedImage.{edited_image};
 ghost use Rattle.wc_gc.specs.Laws.{AreSettings};
@@ -19,17 +20,16 @@ ghost use Rattle.wc_gc.specs.TrimmedText.{IsTrimmed};
 ghost use Rattle.wc_gc.specs.Trim.{IsLaterCause, IsLaterFault, IsTrimFault};
 
 use crate::causes::check_found;
-use crate::edit::EditSource;
 use crate::edited_image::edited_text;
 use crate::fault::GcFault;
 use crate::found::Found;
-use crate::live::{LiveSet, LiveSets};
-use crate::live_items::find_live_in;
+use crate::live::LiveSet;
+use crate::live_items::{Reached, find_live_in};
 use crate::range_set::RangeSet;
 use crate::settings::Settings;
 use std::alloc::Global;
 use wc_maps::Set;
-use wc_read::{Export, Module, read_module};
+use wc_read::{Module, read_module};
 use wc_write::laws::slices_are_bytes;
 
 /// Trims an adapter: its required exports, and of its items those that they reach, in their order, each index replaced
@@ -99,11 +99,11 @@ pub fn run(
 }
 
 /// Trims an adapter under settings, with live items in sets of any kind.
-fn trim<L: LiveSet>(
+fn trim<'a, L: LiveSet>(
     alloc: Global,
-    wasm: &[u8],
+    wasm: &'a [u8],
     required: &Set<String>,
-    settings: Settings<'_>,
+    settings: Settings<'a>,
 ) -> Result<Vec<u8>, GcFault>
     ensures trimmed { IfOk result (λ v. IsTrimmed (settings_view settings.entry)
         (trim_input wasm.now required.now.keys) v.items) }
@@ -113,64 +113,59 @@ fn trim<L: LiveSet>(
     // So a vector has fewer than 2^32 items.
     slices_are_bytes(wasm);
     let adapter = read_module(alloc, wasm)?;
-    trim_module::<L>(alloc, &adapter, required, settings)
+    trim_module::<L>(alloc, adapter, required, settings)
 }
 
 /// Trims a module that was read.
-fn trim_module<L: LiveSet>(
+fn trim_module<'a, L: LiveSet>(
     alloc: Global,
-    adapter: &Module<'_>,
+    adapter: Module<'a>,
     required: &Set<String>,
-    settings: Settings<'_>,
+    settings: Settings<'a>,
 ) -> Result<Vec<u8>, GcFault>
-    requires valid { IsModule (module_value adapter.now) }
-    requires bounded { ItemCountsFitU32 adapter.now }
+    requires valid { IsModule (module_value adapter) }
+    requires bounded { ItemCountsFitU32 adapter }
     ensures trimmed { IfOk result (λ v. (bytes : List ℕ) → AreBytes bytes
-        → SpellsModule bytes (module_value adapter.now) → IsTrimmed
+        → SpellsModule bytes (module_value adapter.entry) → IsTrimmed
         (settings_view settings.entry) (trim_input bytes required.now.keys) v.items) }
     ensures fault { IfErr result (λ f. (bytes : List ℕ)
-        → SpellsModule bytes (module_value adapter.now) → IsTrimFault
+        → SpellsModule bytes (module_value adapter.entry) → IsTrimFault
         (settings_view settings.entry) (trim_input bytes required.now.keys) f) }
 {
     settings_are_valid(settings);
-    let (exports, found) = find_live_in::<L>(alloc, adapter, required)?;
-    image_text(alloc, adapter, &exports, &found.live, settings)
+    let places = adapter.funcs.len();
+    let reached = find_live_in::<L>(alloc, &adapter, required, places)?;
+    image_text(alloc, adapter, &reached, settings)
 }
 
-/// The text of the image of a module with these exports, where nothing that is live stops it.
-fn image_text<L: LiveSet>(
+/// The text of the image of a module of which these items are live, where none of them stops it.
+fn image_text<'a, L: LiveSet>(
     alloc: Global,
-    adapter: &Module<'_>,
-    exports: &[Export<'_>],
-    live: &LiveSets<L>,
-    settings: Settings<'_>,
+    adapter: Module<'a>,
+    reached: &Reached<'a, L>,
+    settings: Settings<'a>,
 ) -> Result<Vec<u8>, GcFault>
-    requires valid { IsModule (module_value adapter.now) }
-    requires bounded { ItemCountsFitU32 adapter.now }
-    requires in_range { (n : ℕ) → IsTrue (L.has live.now.funcs n)
-        → is_item_in_range (decoded_module adapter.now) (Funcs, n) ≡ true }
-    ensures written { IfOk result (λ v. v.items
-        ≡ built_text (edited_image (edit
-        (settings_view settings.entry) (decoded_module adapter.now)
-        (map export_value exports.now)
-        (has_item L.has live.now)))) }
+    requires valid { IsModule (module_value adapter) }
+    requires bounded { ItemCountsFitU32 adapter }
+    requires in_range { (n : ℕ) → IsTrue (L.has reached.now.found.live.funcs n)
+        → is_item_in_range (decoded_module adapter) (Funcs, n) ≡ true }
+    requires cut { AreBodiesCut adapter.funcs.items reached.now.cuts }
+    ensures written { IfOk result (λ v. v.items ≡ built_text (edited_image (edit
+        (settings_view settings.entry) (decoded_module adapter.entry)
+        (map export_value reached.now.exports.items)
+        (has_item L.has reached.now.found.live)))) }
     ensures none { IsOk result → (f : GcFault) →
-        ¬ (IsLaterCause (settings_view settings.entry) (decoded_module adapter.now)
-        (map export_value exports.now)
-        (has_item L.has live.now) f) }
+        ¬ (IsLaterCause (settings_view settings.entry) (decoded_module adapter.entry)
+        (map export_value reached.now.exports.items)
+        (has_item L.has reached.now.found.live) f) }
     ensures fault { IfErr result (λ f. (f ≡ GcFault.Memory)
-        ⊎ IsLaterFault (settings_view settings.entry) (decoded_module adapter.now)
-        (map export_value exports.now)
-        (has_item L.has live.now) f) }
+        ⊎ IsLaterFault (settings_view settings.entry) (decoded_module adapter.entry)
+        (map export_value reached.now.exports.items)
+        (has_item L.has reached.now.found.live) f) }
 {
-    let found = Found::of(alloc, adapter, live)?;
-    check_found(adapter, settings, &found)?;
-    let source = EditSource {
-        adapter,
-        exports,
-        live,
-    };
-    edited_text(alloc, &source, settings, &found)
+    let found = Found::of(alloc, &adapter, &reached.found.live)?;
+    check_found(&adapter, settings, &found)?;
+    edited_text(alloc, adapter, reached, settings, &found)
 }
 
 /// A realloc's name is text, and pages have 2^16 bytes at most. A call does nothing when it runs.

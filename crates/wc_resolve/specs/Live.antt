@@ -1,6 +1,5 @@
 -- Live types: the types that an item of a world needs, each after the types that it refers to.
-use Rattle.std.specs.Prelude.{◌≡◌, ℕ, List, [], ◌∷◌, ◌++◌, ◌==◌, if◌then◌else◌, fold, Contains, Option, Some, None}
-use Rattle.std.specs.Borrow.{Bor}
+use Rattle.std.specs.Prelude.{◌≡◌, ℕ, List, [], ◌∷◌, ◌++◌, ◌==◌, if◌then◌else◌, fold, Contains}
 use Rattle.std.specs.List.{flat_map, list_any}
 use Rattle.std.specs.Option.{option_map_or}
 use Rattle.wc_resolve.specs.Views.{TypeView}
@@ -49,8 +48,3 @@ AddsListings r old new roots = AddsAll r.types old new (listing_from r.types roo
 -- a beginning of them was
 abbrev pub AddsPartly : ResolveView → List ℕ → List ℕ → List ℕ → Type 0
 AddsPartly r old new roots = AddsSome r.types old new (listing_from r.types roots)
-
--- the types of a list, if there is one
-abbrev pub known_types : Option (Bor (List ℕ)) → List ℕ
-known_types None = []
-known_types (Some list) = list.now

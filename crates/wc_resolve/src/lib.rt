@@ -86,7 +86,7 @@ pub use fault::ResolveFault;
 pub use flat::WasmType;
 pub use functions::{AbiVariant, Function, FunctionKind, FunctionPlace};
 pub use ids::{InterfaceId, PackageId, TypeId, WorldId};
-pub use live::LiveTypes;
+pub use live::{KnownTypes, LiveTypes};
 pub use packages::{Package, PackageName};
 pub use resolve::{Parts, RefusedParts, Resolve};
 pub use signature::WasmSignature;

@@ -3,7 +3,7 @@
 ghost use Rattle.std.specs.Prelude.{◌≡◌, ◌<◌, ◌↔◌, ◌++◌, ℕ, [], ◌∷◌, Contains, IsTrue, OnErr, OnOk, length};
 ghost use Rattle.std.specs.Iterator.Adapters.{copied_source};
 ghost use Rattle.std.specs.Slice.Iter.{iter_rest};
-ghost use Rattle.wc_resolve.specs.Live.{AddsListings, AddsPartly, Keeps, known_types, with_live};
+ghost use Rattle.wc_resolve.specs.Live.{AddsListings, AddsPartly, Keeps, with_live};
 ghost use Rattle.wc_resolve.specs.Roots.{function_roots, indices, item_roots, type_roots};
 ghost use Rattle.wc_resolve.specs.Ranges.{IsFunctionIn, IsItemIn, IsTypeIn};
 ghost use Rattle.wc_resolve.specs.Views.{function_view, item_view};
@@ -17,27 +17,43 @@ use std::iter::Copied;
 use std::marker::Model;
 use std::slice::Iter;
 
-/// Whether there is a list of known types, and has a type.
-fn is_known(known: Option<&LiveTypes>, id: TypeId) -> bool
-    ensures { IsTrue result ↔ Contains (known_types known.entry) id.0 }
-{
-    match known {
-        Some(known) => known.contains(id),
-        None => false,
+/// Types that are known: a test of each, for a walk that passes over them.
+pub trait KnownTypes {
+    ghost use Rattle.std.specs.Prelude.{ℕ, List};
+
+    // The indices of the types that are known.
+    ghost known_of: { Self → List ℕ };
+
+    /// Whether a type is known.
+    fn has(&self, id: TypeId) -> bool
+        ensures { IsTrue result ↔ Contains (known_of self.now) id.0 };
+}
+
+/// No known types.
+#[derive(Clone, Copy)]
+struct NoTypes;
+
+impl KnownTypes for NoTypes {
+    ghost use Rattle.std.specs.Prelude.{[]};
+
+    ghost known_of = { λ _. [] };
+
+    fn has(&self, _id: TypeId) -> bool {
+        false
     }
 }
 
 /// Whether a type is known or live.
-fn is_there(known: Option<&LiveTypes>, live: &LiveTypes, id: TypeId) -> bool
-    ensures { IsTrue result ↔ Contains (known_types known.entry ++ live.now) id.0 }
+fn is_there<K: KnownTypes>(known: &K, live: &LiveTypes, id: TypeId) -> bool
+    ensures { IsTrue result ↔ Contains (K.known_of known.now ++ live.now) id.0 }
 {
-    is_known(known, id) || live.contains(id)
+    known.has(id) || live.contains(id)
 }
 
 /// Adds a type, unless it is known or live.
-fn leave(known: Option<&LiveTypes>, live: &mut LiveTypes, id: TypeId) -> Result<(), AllocError>
-    ensures added { OnOk result (known_types known.entry ++ live.new
-        ≡ with_live (known_types known.entry ++ live.old) id.0) }
+fn leave<K: KnownTypes>(known: &K, live: &mut LiveTypes, id: TypeId) -> Result<(), AllocError>
+    ensures added { OnOk result (K.known_of known.now ++ live.new
+        ≡ with_live (K.known_of known.now ++ live.old) id.0) }
     ensures kept { Keeps live.old live.new }
     ensures err { OnErr result (live.new ≡ live.old) }
 {
@@ -49,16 +65,16 @@ fn leave(known: Option<&LiveTypes>, live: &mut LiveTypes, id: TypeId) -> Result<
 }
 
 /// Adds the listings of types, without repeats, and without the types that are known.
-fn add(
+fn add<K: KnownTypes>(
     resolve: &Resolve,
-    known: Option<&LiveTypes>,
+    known: &K,
     roots: Vec<TypeId>,
     live: &mut LiveTypes,
 ) -> Result<(), AllocError>
     requires { (x : ℕ) → Contains (indices roots.items) x → x < length resolve.now.types }
-    ensures added { let known = known_types known.entry in OnOk result (AddsListings resolve.now
+    ensures added { let known = K.known_of known.now in OnOk result (AddsListings resolve.now
         (known ++ live.old) (known ++ live.new) (indices roots.items)) }
-    ensures begun { let known = known_types known.entry in OnErr result (AddsPartly resolve.now
+    ensures begun { let known = K.known_of known.now in OnErr result (AddsPartly resolve.now
         (known ++ live.old) (known ++ live.new) (indices roots.items)) }
     ensures kept { Keeps live.old live.new }
 {
@@ -122,6 +138,14 @@ impl Model for LiveTypes {
     ghost invariant = { λ live. AreMarks live.there.items (indices live.types.items) };
 }
 
+impl KnownTypes for LiveTypes {
+    ghost known_of = { λ types. types };
+
+    fn has(&self, id: TypeId) -> bool {
+        self.contains(id)
+    }
+}
+
 impl LiveTypes {
     /// The empty list. Later calls allocate with `alloc`.
     pub fn new(alloc: Global) -> LiveTypes
@@ -182,7 +206,7 @@ impl LiveTypes {
         ensures kept { Keeps self.old self.new }
     {
         let roots = roots_of_id(self.allocator(), id)?;
-        add(resolve, None, roots, self)
+        add(resolve, &NoTypes, roots, self)
     }
 
     /// Adds a defined type as `add_type_id` does; a primitive type adds nothing. The id must be in range (`has_type`).
@@ -197,7 +221,7 @@ impl LiveTypes {
         ensures kept { Keeps self.old self.new }
     {
         let roots = roots_of_type(self.allocator(), ty)?;
-        add(resolve, None, roots, self)
+        add(resolve, &NoTypes, roots, self)
     }
 
     /// Adds the types of a function: the resource of a static function, then the parameters, then the result. The ids
@@ -215,7 +239,7 @@ impl LiveTypes {
         ensures kept { Keeps self.old self.new }
     {
         let roots = roots_of_function(self.allocator(), function)?;
-        add(resolve, None, roots, self)
+        add(resolve, &NoTypes, roots, self)
     }
 
     /// Adds the types of an item of a world: of an interface its types and then those of its functions, of a function
@@ -235,7 +259,7 @@ impl LiveTypes {
     {
         resolve.well_formedness();
         let roots = roots_of_item(self.allocator(), resolve, item)?;
-        add(resolve, None, roots, self)
+        add(resolve, &NoTypes, roots, self)
     }
 
     /// Adds the types of an item of a world as `add_world_item` does, but for those that are known: the types of the item
@@ -245,21 +269,21 @@ impl LiveTypes {
     /// # Errors
     ///
     /// `AllocError`: an allocation failed. The types that were added until then stay.
-    pub fn add_world_item_beside(
+    pub fn add_world_item_beside<K: KnownTypes>(
         &mut self,
-        known: &LiveTypes,
+        known: &K,
         resolve: &Resolve,
         item: &WorldItem,
     ) -> Result<(), AllocError>
         requires { IsItemIn resolve.now (item_view item.now) }
-        ensures added { OnOk result (AddsListings resolve.now (known.now ++ self.old)
-            (known.now ++ self.new) (item_roots resolve.now (item_view item.now))) }
-        ensures begun { OnErr result (AddsPartly resolve.now (known.now ++ self.old)
-            (known.now ++ self.new) (item_roots resolve.now (item_view item.now))) }
+        ensures added { let known = K.known_of known.now in OnOk result (AddsListings resolve.now
+            (known ++ self.old) (known ++ self.new) (item_roots resolve.now (item_view item.now))) }
+        ensures begun { let known = K.known_of known.now in OnErr result (AddsPartly resolve.now
+            (known ++ self.old) (known ++ self.new) (item_roots resolve.now (item_view item.now))) }
         ensures kept { Keeps self.old self.new }
     {
         resolve.well_formedness();
         let roots = roots_of_item(self.allocator(), resolve, item)?;
-        add(resolve, Some(known), roots, self)
+        add(resolve, known, roots, self)
     }
 }

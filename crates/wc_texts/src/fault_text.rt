@@ -40,7 +40,8 @@ pub fn put_carried<P: Pieces, F: FaultText>(
     name: &str,
     fault: &F,
 ) -> Result<(), PutFailed>
-    ensures { IsPut P.puts P.fails out.old out.new (carried_text name.now (F.text fault.now)) result }
+    ensures { IsPut P.puts P.fails out.old out.new
+        (carried_text name.now (F.text fault.now)) result }
 {
     out.put_piece(name)?;
     out.put_piece(": ")?;

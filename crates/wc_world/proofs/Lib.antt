@@ -10,6 +10,7 @@ pub mod KeptLoweringLemmas
 pub mod LiveLemmas
 pub mod LiveWalkLemmas
 pub mod KnownTypeLemmas
+pub mod MarkLemmas
 pub mod SettledLemmas
 pub mod AddedFunctionLemmas
 pub mod OwnerLemmas

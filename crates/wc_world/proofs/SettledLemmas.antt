@@ -1,27 +1,32 @@
 -- Types that later exports may pass over.
-use Rattle.std.proofs.Common.{◌≡◌, ◌∙◌, ◌↔◌, ◌⊎◌, ◌<◌, ℕ, length, inl, inr, Bool, true, false, IsTrue, eqb, List, [], ◌∷◌, ◌++◌, Option, Some, None, String, map, refl, sym, ap, subst, append-nil}
-use Rattle.std.specs.Prelude.{◌&&◌, is_none}
+use Rattle.std.proofs.Common.{◌≡◌, ◌∙◌, ◌↔◌, ◌<◌, ℕ, length, inl, inr, Bool, true, false, cond, IsTrue, List, [], ◌∷◌, ◌++◌, Option, Some, None, String, map, refl, sym, ap, subst, arith}
+use Rattle.std.specs.Prelude.{◌&&◌, ◌==◌}
 use Rattle.std.specs.List.{Contains, cons_option, filter_map, list_all}
 use Rattle.std.specs.Option.{option_map_or, option_to_list}
 use Rattle.std.specs.declared.alloc.Global.{Global}
 use Rattle.std.proofs.lemmas.Bool.{cases_Bool, eqb-true}
+use Rattle.std.proofs.lemmas.Bool.Decides.{eqb_tells}
 use Rattle.std.proofs.lemmas.Cmp.{nat_eq_equiv}
+use Rattle.std.proofs.lemmas.List.{get_or_past}
 use Rattle.std.proofs.lemmas.Map.Views.{list_any-from_Contains, Contains-from_any}
+use Rattle.std.proofs.lemmas.Option.{same_Some}
 use Rattle.wc_resolve.specs.Dependencies.{interface_owning}
-use Rattle.wc_resolve.specs.Kinds.{ResolveView, kind_at, referenced_indices, referenced_types, type_index}
-use Rattle.wc_resolve.specs.Live.{AddsListings, IsComplete, list_union, listing_from, listing_of, with_live}
+use Rattle.wc_resolve.specs.Kinds.{ResolveView, children, kind_at, referenced_indices, referenced_types, type_index}
+use Rattle.wc_resolve.specs.Live.{AddsListings, IsComplete, listing_from}
 use Rattle.wc_resolve.specs.Views.{ItemView, KeyView, KindView, named_view}
+use Rattle.wc_resolve.specs.declared.ids.InterfaceId.{InterfaceId}
 use Rattle.wc_resolve.specs.declared.types.WitType.{WitType}
 use Rattle.wc_resolve.specs.declared.types.WitType.TheVariants.{Id}
-use Rattle.wc_resolve.proofs.ListUnionLemmas.{list_union_keeps, with_from, with_has}
-use Rattle.wc_resolve.proofs.ListingLemmas.{complete_more, complete_none, listing_there}
+use Rattle.wc_resolve.proofs.ListUnionLemmas.{list_union_keeps}
 use Rattle.wc_resolve.proofs.SearchLemmas.{contains_cons, contains_head, contains_none, contains_tail}
 use Rattle.wc_adapters.specs.Entries.{Entries}
-use Rattle.wc_world.specs.Live.{export_roots, is_from_elsewhere}
+use Rattle.wc_world.specs.Live.{export_roots}
 use Rattle.wc_world.specs.Used.{UsedView}
 use Rattle.wc_world.specs.Private.ImportedItems.{is_in}
-use Rattle.wc_world.specs.Private.Settled.{AreSettled, is_among, is_unowned_over, refers_only_to}
+use Rattle.wc_world.specs.Private.Marks.{holds, is_within, known_to, mark_of}
+use Rattle.wc_world.specs.Private.Settled.{AreSettled, is_among, is_owner_within, is_settled_for, refers_only_to}
 use Rattle.wc_world.proofs.LiveWalkLemmas.{LiveWalk}
+use Rattle.wc_world.proofs.MarkLemmas.{known_cases, known_live, known_marked}
 
 -- a test whether an index is listed
 pub listed_test : (b : Bool) (xs : List ℕ) (x : ℕ) → IsTrue b ↔ Contains xs x → b ≡ is_in xs x
@@ -80,83 +85,76 @@ among_children : (types : List ℕ) (o : Option KindView) → option_map_or (ref
 among_children types None h c k = absurd (contains_none c k)
 among_children types (Some kind) h c k = among_indices types (referenced_types kind) h c k
 
-none_owns : (o : Option ℕ) → is_none o ≡ true → (i : ℕ) → o ≡ Some i → ⊥
-none_owns None h i is = (let bad : ⊥ = cc is in bad)
-none_owns (Some k) h i is = (let bad : ⊥ = cc h in bad)
+-- a type more
+module _ (r : ResolveView) (sets : UsedView) (live : List ℕ) (old new : List (Option (Option InterfaceId))) (t : ℕ) (reach : Option InterfaceId) (are : AreSettled r sets live old)
+    (put : (x : ℕ) → mark_of new x ≡ cond (x == t) (Some reach) (mark_of old x)) where
+  other_same : (x : ℕ) → (x == t) ≡ false → mark_of new x ≡ mark_of old x
+  other_same x other = put x ∙ ap (λ b. cond b (Some reach) (mark_of old x)) other
 
--- what is in two lists that are put together
-union_from : (live listing : List ℕ) (c : ℕ) → Contains (list_union live listing) c → Contains live c ⊎ Contains listing c
-union_from live [] c h = inl h
-union_from live (x ∷ listing) c h =
-    elim (union_from (with_live live x) listing c h) [
-      | inl first ↦ elim (with_from live x c first) [
-        | inl old ↦ inl old
-        | inr same ↦ inr (subst (Contains (x ∷ listing)) same (contains_head listing x))
+  itself_new : (x : ℕ) → (x == t) ≡ true → mark_of new x ≡ Some reach
+  itself_new x same = put x ∙ ap (λ b. cond b (Some reach) (mark_of old x)) same
+
+  module _ (none : mark_of old t ≡ None) where
+    still_known : (m : Option InterfaceId) (c : ℕ) → Contains (known_to sets live old m) c → Contains (known_to sets live new m) c
+    still_known m c h = elim (known_cases sets live old m c h) [
+      | inl there ↦ known_live sets live new m c there
+      | inr marked ↦ elim (eqb_tells c t) [
+        | inl same ↦ absurd (let e = sym (ap (holds (is_within sets m)) (ap (mark_of old) same.1 ∙ none)) ∙ marked in let bad : ⊥ = cc e in bad)
+        | inr other ↦ known_marked sets live new m c (ap (holds (is_within sets m)) (other_same c other.0) ∙ marked)
       ]
-      | inr rest ↦ inr (contains_tail x listing c rest)
     ]
 
--- a type more
-module _ (r : ResolveView) (live settled new : List ℕ) (t : ℕ) (are : AreSettled r live settled) (adds : AddsListings r settled new (t ∷ [])) where
-  new_from : (c : ℕ) → Contains new c → Contains settled c ⊎ Contains (listing_of r.types t) c
-  new_from c h =
-      elim (union_from settled (listing_from r.types (t ∷ [])) c (subst (λ z. Contains z c) (adds are.complete).1 h)) [
-        | inl old ↦ inl old
-        | inr own ↦ inr (subst (λ z. Contains z c) (append-nil (listing_of r.types t)) own)
-      ]
-
-  pub settled_live : IsComplete r.types live → Contains live t → AreSettled r live new
-  settled_live complete there = record {
-    complete = (adds are.complete).0;
-    owned = λ c i h is. elim (new_from c h) [ inl old ↦ are.owned c i old is | inr own ↦ listing_there r.types live complete t c there own ];
-  }
-
-  pub settled_over : is_unowned_over r settled t ≡ true → AreSettled r live new
-  settled_over passes = record {
-    complete = (adds are.complete).0;
-    owned = λ c i h is.
-        let two = both (is_none (interface_owning r t)) (option_map_or (refers_only_to settled) (kind_at r.types t) true) passes in
-        let whole : IsComplete r.types (with_live settled t) = complete_more r.types settled t are.complete (among_children settled (kind_at r.types t) two.1) in
-        elim (new_from c h) [
-          | inl old ↦ are.owned c i old is
-          | inr own ↦ elim (with_from settled t c (listing_there r.types (with_live settled t) whole t c (with_has settled t) own)) [
-            | inl old ↦ are.owned c i old is
-            | inr same ↦ absurd (none_owns (interface_owning r t) two.0 i (ap (interface_owning r) same ∙ is))
-          ]
-        ];
-  }
+    pub settled_more : is_settled_for r sets (known_to sets live old reach) reach t ≡ true → AreSettled r sets live new
+    settled_more passes = record {
+      over = λ x c m is child.
+          let two = both (is_owner_within sets reach (interface_owning r t)) (option_map_or (refers_only_to (known_to sets live old reach)) (kind_at r.types t) true) passes in
+          elim (eqb_tells x t) [
+            | inl same ↦ (let e : reach ≡ m = same_Some reach m (sym (itself_new x same.0) ∙ is) in
+                subst (λ z. Contains (known_to sets live new z) c) e
+                (still_known reach c (among_children (known_to sets live old reach) (kind_at r.types t) two.1 c (subst (λ z. Contains (children r.types z) c) same.1 child))))
+            | inr other ↦ still_known m c (are.over x c m (sym (other_same x other.0) ∙ is) child)
+          ];
+      owned = λ x i m is own.
+          let two = both (is_owner_within sets reach (interface_owning r t)) (option_map_or (refers_only_to (known_to sets live old reach)) (kind_at r.types t) true) passes in
+          elim (eqb_tells x t) [
+            | inl same ↦ (let e : reach ≡ m = same_Some reach m (sym (itself_new x same.0) ∙ is) in
+                subst (λ z. is_within sets z i ≡ true) e
+                (subst (λ o. is_owner_within sets reach o ≡ true) (ap (interface_owning r) (sym same.1) ∙ own) two.0))
+            | inr other ↦ are.owned x i m (sym (other_same x other.0) ∙ is) own
+          ];
+    }
 
 -- at first there are none
-pub none_settled : (r : ResolveView) (live settled : List ℕ) → settled ≡ [] → AreSettled r live settled
-none_settled r live settled none = subst (AreSettled r live) (sym none) (record { complete = complete_none r.types; owned = λ t i h is. absurd (contains_none t h) })
+pub none_settled : (r : ResolveView) (sets : UsedView) (live : List ℕ) (marks : List (Option (Option InterfaceId))) → marks ≡ [] → AreSettled r sets live marks
+none_settled r sets live marks none = record {
+  over = λ t c reach is child. absurd (not_marked t reach is);
+  owned = λ t i reach is own. absurd (not_marked t reach is);
+} where
+  not_marked : (t : ℕ) (reach : Option InterfaceId) → mark_of marks t ≡ Some reach → ⊥
+  not_marked t reach is = (let e = sym (ap (λ z. mark_of z t) none ∙ get_or_past [] t None (omega arith)) ∙ is in let bad : ⊥ = cc e in bad)
 
 -- once more is live
-pub settled_still : (r : ResolveView) (old new settled roots : List ℕ) → IsComplete r.types old → AddsListings r old new roots → AreSettled r old settled → AreSettled r new settled
-settled_still r old new settled roots complete adds are = record {
-  complete = are.complete;
-  owned = λ t i h is. subst (λ z. Contains z t) (sym (adds complete).1) (list_union_keeps old (listing_from r.types roots) t (are.owned t i h is));
+pub settled_still : (r : ResolveView) (sets : UsedView) (old new : List ℕ) (marks : List (Option (Option InterfaceId))) (roots : List ℕ) → IsComplete r.types old → AddsListings r old new roots → AreSettled r sets old marks → AreSettled r sets new marks
+settled_still r sets old new marks roots complete adds are = record {
+  over = λ t c reach is child. elim (known_cases sets old marks reach c (are.over t c reach is child)) [
+    | inl there ↦ known_live sets new marks reach c (subst (λ z. Contains z c) (sym (adds complete).1) (list_union_keeps old (listing_from r.types roots) c there))
+    | inr marked ↦ known_marked sets new marks reach c marked
+  ];
+  owned = are.owned;
 }
 
--- settled types that are from elsewhere are live
-owner_there : (o : Option ℕ) (p : ℕ → Bool) → option_map_or p o false ≡ true → (i : ℕ) × (o ≡ Some i)
-owner_there None p h = absurd (let bad : ⊥ = cc h in bad)
-owner_there (Some i) p h = (i, refl)
-
-pub elsewhere_live : (r : ResolveView) (sets : UsedView) (i : ℕ) (live settled : List ℕ) → AreSettled r live settled → (t : ℕ) → Contains settled t → is_from_elsewhere r sets i t ≡ true → Contains live t
-elsewhere_live r sets i live settled are t h passes = let own = owner_there (interface_owning r t) _ passes in are.owned t own.0 h own.1
-
 -- types that are gone through, each of which is there
-pub record SettledWalk (r : ResolveView) (live left settled : List ℕ) : Type 0 where
+pub record SettledWalk (r : ResolveView) (sets : UsedView) (live left : List ℕ) (marks : List (Option (Option InterfaceId))) : Type 0 where
   pub there : (t : ℕ) → Contains left t → t < length r.types
-  pub are : AreSettled r live settled
+  pub are : AreSettled r sets live marks
 
-pub settled_next : (r : ResolveView) (live left rest settled new : List ℕ) (t : ℕ) → left ≡ t ∷ rest → AreSettled r live new → SettledWalk r live left settled → SettledWalk r live rest new
-settled_next r live left rest settled new t is are w = record { there = λ c h. w.there c (subst (λ z. Contains z c) (sym is) (contains_tail t rest c h)); are = are }
+pub settled_next : (r : ResolveView) (sets : UsedView) (live left rest : List ℕ) (old new : List (Option (Option InterfaceId))) (t : ℕ) → left ≡ t ∷ rest → AreSettled r sets live new → SettledWalk r sets live left old → SettledWalk r sets live rest new
+settled_next r sets live left rest old new t is are w = record { there = λ c h. w.there c (subst (λ z. Contains z c) (sym is) (contains_tail t rest c h)); are = are }
 
-pub settled_in : (r : ResolveView) (live left rest settled : List ℕ) (t : ℕ) → left ≡ t ∷ rest → SettledWalk r live left settled → t < length r.types
-settled_in r live left rest settled t is w = w.there t (subst (λ z. Contains z t) (sym is) (contains_head rest t))
+pub settled_in : (r : ResolveView) (sets : UsedView) (live left rest : List ℕ) (marks : List (Option (Option InterfaceId))) (t : ℕ) → left ≡ t ∷ rest → SettledWalk r sets live left marks → t < length r.types
+settled_in r sets live left rest marks t is w = w.there t (subst (λ z. Contains z t) (sym is) (contains_head rest t))
 
--- exports that are gone through, and the types that are settled
-pub record ExportsWalk (r : ResolveView) (sets : UsedView) (all left : Entries) (settled old new : List ℕ) : Type 0 where
+-- exports that are gone through
+pub record ExportsWalk (r : ResolveView) (sets : UsedView) (all left : Entries) (marks : List (Option (Option InterfaceId))) (old new : List ℕ) : Type 0 where
   pub walk : LiveWalk r (λ (x : KeyView × ItemView). export_roots r sets x.1) all left [] old new
-  pub are : AreSettled r new settled
+  pub are : AreSettled r sets new marks

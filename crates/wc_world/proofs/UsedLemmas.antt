@@ -43,7 +43,7 @@ pub insert_next : (old new : Bool) (id j : ℕ) (rest : List InterfaceId) (whole
     → (old || ((j == id) || among rest j)) ≡ whole → (new || among rest j) ≡ whole
 insert_next old new id j rest whole put before = ap (λ b. b || among rest j) put ∙ (or_moved (id == j) (j == id) old (among rest j) (turned id j) ∙ before)
 
-leads_on : {next : ℕ → List ℕ} {x y z : ℕ} → Leads next x y → Leads next y z → Leads next x z
+pub leads_on : {next : ℕ → List ℕ} {x y z : ℕ} → Leads next x y → Leads next y z → Leads next x z
 leads_on (refers x y c) b = further x y _ c b
 leads_on (further x w y c rest) b = further x w _ c (leads_on rest b)
 

@@ -5,4 +5,5 @@ pub mod Refused
 pub mod LoweringContext
 pub mod ImportedItems
 pub mod LiveAdditions
+pub mod Marks
 pub mod Settled

@@ -18,6 +18,7 @@ mod kept_lowerings;
 pub mod laws;
 mod live;
 mod lowering;
+mod marks;
 mod options;
 mod places;
 mod refused;

@@ -9,6 +9,7 @@ ghost use Rattle.wc_resolve.specs.Roots.{id_index};
 ghost use Rattle.wc_resolve.specs.Views.{function_view, item_view, key_view, world_view};
 ghost use Rattle.wc_resolve.specs.Kinds.{ResolveView};
 ghost use Rattle.wc_encoder.specs.Dependencies.{AreItemsIn};
+ghost use Rattle.wc_encoder.specs.EncoderParts.{world_exports};
 ghost use Rattle.wc_adapters.specs.Entries.{entries_of};
 ghost use Rattle.wc_names.specs.Keys.{as_type, item_under};
 ghost use Rattle.wc_texts.specs.Names.{under_name};
@@ -19,11 +20,13 @@ ghost use Rattle.wc_validate.specs.Requirements.{functions_of};
 ghost use Rattle.wc_validate.specs.Validate.{module_record};
 ghost use Rattle.wc_world.specs.Live.{AddsTypeOnOk, AreImportsIn, AreImportsOf, AreListed, AreLive, AreRootsIn, adapter_roots, builtin_roots, by_owner, export_roots, exports_roots, import_payload, import_resource, import_roots, imported_types, is_from_elsewhere, is_used, live_types_of, module_roots, named_function_roots, payload_roots, result_roots, roots_under};
 ghost use Rattle.wc_world.specs.Private.LiveAdditions.{AddsAfterOnOk, HaveListings, imports_roots};
+ghost use Rattle.wc_world.specs.Private.Marks.{UseFurther};
 ghost use Rattle.wc_world.specs.Private.Settled.{AreSettled};
-ghost use Rattle.wc_world.specs.Used.{used_view};
+ghost use Rattle.wc_world.specs.Used.{AreUsed, used_view};
 ghost use Rattle.wc_world.specs.WorldViews.{adapters_view, live_view};
 
 use crate::adapter::WorldAdapter;
+use crate::marks::{KnownTo, Mark};
 use crate::settled::settle_all;
 use crate::used::UsedInterfaces;
 use std::alloc::{AllocError, Global};
@@ -44,8 +47,8 @@ type FunctionNames = Set<(Option<InterfaceId>, String)>;
 /// A `Resolve`, and the exported interfaces that exported interfaces of its world use.
 #[derive(Clone, Copy)]
 pub(crate) struct LiveContext<'a> {
-    resolve: &'a Resolve,
-    used: &'a UsedInterfaces,
+    pub(crate) resolve: &'a Resolve,
+    pub(crate) used: &'a UsedInterfaces,
 }
 
 /// The interface that owns a type.
@@ -61,7 +64,7 @@ pub(crate) fn interface_owning(resolve: &Resolve, ty: TypeId) -> Option<Interfac
 }
 
 /// Whether an exported interface uses another one.
-fn is_used(used: &UsedInterfaces, id: InterfaceId, other: InterfaceId) -> bool
+pub(crate) fn is_used(used: &UsedInterfaces, id: InterfaceId, other: InterfaceId) -> bool
     ensures { result ≡ is_used (used_view used.now) id.0 other.0 }
 {
     match used.get(&id) {
@@ -389,31 +392,40 @@ fn add_from_elsewhere(
     Ok(())
 }
 
-/// Adds the types of an export; of an interface its live types that are from elsewhere. Types that are settled are not
-/// visited, and those that are visited are settled then where they can be. `types` is a list that is used again for each
-/// interface: for its memory alone.
+/// Adds the types of an export; of an interface its live types that are from elsewhere. Types that are live, or settled
+/// for the interface, are not visited, and those that are visited are settled then where they can be. `types` is a list
+/// that is used again for each interface: for its memory alone.
 fn add_export(
     context: &LiveContext<'_>,
     item: &WorldItem,
-    settled: &mut LiveTypes,
+    settled: &mut Vec<Mark>,
     types: &mut LiveTypes,
     live: &mut LiveTypes,
 ) -> Result<(), AllocError>
     requires there { IsItemIn context.now.resolve.now (item_view item.now) }
+    requires used { UseFurther (used_view context.now.used.now) }
     requires complete { IsComplete context.now.resolve.now.types live.old }
-    requires settled { AreSettled context.now.resolve.now live.old settled.old }
+    requires settled { AreSettled context.now.resolve.now (used_view context.now.used.now)
+        live.old settled.old.items }
     ensures adds { let r = context.now.resolve.now in OnOk result (AddsListings r live.old live.new
         (export_roots r (used_view context.now.used.now) (item_view item.now))) }
-    ensures settled { OnOk result (AreSettled context.now.resolve.now live.new settled.new) }
+    ensures settled { OnOk result (AreSettled context.now.resolve.now
+        (used_view context.now.used.now) live.new settled.new.items) }
 {
     let resolve = context.resolve;
     match item {
         WorldItem::Interface { id, .. } => {
             resolve.well_formedness();
             types.clear();
-            types.add_world_item_beside(settled, resolve, item)?;
+            let known = KnownTo {
+                used: context.used,
+                live,
+                settled,
+                reach: Some(*id),
+            };
+            types.add_world_item_beside(&known, resolve, item)?;
             add_from_elsewhere(resolve, context.used, *id, types, live)?;
-            settle_all(resolve, live, types, settled)
+            settle_all(context, live, *id, types, settled)
         }
         WorldItem::Function(_) => live.add_world_item(resolve, item),
         WorldItem::TypeItem { .. } => live.add_world_item(resolve, item),
@@ -428,11 +440,12 @@ fn add_exports(
     live: &mut LiveTypes,
 ) -> Result<(), AllocError>
     requires there { AreItemsIn context.now.resolve.now (entries_of exports.now) }
+    requires used { UseFurther (used_view context.now.used.now) }
     requires complete { IsComplete context.now.resolve.now.types live.old }
     ensures { let r = context.now.resolve.now in OnOk result (AddsListings r live.old live.new
         (exports_roots r (used_view context.now.used.now) (entries_of exports.now))) }
 {
-    let mut settled = LiveTypes::new(alloc);
+    let mut settled = Vec::new(alloc);
     let mut types = LiveTypes::new(alloc);
     for (_key, item) in exports.iter() {
         add_export(context, item, &mut settled, &mut types, live)?;
@@ -448,8 +461,9 @@ fn live_types<'a>(
     main: &ValidatedModule,
     adapters: &Map<&'a str, WorldAdapter<'a>>,
 ) -> Result<LiveTypes, AllocError>
-    requires { AreRootsIn context.now.resolve.now (world_view world.now) (module_record main.now)
-        (adapters_view adapters.now) }
+    requires roots { AreRootsIn context.now.resolve.now (world_view world.now)
+        (module_record main.now) (adapters_view adapters.now) }
+    requires used { UseFurther (used_view context.now.used.now) }
     ensures live { IfOk result (λ live. live
         ≡ live_types_of context.now.resolve.now (used_view context.now.used.now)
         (world_view world.now) (module_record main.now) (adapters_view adapters.now)) }
@@ -529,6 +543,7 @@ pub(crate) fn live_type_imports<'a>(
 ) -> Result<LiveGroups, AllocError>
     requires main { AreImportsOf encoder.now (module_record main.now) }
     requires adapters { All (λ a. AreImportsOf encoder.now a.1.info) (adapters_view adapters.now) }
+    requires used { AreUsed encoder.now.resolve (world_exports encoder.now) (used_view used.now) }
     ensures { IfOk result (λ groups. AreLive encoder.now (used_view used.now)
         (module_record main.now) (adapters_view adapters.now) (live_view groups)) }
 {

@@ -3,7 +3,7 @@ use Rattle.std.specs.Prelude.{◌≡◌, ℕ, List, ◌++◌, Option}
 use Rattle.wc_read.specs.Operators.{InstrValue}
 use Rattle.wc_read.specs.Renumbering.{Renumbering}
 use Rattle.wc_read.specs.declared.operators.Space.TheVariants.{Memories}
-use Rattle.wc_gc.specs.NewBodies.{text_left}
+use Rattle.wc_gc.specs.Private.BodyCuts.{text_left}
 
 -- of operators those up to the ones that are left were written, which are the same under all indices under which memory 0
 -- is memory 0

@@ -6,12 +6,17 @@ use Rattle.wc_gc.specs.Bits.{bit_of}
 use Rattle.wc_gc.specs.Decoded.{func_code}
 use Rattle.wc_gc.specs.NewBodies.{body_written}
 use Rattle.wc_gc.specs.Private.Edit.{edited_at, new_edited, written_funcs}
+use Rattle.wc_gc.proofs.BodyCutLemmas.{cut_at}
 use Rattle.wc_gc.proofs.ImageLemmas.{enumerated_none, enumerated_read, map_push}
 use Rattle.wc_gc.proofs.ReachLemmas.{no_item}
 use Rattle.wc_gc.proofs.assemble.append_func_at.Goals as goal
 
-pub edited_func-requires : goal.edited_func-requires
-edited_func-requires c = c.requires _ (slice_get_read _ _ _ _ refl c.in-Some.ensures.lookup.3.0 c.in-Some.ensures.lookup.1)
+pub edited_func-requires-clause-code : goal.edited_func-requires-clause-code
+edited_func-requires-clause-code c = c.requires.coded _ (slice_get_read _ _ _ _ refl c.in-Some.ensures.lookup.3.0 c.in-Some.ensures.lookup.1)
+
+pub edited_func-requires-clause-cut : goal.edited_func-requires-clause-cut
+edited_func-requires-clause-cut c =
+    cut_at c.args.funcs.now c.args.edit.bodies.now.cuts.now c.args.index c.in-Some.func.now c.requires.cut (slice_get_read _ _ _ _ refl c.in-Some.ensures.lookup.3.0 c.in-Some.ensures.lookup.1)
 
 pub returns-in_ok-push-in-Some : goal.returns-in_ok-push-in-Some
 returns-in_ok-push-in-Some c =

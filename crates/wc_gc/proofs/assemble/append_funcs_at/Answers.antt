@@ -5,8 +5,8 @@ use Rattle.wc_gc.specs.Private.Edit.{edited_at, written_funcs}
 use Rattle.wc_gc.proofs.ImageLemmas.{picked_more}
 use Rattle.wc_gc.proofs.assemble.append_funcs_at.Goals as goal
 
-pub append_func_at-requires : goal.append_func_at-requires
-append_func_at-requires c = c.requires c.loop-index.index-index 0 c.loop-index-test.true
+pub append_func_at-requires-clause-coded : goal.append_func_at-requires-clause-coded
+append_func_at-requires-clause-coded c = c.requires.coded c.loop-index.index-index 0 c.loop-index-test.true
 
 pub loop-index-preserved : goal.loop-index-preserved
 loop-index-preserved c =

@@ -9,6 +9,9 @@ use Rattle.wc_gc.specs.Private.Edit.{settings_of}
 use Rattle.wc_gc.proofs.EditedImageLemmas.{edited_image_is, group_coded}
 use Rattle.wc_gc.proofs.assemble.image.Goals as goal
 
+pub new_funcs-requires-clause-cut : goal.new_funcs-requires-clause-cut
+new_funcs-requires-clause-cut g c = rw c.deref-2.ensures.value c.requires.cut
+
 pub new_funcs-requires-clause-imports : goal.new_funcs-requires-clause-imports
 new_funcs-requires-clause-imports g c =
     rw c.deref-2.ensures.value (group_coded c.args.source.now.adapter.now (g.L.LiveSet.has c.args.source.now.live.now.funcs) (is_in_group (settings_of c.args.edit) true) (g.L.LiveSet.has c.args.groups.now.imports) c.requires.in_range c.requires.groups.imports)

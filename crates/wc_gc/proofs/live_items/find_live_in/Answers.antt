@@ -29,3 +29,6 @@ returns-clause-live g c =
     same_live (names_of c.args.required.now.keys) (module_value c.args.adapter.now) (has_item g.L.LiveSet.has c.in_ok-live.live) (has_item (λ b. bit_of b.words.items) c.reach_all.new.self.live) c.in_ok-turns.turns c.in_ok-live.ensures
     (liveness_is c.args.adapter.now (names_of c.args.required.now.keys) c.deref-2.result.now (has_item (λ b. bit_of b.words.items) c.reach_all.new.self.live) c.in_ok-turns.turns same
     (c.in_ok-turns.ensures.reached refl) c.in_ok-turns.ensures.counted (c.in_ok-turns.ensures.in_range refl) (c.in_ok-exports.ensures.supported refl))
+
+pub returns-clause-cut : goal.returns-clause-cut
+returns-clause-cut g c = c.finish.ensures c.args.adapter.now.funcs.items (c.in_ok-turns.ensures.cut (c.in_ok-cuts.ensures c.args.adapter.now.funcs.items))

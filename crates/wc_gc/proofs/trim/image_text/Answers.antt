@@ -11,15 +11,15 @@ use Rattle.wc_gc.proofs.trim.image_text.Goals as goal
 pub returns-in_err-check_found-clause-fault : goal.returns-in_err-check_found-clause-fault
 returns-in_err-check_found-clause-fault g c =
     let p = err_from_is_err_and c.from_residual-in_err-check_found.result c.from_residual-in_err-check_found.ensures.1 in
-    rw (p.1, p.2) (inr (found_fault (settings_view c.args.settings) (decoded_module c.args.adapter.now) (map export_value c.args.exports.now) (has_item g.L.LiveSet.has c.args.live.now)
+    rw (p.1, p.2) (inr (found_fault (settings_view c.args.settings) (decoded_module c.args.adapter) (map export_value c.args.reached.now.exports.items) (has_item g.L.LiveSet.has c.args.reached.now.found.live)
     (found_view c.in_ok-found.found) c.in_ok-found.ensures _ c.in_err-check_found.ensures.fault))
 
 pub returns-clause-fault : goal.returns-clause-fault
 returns-clause-fault g c =
-    text_fault (settings_view c.args.settings) (decoded_module c.args.adapter.now) (map export_value c.args.exports.now) (has_item g.L.LiveSet.has c.args.live.now)
+    text_fault (settings_view c.args.settings) (decoded_module c.args.adapter) (map export_value c.args.reached.now.exports.items) (has_item g.L.LiveSet.has c.args.reached.now.found.live)
     (found_view c.in_ok-found.found) c.in_ok-found.ensures (c.in_ok-check_found.ensures.none refl) c.edited_text.result c.edited_text.ensures.fault
 
 pub returns-clause-none : goal.returns-clause-none
 returns-clause-none g c =
-    λ ok. none_later (settings_view c.args.settings) (decoded_module c.args.adapter.now) (map export_value c.args.exports.now) (has_item g.L.LiveSet.has c.args.live.now)
+    λ ok. none_later (settings_view c.args.settings) (decoded_module c.args.adapter) (map export_value c.args.reached.now.exports.items) (has_item g.L.LiveSet.has c.args.reached.now.found.live)
     (found_view c.in_ok-found.found) c.in_ok-found.ensures (c.in_ok-check_found.ensures.none refl) (c.edited_text.ensures.fits ok)

@@ -11,7 +11,7 @@ pub loop-key-init : goal.loop-key-init
 loop-key-init c = record {
   walk = live_start c.args.context.now.resolve.now (λ (x : KeyView × ItemView). export_roots c.args.context.now.resolve.now (used_view c.args.context.now.used.now) x.1) (map world_entry c.args.exports.now.entries) (map world_entry c.into_iter-key-iterator.result) [] c.args.live.now c.args.live.now
       (ap (map world_entry) (c.into_iter-key-iterator.ensures.into_iter_gives ∙ c.iter-key-items.ensures.rest)) (adds_none c.args.context.now.resolve.now c.args.live.now);
-  are = none_settled c.args.context.now.resolve.now c.args.live.now c.new-settled.result c.new-settled.ensures;
+  are = none_settled c.args.context.now.resolve.now (used_view c.args.context.now.used.now) c.args.live.now c.new-settled.result.items c.new-settled.ensures.items;
 }
 
 pub add_export-requires-clause-there : goal.add_export-requires-clause-there
@@ -21,6 +21,9 @@ add_export-requires-clause-there c =
 
 pub add_export-requires-clause-complete : goal.add_export-requires-clause-complete
 add_export-requires-clause-complete c = (c.loop-key.invariant.walk.added c.requires.complete).0
+
+pub add_export-requires-clause-used : goal.add_export-requires-clause-used
+add_export-requires-clause-used c = c.requires.used
 
 pub add_export-requires-clause-settled : goal.add_export-requires-clause-settled
 add_export-requires-clause-settled c = c.loop-key.invariant.are

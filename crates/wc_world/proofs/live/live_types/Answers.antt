@@ -33,14 +33,14 @@ returns-clause-live c =
 pub returns-clause-listed : goal.returns-clause-listed
 returns-clause-listed c =
     live_listed c.args.context.now.resolve.now (world_roots c.args.context.now.resolve.now (used_view c.args.context.now.used.now) (world_view c.args.world.now).imports (world_view c.args.world.now).exports (module_record c.args.main.now) (map adapter_entry c.args.adapters.now.entries)) c.add_exports.new.live
-    c.well_formedness.ensures.in_range (roots_in c.args.context.now.resolve.now (used_view c.args.context.now.used.now) (world_view c.args.world.now) (module_record c.args.main.now) (map adapter_entry c.args.adapters.now.entries) c.well_formedness.ensures.in_range c.requires)
+    c.well_formedness.ensures.in_range (roots_in c.args.context.now.resolve.now (used_view c.args.context.now.used.now) (world_view c.args.world.now) (module_record c.args.main.now) (map adapter_entry c.args.adapters.now.entries) c.well_formedness.ensures.in_range c.requires.roots)
     (returns-clause-live c)
 
 pub add_module-requires-clause-items : goal.add_module-requires-clause-items
-add_module-requires-clause-items c = c.requires.imports
+add_module-requires-clause-items c = c.requires.roots.imports
 
 pub add_module-requires-clause-imports : goal.add_module-requires-clause-imports
-add_module-requires-clause-imports c = c.requires.of_main
+add_module-requires-clause-imports c = c.requires.roots.of_main
 
 pub add_module-requires-clause-complete : goal.add_module-requires-clause-complete
 add_module-requires-clause-complete c = subst (IsComplete c.args.context.now.resolve.now.types) (sym c.new-live.ensures) (complete_none c.args.context.now.resolve.now.types)
@@ -49,7 +49,7 @@ pub add_module-requires-clause-have : goal.add_module-requires-clause-have
 add_module-requires-clause-have c = have_none c.args.context.now.resolve.now c.with_hasher-added.result.keys c.new-live.result c.with_hasher-added.ensures.empty
 
 pub add_adapters-requires-clause-imports : goal.add_adapters-requires-clause-imports
-add_adapters-requires-clause-imports c = c.requires.of_adapters
+add_adapters-requires-clause-imports c = c.requires.roots.of_adapters
 
 pub add_adapters-requires-clause-complete : goal.add_adapters-requires-clause-complete
 add_adapters-requires-clause-complete c =
@@ -59,4 +59,7 @@ pub add_adapters-requires-clause-have : goal.add_adapters-requires-clause-have
 add_adapters-requires-clause-have c = c.in_ok-add_module.ensures.have
 
 pub add_exports-requires-clause-there : goal.add_exports-requires-clause-there
-add_exports-requires-clause-there c = c.requires.exports
+add_exports-requires-clause-there c = c.requires.roots.exports
+
+pub add_exports-requires-clause-used : goal.add_exports-requires-clause-used
+add_exports-requires-clause-used c = c.requires.used

@@ -1,14 +1,21 @@
-use Rattle.std.proofs.Common.{◌∙◌, sym}
-use Rattle.wc_world.proofs.SettledLemmas.{settled_live, settled_over}
+use Rattle.std.proofs.Common.{◌≡◌, ◌∙◌, true, IfSome, ap, sym, subst}
+use Rattle.wc_world.specs.Private.Marks.{known_to, mark_of}
+use Rattle.wc_world.specs.Private.Settled.{is_settled_for}
+use Rattle.wc_world.specs.Used.{used_view}
+use Rattle.wc_world.proofs.MarkLemmas.{is_none_of}
+use Rattle.wc_world.proofs.SettledLemmas.{settled_more}
 use Rattle.wc_world.proofs.UsedLemmas.{on_ok}
 use Rattle.wc_world.proofs.settled.settle.Goals as goal
 
-pub returns-then-contains : goal.returns-then-contains
-returns-then-contains c =
-    on_ok c.add_type_id.result c.add_type_id.ensures.added
-    (λ adds. settled_live c.args.resolve.now c.args.live.now c.args.settled.now c.add_type_id.new.self c.args.ty.0 c.requires.settled adds c.requires.complete (c.contains.ensures.0 c.if-contains.true))
-
-pub returns-then-is_unowned_over : goal.returns-then-is_unowned_over
-returns-then-is_unowned_over c =
-    on_ok c.add_type_id-then-is_unowned_over.result c.add_type_id-then-is_unowned_over.ensures.added
-    (λ adds. settled_over c.args.resolve.now c.args.live.now c.args.settled.now c.add_type_id-then-is_unowned_over.new.self c.args.ty.0 c.requires.settled adds (sym c.is_unowned_over.ensures ∙ c.if-is_unowned_over.true))
+pub returns-in-Some : goal.returns-in-Some
+returns-in-Some c =
+    let r = c.args.context.now.resolve.now in
+    let sets = used_view c.args.context.now.used.now in
+    let live = c.args.live.now in
+    let t = c.args.ty.0 in
+    let reach = c.in-Some.reach in
+    on_ok c.mark.result c.mark.ensures
+    (λ put. settled_more r sets live c.args.settled.now.items c.mark.new.settled.items t reach c.requires.settled put
+    (ap (λ z. mark_of z t) (sym c.deref.ensures.value) ∙ (sym c.mark_of.ensures ∙ is_none_of c.mark_of.result (sym c.is_some.ensures ∙ c.if-is_some.false)))
+    (subst (λ z. is_settled_for r sets (known_to sets live z reach) reach t ≡ true) c.deref-2.ensures.value
+    (subst (λ o. IfSome o (λ x. is_settled_for r sets (known_to sets live c.deref-2.result.now x) x t ≡ true)) c.in-Some.is c.reach_of.ensures)))

@@ -11,3 +11,6 @@ live_type_imports-requires-clause-main g c =
 pub live_type_imports-requires-clause-adapters : goal.live_type_imports-requires-clause-adapters
 live_type_imports-requires-clause-adapters g c =
     adapters_in c.args.encoder.now (module_record c.args.info.now) c.records_in_range.ensures (map adapter_entry c.args.adapters.now.entries) c.requires.is_adapter
+
+pub live_type_imports-requires-clause-used : goal.live_type_imports-requires-clause-used
+live_type_imports-requires-clause-used g c = c.in_ok-exports_used.ensures

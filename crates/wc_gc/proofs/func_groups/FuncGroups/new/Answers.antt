@@ -8,7 +8,7 @@ pub returns : goal.returns
 returns g c =
     let has = g.L.LiveSet.has c.args.live.now in
     record {
-      imports = λ n. c.in_ok-group.ensures n ∙ in_group has (is_in_group (settings_view c.args.settings) true) c.args.funcs.now n _ (c.deref.ensures.value ∙ c.in_ok-live.ensures);
-      defined = λ n. c.in_ok-group-2.ensures n ∙ in_group has (is_in_group (settings_view c.args.settings) false) c.args.funcs.now n _ (c.deref-2.ensures.value ∙ c.in_ok-live.ensures);
+      imports = λ n. c.in_ok-imports.ensures.imports n ∙ in_group has (is_in_group (settings_view c.args.settings) true) c.args.funcs.now n _ (c.deref.ensures.value ∙ c.in_ok-live.ensures);
+      defined = λ n. c.in_ok-imports.ensures.defined n ∙ in_group has (is_in_group (settings_view c.args.settings) false) c.args.funcs.now n _ (c.deref.ensures.value ∙ c.in_ok-live.ensures);
       exported = c.in_ok-exported_funcs.ensures;
     }

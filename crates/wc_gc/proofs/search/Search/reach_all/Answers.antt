@@ -15,36 +15,40 @@ loop-root-preserved g c =
     (Types, 0) within c.loop-root.invariant c.in_ok-reach.ensures
 
 pub loop-next-init : goal.loop-next-init
-loop-next-init g c =
-    start_at (decoded_module c.args.adapter.now) c.args.roots.now (finds g.L.LiveSet.has c.args.self.now) c.args.self.now.order.items
-    (finds g.L.LiveSet.has c.loop-root.self) c.loop-root.self.order.items c.loop-root.root-index
-    (omega arith) c.loop-root.invariant c.requires.none c.requires.consistent
+loop-next-init g c = (
+  start_at (decoded_module c.args.adapter.now) c.args.roots.now (finds g.L.LiveSet.has c.args.self.now) c.args.self.now.order.items
+      (finds g.L.LiveSet.has c.loop-root.self) c.loop-root.self.order.items c.loop-root.root-index
+      (omega arith) c.loop-root.invariant c.requires.none c.requires.consistent,
+  λ cut. cut,
+)
 
 pub loop-next-preserved : goal.loop-next-preserved
 loop-next-preserved g c =
-    let within : c.loop-next.next < length c.loop-next.self.order.items = search rules in
-    step_at (decoded_module c.args.adapter.now) c.args.roots.now (finds g.L.LiveSet.has c.loop-next.self) c.loop-next.self.order.items c.loop-next.next
-    (finds g.L.LiveSet.has c.reach_from.new.self) c.reach_from.new.self.order.items c.index-item.result.now within
-    (λ d. get_or_default c.loop-next.self.order.items c.loop-next.next d c.index-item.result.now within ∙ sym c.index-item.ensures)
-    c.loop-next.invariant c.in-Ok.ensures.found (c.in-Ok.ensures.in_range refl)
+    let within : c.loop-next.next < length c.loop-next.self.order.items = search rules in (
+      step_at (decoded_module c.args.adapter.now) c.args.roots.now (finds g.L.LiveSet.has c.loop-next.self) c.loop-next.self.order.items c.loop-next.next
+          (finds g.L.LiveSet.has c.reach_and_cut.new.self) c.reach_and_cut.new.self.order.items c.index-item.result.now within
+          (λ d. get_or_default c.loop-next.self.order.items c.loop-next.next d c.index-item.result.now within ∙ sym c.index-item.ensures)
+          c.loop-next.invariant.0 c.in-Ok.ensures.found (c.in-Ok.ensures.in_range refl),
+      λ cut. c.in-Ok.ensures.cut (c.loop-next.invariant.1 cut),
+    )
 
 pub returns-clause-reached : goal.returns-clause-reached
 returns-clause-reached g c =
     let over : length c.loop-next.self.order.items ≤ c.loop-next.next = search rules in
     λ _. reached_at (decoded_module c.args.adapter.now) c.args.roots.now
-    (finds g.L.LiveSet.has c.loop-next.self) c.loop-next.self.order.items c.loop-next.next over c.loop-next.invariant
+    (finds g.L.LiveSet.has c.loop-next.self) c.loop-next.self.order.items c.loop-next.next over c.loop-next.invariant.0
 
 pub returns-clause-in_range : goal.returns-clause-in_range
 returns-clause-in_range g c =
     let over : length c.loop-next.self.order.items ≤ c.loop-next.next = search rules in
     λ _. reached_in_range (decoded_module c.args.adapter.now) c.args.roots.now
-    (finds g.L.LiveSet.has c.loop-next.self) c.loop-next.self.order.items c.loop-next.next over c.loop-next.invariant
+    (finds g.L.LiveSet.has c.loop-next.self) c.loop-next.self.order.items c.loop-next.next over c.loop-next.invariant.0
 
 pub returns-clause-counted : goal.returns-clause-counted
 returns-clause-counted g c =
     let over : length c.loop-next.self.order.items ≤ c.loop-next.next = search rules in
     count_at (decoded_module c.args.adapter.now) c.args.roots.now
-    (finds g.L.LiveSet.has c.loop-next.self) c.loop-next.self.order.items c.loop-next.next over c.loop-next.invariant
+    (finds g.L.LiveSet.has c.loop-next.self) c.loop-next.self.order.items c.loop-next.next over c.loop-next.invariant.0
 
 pub returns-in-Err-clause-fault : goal.returns-in-Err-clause-fault
 returns-in-Err-clause-fault g c =
@@ -55,7 +59,7 @@ returns-in-Err-clause-fault g c =
         b.0,
         c.index-item.result.now,
         bad_at (decoded_module c.args.adapter.now) c.args.roots.now
-            (finds g.L.LiveSet.has c.loop-next.self) c.loop-next.self.order.items c.loop-next.next c.loop-next.invariant within c.index-item.result.now
+            (finds g.L.LiveSet.has c.loop-next.self) c.loop-next.self.order.items c.loop-next.next c.loop-next.invariant.0 within c.index-item.result.now
             (sym c.index-item.ensures),
         b.1,
       )
@@ -64,7 +68,7 @@ returns-in-Err-clause-fault g c =
 pub loop-next-smaller : goal.loop-next-smaller
 loop-next-smaller g c =
     let within : c.loop-next.next < length c.loop-next.self.order.items = search rules in
-    let bounded = bounded_found (decoded_module c.args.adapter.now) c.loop-next.self.order.items c.loop-next.invariant.searched.tied.distinct
+    let bounded = bounded_found (decoded_module c.args.adapter.now) c.loop-next.self.order.items c.loop-next.invariant.0.searched.tied.distinct
     (all_there (decoded_module c.args.adapter.now) c.args.roots.now
-    (finds g.L.LiveSet.has c.loop-next.self) c.loop-next.self.order.items c.loop-next.next c.requires.there c.loop-next.invariant) in
+    (finds g.L.LiveSet.has c.loop-next.self) c.loop-next.self.order.items c.loop-next.next c.requires.there c.loop-next.invariant.0) in
     falls_by (total (decoded_module c.args.adapter.now)) c.loop-next.next (length c.loop-next.self.order.items) within bounded

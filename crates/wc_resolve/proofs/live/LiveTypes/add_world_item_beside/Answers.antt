@@ -8,13 +8,13 @@ use Rattle.wc_resolve.proofs.WalkLemmas.{stopped, stopped_first}
 use Rattle.wc_resolve.proofs.live.LiveTypes.add_world_item_beside.Goals as goal
 
 pub returns-in_err-roots-clause-begun : goal.returns-in_err-roots-clause-begun
-returns-in_err-roots-clause-begun c = stopped _ _ (stopped_first c.args.resolve.now.types (c.args.known.now ++ c.args.self.now) (listing_from c.args.resolve.now.types (item_roots c.args.resolve.now (item_view c.args.item.now))))
+returns-in_err-roots-clause-begun g c = stopped _ _ (stopped_first c.args.resolve.now.types (g.K.KnownTypes.known_of c.args.known.now ++ c.args.self.now) (listing_from c.args.resolve.now.types (item_roots c.args.resolve.now (item_view c.args.item.now))))
 
 pub add-requires : goal.add-requires
-add-requires c = λ x h. item_in c.args.resolve.now (item_view c.args.item.now) c.well_formedness.ensures.in_range c.requires x (subst (λ (z : List ℕ). Contains z x) c.in_ok-roots.ensures h)
+add-requires g c = λ x h. item_in c.args.resolve.now (item_view c.args.item.now) c.well_formedness.ensures.in_range c.requires x (subst (λ (z : List ℕ). Contains z x) c.in_ok-roots.ensures h)
 
 pub returns-clause-added : goal.returns-clause-added
-returns-clause-added c = rw (← c.in_ok-roots.ensures) c.add.ensures.added
+returns-clause-added g c = rw (← c.in_ok-roots.ensures) c.add.ensures.added
 
 pub returns-clause-begun : goal.returns-clause-begun
-returns-clause-begun c = rw (← c.in_ok-roots.ensures) c.add.ensures.begun
+returns-clause-begun g c = rw (← c.in_ok-roots.ensures) c.add.ensures.begun
