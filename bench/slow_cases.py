@@ -339,6 +339,21 @@ def _(count):
     return plan(resolved({}, every(count + 1), *chain_users(count)))
 
 
+@case("export-mixed-types", "wcplan")
+def _(count):
+    """The same, and the chain is of no interface, and begins with types of two exported interfaces, of which neither uses
+    the other one, and all others use both."""
+    types = [typed({"type": "u8"}, "t", {"interface": at}) for at in range(2)]
+    types += [typed({"tuple": {"types": [0, 1]}}), *(typed({"tuple": {"types": [at + 2]}}) for at in range(count - 1))]
+    held = [interface("x%d" % at, (), {"t": at}) for at in range(2)]
+    for at in range(count):
+        own = {text: len(types) + index for index, text in enumerate("abu")}
+        types += [typed({"type": used}, text, {"interface": at + 2}) for text, used in zip("abu", (0, 1, count + 1))]
+        held.append(interface("i%d" % at, (), own))
+    core(MAIN)
+    return plan(resolved({}, every(count + 2), held, types))
+
+
 @case("export-parameters", "wcplan")
 def _(count):
     """n exported interfaces, each with a function of one parameter, of the end of one chain of n types of no interface."""
@@ -535,3 +550,23 @@ def _(count):
     """n functions of one type of n parameters, of which four are exported."""
     core(MAIN, (), [("f%d" % at, at) for at in range(4)], [signature(b"\x7f" * count)], [0] * count)
     return ["trim", MAIN, OUT, *("f%d" % at for at in range(4))]
+
+
+# 48 bytes of operators that name no item
+PASSED = b"\x41\x00\x1a" * 16
+
+
+@case("trim-calls-imports", "wctrim", 4)
+def _(count):
+    """One function that calls each of n imported ones, with 48 bytes that name no item before each call."""
+    code = b"".join(PASSED + b"\x10" + number(at) for at in range(count))
+    core(MAIN, [("env", "i%d" % at, 0) for at in range(count)], [("a", count)], defined=[0], codes=[code])
+    return ["trim", MAIN, OUT, "a"]
+
+
+@case("trim-chain-imports", "wctrim", 4)
+def _(count):
+    """n functions, each of which calls the next one and an import of its own, after 48 bytes that name no item each."""
+    codes = [b"".join(PASSED + b"\x10" + number(to) for to in (count + min(at + 1, count - 1), at)) for at in range(count)]
+    core(MAIN, [("env", "i%d" % at, 0) for at in range(count)], [("a", count)], defined=[0] * count, codes=codes)
+    return ["trim", MAIN, OUT, "a"]

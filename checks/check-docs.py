@@ -243,7 +243,7 @@ def check_names(document, words):
             else:
                 for word in names_in(name):
                     # `R_drop`, `NAME_drop`, `tN`: the capitals are no part of a name; `8b9dc47`: a commit
-                    is_pattern = re.match(r"[A-Z]+_|[a-z][A-Z]$|[0-9a-f]{7}$", word)
+                    is_pattern = re.match(r"[A-Z]+_|[a-z][A-Z]$|[0-9a-f]{7,12}$", word)
                     # `adapter0_item5`: words that programs number
                     is_numbered = re.fullmatch(r"[a-z]+\d+(_[a-z]+\d+)*", word) and set(re.findall("[a-z]+", word)) <= words
                     is_pattern = is_pattern or is_numbered
