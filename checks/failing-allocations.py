@@ -53,11 +53,13 @@ WHOLE = {
     "validate_adapter_module", "resolve_build", "encoder_build", "live_types", "document", "wcplan", "wcplan_mute",
 }
 
-# Calls that run wcplan. Where memory runs out for what a fault is about, that is the line under the fault's; where it runs
-# out in the store of files, which is the row's, a directory can't be made, or a file can't be written.
-PROGRAMS = {"wcplan", "wcplan_failing", "wcplan_mute"}
+# Calls that run wcplan or wcwhy. Where memory runs out for what a fault is about, that is the line under the fault's; where
+# it runs out in the store of files, which is the row's, a directory can't be made, or a file can't be read or written.
+PROGRAMS = {"wcplan", "wcplan_failing", "wcplan_mute", "wcwhy", "wcwhy_failing"}
 NO_PLACE = "error   out of memory for what it is about"
-STORE = ("error wcplan: cannot make directory ", "error wcplan: cannot write ")
+STORE = ("error wcplan: cannot make directory ", "error wcplan: cannot write ", "error wcwhy: cannot read ")
+# How a line ends that says that memory ran out, also where it is JSON.
+ENDED = re.compile(r'out of memory(","place":null\})?$')
 
 # What else calls answer where memory ran out: one of many runs of samples does not agree, and a body that could not be
 # read is no code.
@@ -115,7 +117,9 @@ def rows_of(path):
         if word == "fixture":
             fixtures[name] = lines
             continue
-        call = next((line.split()[1] for line in lines if line.startswith("call ")), "")
+        words = next((line.split()[1:] for line in lines if line.startswith("call ")), [""])
+        # of a fault and what it is about there are several answers
+        call = words[0] + " explain" * ("explain" in words[1:])
         rows.append(Row(name, call, "".join(used(lines, dict(fixtures)) + lines)))
     return rows
 
@@ -173,7 +177,7 @@ def is_memory(row, lines):
                                  == [line for line in expected if not line.startswith("error   ")]):
         return True
     for place, line in enumerate(actual):
-        if line.endswith("out of memory"):
+        if ENDED.search(line):
             return actual[:place] == expected[:place] and (place == 0 or row.call not in WHOLE)
     # an answer that has a line for each of several calls
     return len(actual) == len(expected) and all(

@@ -53,26 +53,16 @@ fn put_world_place(place: &WorldPlace, out: &mut Lines) {
     }
 }
 
-/// Puts the place of a fault, where the first part that is asked for is `explain`.
-fn put_asked_place(
-    alloc: Global,
-    encoder: &ComponentEncoder,
-    fault: &WorldFault,
-    parts: &[&str],
-    out: &mut Lines,
-) {
-    if parts.first() == Some(&"explain") {
-        put_explained(alloc, encoder, fault, out);
-    }
+/// That the lines of a fault are asked for, and of what it is about.
+#[derive(Clone, Copy)]
+struct OfFault<'a> {
+    fault: &'a WorldFault,
 }
 
-/// That what a fault is about is asked for.
-#[derive(Clone, Copy)]
-struct OfFault;
-
-impl PutAbout<OfFault> for Result<Option<WorldPlace>, AllocError> {
-    /// Puts the place.
-    fn put_about(&self, _alloc: Global, _about: &OfFault, out: &mut Lines) {
+impl<'a> PutAbout<OfFault<'a>> for Result<Option<WorldPlace>, AllocError> {
+    /// Puts the fault, and the place.
+    fn put_about(&self, _alloc: Global, about: &OfFault<'a>, out: &mut Lines) {
+        put_fault(about.fault, out);
         match self {
             Ok(Some(place)) => put_world_place(place, out),
             Ok(None) => out.push_str("none\n"),
@@ -81,42 +71,42 @@ impl PutAbout<OfFault> for Result<Option<WorldPlace>, AllocError> {
     }
 }
 
-/// The lines of a place that another call answered.
+/// The lines of a refused world that another call answered.
 #[derive(Clone, Copy)]
-struct OtherPlace<'a> {
+struct OtherLines<'a> {
     lines: &'a Lines,
 }
 
-impl<'a, 'b> PutAbout<OtherPlace<'a>> for Result<ComponentWorld<'b>, RefusedWorld> {
-    /// Puts the place that a world is refused with, unless it is as another call answered it.
-    fn put_about(&self, alloc: Global, other: &OtherPlace<'a>, out: &mut Lines) {
-        if let Err(refused) = self {
-            put_unlike(alloc, &refused.place, other.lines, out);
+impl<'a, 'b> PutAbout<OtherLines<'a>> for Result<ComponentWorld<'b>, RefusedWorld> {
+    /// Puts why a world is refused, and what that is about, unless that is as another call answered it.
+    fn put_about(&self, alloc: Global, other: &OtherLines<'a>, out: &mut Lines) {
+        match self {
+            Ok(_) => out.push_str("ok\n"),
+            Err(refused) => put_unlike(alloc, refused, other.lines, out),
         }
     }
 }
 
-/// Puts a place, unless it is as another call answered it.
-fn put_unlike(
-    alloc: Global,
-    place: &Result<Option<WorldPlace>, AllocError>,
-    others: &Lines,
-    out: &mut Lines,
-) {
-    let mut found = Lines::new(alloc);
-    place.put_about(alloc, &OfFault, &mut found);
-    if found.text() != others.text() {
-        out.push_lines(&found);
+/// Puts the lines of a refused world, unless they are those that another call answered.
+fn put_unlike(alloc: Global, refused: &RefusedWorld, others: &Lines, out: &mut Lines) {
+    let about = OfFault {
+        fault: &refused.fault,
+    };
+    let mut lines = Lines::new(alloc);
+    refused.place.put_about(alloc, &about, &mut lines);
+    if lines.text() != others.text() {
+        out.push_lines(&lines);
     }
 }
 
-/// Puts what a fault is about, as two calls answer it; once, where they agree.
+/// Puts a fault and what it is about, as two calls answer both; once, where they agree.
 fn put_explained(alloc: Global, encoder: &ComponentEncoder, fault: &WorldFault, out: &mut Lines) {
     let mut lines = Lines::new(alloc);
-    put_last_about(alloc, &OfFault, explain(alloc, encoder, fault), &mut lines);
+    let place = explain(alloc, encoder, fault);
+    put_last_about(alloc, &OfFault { fault }, place, &mut lines);
     out.push_lines(&lines);
     let world = ComponentWorld::new_explained(alloc, encoder, &PlainOptions);
-    put_last_about(alloc, &OtherPlace { lines: &lines }, world, out);
+    put_last_about(alloc, &OtherLines { lines: &lines }, world, out);
 }
 
 /// The parts that are asked for of the world of an encoder.
@@ -126,15 +116,21 @@ struct AskedParts<'a> {
     parts: &'a [&'a str],
 }
 
+/// Puts a fault; and what it is about, where the first part that is asked for is `explain`.
+fn put_refused(alloc: Global, asked: &AskedParts<'_>, fault: &WorldFault, out: &mut Lines) {
+    if asked.parts.first() == Some(&"explain") {
+        put_explained(alloc, asked.encoder, fault, out);
+    } else {
+        put_fault(fault, out);
+    }
+}
+
 impl<'a, 'b> PutAbout<AskedParts<'a>> for Result<ComponentWorld<'b>, WorldFault> {
     /// Puts the parts of a component's world that are asked for, or why it has none.
     fn put_about(&self, alloc: Global, asked: &AskedParts<'a>, out: &mut Lines) {
         match self {
             Ok(world) => put_parts(alloc, world, asked.parts, out),
-            Err(fault) => {
-                put_fault(fault, out);
-                put_asked_place(alloc, asked.encoder, fault, asked.parts, out);
-            }
+            Err(fault) => put_refused(alloc, asked, fault, out),
         }
     }
 }

@@ -1,10 +1,7 @@
 -- The parts of a graph, which are put one after another.
-use Rattle.std.proofs.Common.{◌≡◌, ℕ, Bool, List, ◌++◌, codes, Option, Some, refl}
+use Rattle.std.proofs.Common.{ℕ, Bool, List, ◌++◌, codes, Option, refl}
 use Rattle.std.proofs.KnownBytes.{Appends-kept, Appends-trans}
 use Rattle.std.specs.Io.KnownBytes.{Appends, Keeps}
-use Rattle.std.specs.List.{slice_get}
-use Rattle.wc_read.specs.Imports.{ImportValue}
-use Rattle.wc_gc.specs.declared.import_chains.ImportChains.{ImportChains}
 use Rattle.wc_program.specs.Screen.{HandsOn}
 use Rattle.wcwhy_command.specs.Arguments.{PatternView}
 use Rattle.wcwhy_command.specs.Graph.{AreMarks}
