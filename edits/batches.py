@@ -497,6 +497,8 @@ def main():
         edits = [it for it in edits if not given.edit or it.name in given.edit]
         start, tries = spent(), Tries(crate, given)
         tries.run(edits)
+        if given.plan:
+            continue
         kinds = {it: tries.found.get(it.name, {"kind": "untried"})["kind"] for it in edits}
         is_well &= all(it in KINDS[:4] for it in kinds.values())
         counts = ", ".join(f"{list(kinds.values()).count(it)} {it}" for it in KINDS if it in kinds.values())
