@@ -29,7 +29,8 @@ itself has to be proved: what is refused here is taken to be refused for the edi
 found (without it /tmp/edits-in-batches): what was found over the same sources isn't tried again, but with --again.
 Printed is a line for each edit, with the first message, and the processor seconds. The status is 0 where each edit is
 refused for more than a name. --plan prints the batches alone. With --record what refused each is put into edits/refused.txt,
-under a key of the edit and of the text that it turns; of an edit of which either changes it is not known any more.
+under a key of the edit, of the function that it turns, and of the definitions that this function's clauses lead to in its
+crate; of an edit of which one of these changes it is not known any more.
 `checks/edits.py --write` makes the table of it in docs/TRIED.md.
 
 With --gate each edit is tried by itself, over the whole crate, by `rt ci CRATE` on a copy in which they are in must-fail/:
@@ -63,30 +64,105 @@ def bodies_of(file, text):
     return [it for it in functions_of(file, text) if it.has_body]
 
 
+def imports_of(text):
+    """The names under which a file has things of other files, where these are others: the name there for each."""
+    lists = re.findall(r"(?:ghost )?\buse [^;{\n]*\{([^}]*)\}", text)
+    return {here: there for names in lists for there, here in re.findall(r"([^\s,{}]+) as ([^\s,{}]+)", names)}
+
+
+class Sources:
+    """The texts of a crate's files; what an edit is known by are parts of them."""
+
+    def __init__(self, texts):
+        self.texts, self.bodies, self.renamed = texts, {}, {}
+
+    def functions(self, file):
+        """The functions of a file that have a body."""
+        if file not in self.bodies:
+            self.bodies[file] = bodies_of(file, self.texts[file])
+        return self.bodies[file]
+
+    def words(self, file, text):
+        """The words in a part of a file, each as it is called where it is defined."""
+        if file not in self.renamed:
+            self.renamed[file] = imports_of(self.texts[file])
+        return {self.renamed[file].get(it, it) for it in words_of(text)}
+
+    @functools.cached_property
+    def definitions(self):
+        """The parts of `specs/` that define, by their names: each a text, and the words in it."""
+        found = {}
+        for path in [it for it in self.texts if it.startswith("specs/")]:
+            for _, lines in parts_of(self.texts[path]):
+                text = "\n".join(lines)
+                if DEFINED.match(text) and not re.match(r"(pub )?(use|mod) ", text):
+                    found.setdefault(DEFINED.match(text)[1], []).append((text, self.words(path, text)))
+        return found
+
+    @functools.cached_property
+    def heads_of_traits(self):
+        """The heads of the functions that traits declare, by trait and function."""
+        found = {}
+        for path in [it for it in self.texts if it.startswith("src/")]:
+            for it in functions_of(path, self.texts[path]):
+                if it.in_trait:
+                    found[it.owner, it.name] = path, it.text
+        return found
+
+    def clauses(self, function):
+        """The files and the texts that say what a function ensures: its head, and that of the trait it is of."""
+        own = self.texts[function.file][function.begins : function.opens]
+        return [(function.file, own), *[self.heads_of_traits[it] for it in [(function.trait, function.name)] if it in self.heads_of_traits]]
+
+    def reached(self, parts):
+        """The texts of the definitions that parts of files lead to, in the crate."""
+        todo, seen, texts = [it for file, text in parts for it in self.words(file, text)], set(), []
+        while todo:
+            word = todo.pop()
+            if word not in seen:
+                seen.add(word)
+                for text, words in self.definitions.get(word, []):
+                    texts.append(text)
+                    todo += words
+        return sorted(texts)
+
+    def item(self, file, place):
+        """What is at a place between two lines that begin in the first column."""
+        text = self.texts[file]
+        return re.split(r"\n(?=\S)", text[: place + 1])[-1] + re.split(r"\n(?=\S)", text[place + 1 :])[0]
+
+
 class Edit:
-    """An edit, and what it turns: bodies of functions, heads of functions, or items that are no function."""
+    """An edit, and what it turns: bodies of functions, heads of functions, or items that are no function. Its key is one of
+    the edit, of what it turns, and of the definitions that the clauses of this lead to in the crate: what refused it is known
+    as long as these are the same."""
 
     def __init__(self, name, text, sources):
-        self.name, self.text, self.fault = name, text, ""
+        self.name, self.text, self.sources = name, text, sources
+        self.fault = applied(text, sources.texts)[1]
         self.functions, self.heads, self.items = [], [], []
-        self.fault = applied(text, sources)[1]
         for file, old, new in [] if self.fault else changes_of(text):
-            place = sources[file].find(old)
+            place = sources.texts[file].find(old)
             if not file.startswith("src/") or place < 0:
                 self.items.append((file, place))
                 continue
             place += len(os.path.commonprefix([old, new]))
-            it = next((it for it in bodies_of(file, sources[file]) if it.begins <= place <= it.ends), None)
+            it = next((it for it in sources.functions(file) if it.begins <= place <= it.ends), None)
             if it:
                 group = self.functions if place >= it.opens else self.heads
                 if it.key not in [x.key for x in group]:
                     group.append(it)
             elif not re.search(r"(^| )fn \w+[(<]", new) or re.match(r"(pub )?impl", old):
                 self.items.append((file, place))
-        turned = [sources[it.file][it.begins : it.ends] for it in self.functions + self.heads]
-        turned += [re.split(r"\n(?=\S)", sources[file][: place + 1])[-1] + re.split(r"\n(?=\S)", sources[file][place + 1 :])[0]
-                   for file, place in self.items if file in sources]
-        self.key = hashlib.sha256("\0".join([text, *turned]).encode()).hexdigest()[:12]
+
+    @functools.cached_property
+    def key(self):
+        of, functions = self.sources, self.functions + self.heads
+        items = [(file, of.item(file, place)) for file, place in self.items if file in of.texts]
+        turned = [of.texts[it.file][it.begins : it.ends] for it in functions] + [text for _, text in items]
+        clauses = [part for it in functions for part in of.clauses(it)]
+        said = [text for _, text in clauses] + of.reached(clauses + items)
+        return hashlib.sha256("\0".join([self.text, *turned, *said]).encode()).hexdigest()[:12]
 
 
 def known():
@@ -98,9 +174,9 @@ def record(found):
     """Records what refused edits, by their keys, beside what is known; edits that there are not any more go."""
     found, lines = {**known(), **found}, []
     for name in used_by_crates():
-        texts = texts_of(name)
+        sources = Sources(texts_of(name))
         for it, path in edits_of(name):
-            key = Edit(it, path.read_text(encoding="utf-8"), texts).key
+            key = Edit(it, path.read_text(encoding="utf-8"), sources).key
             lines += [f"{key} {found[key]} {name}/{it}\n"] if key in found else []
     RECORD.write_text("".join(lines), encoding="utf-8")
 
@@ -110,17 +186,11 @@ class Crate:
         self.top, self.over, self.name = sources, over, name
         self.folder = f"{sources}/crates/{name}"
         self.texts = texts_of(name, sources)
+        self.parts = Sources(self.texts)
         self.src = {path: it for path, it in self.texts.items() if path.startswith("src/")}
         self.functions = [it for path in sorted(self.src) for it in bodies_of(path, self.src[path])]
         every = sorted((path, hashlib.sha256(it.encode()).hexdigest()) for path, it in self.texts.items())
         self.sum = hashlib.sha256(repr(every).encode()).hexdigest()[:16]
-
-    @functools.lru_cache(maxsize=None)
-    def definitions(self):
-        """The definitions in `specs/`, each with the words in it."""
-        parts = ["\n".join(part) for path, text in self.texts.items() if path.startswith("specs/") for _, part in parts_of(text)]
-        parts = [part for part in parts if DEFINED.match(part) and not re.match(r"(pub )?(use|mod) ", part)]
-        return [(DEFINED.match(part)[1], words_of(part)) for part in parts]
 
     def command(self, flags):
         folder_of = lambda it: self.over or rlib_of(it, self.top)
@@ -378,7 +448,7 @@ class Tries:
         seen = set()
         while words - seen and not inside:
             seen |= words
-            words |= {name for name, its in self.crate.definitions() if its & seen}
+            words |= {name for name, parts in self.crate.parts.definitions.items() if any(its & seen for _, its in parts)}
         its = lambda it: words_of(self.crate.src[it.file][it.begins : it.ends])
         return [it for it in self.crate.functions if inside in ("", it.file) and its(it) & words]
 
@@ -493,7 +563,7 @@ def main():
     is_well = True
     for name in given.crates:
         crate = Crate(os.path.abspath(given.sources), given.over and os.path.abspath(given.over), name)
-        edits = [Edit(it, path.read_text(encoding="utf-8"), crate.texts) for it, path in edits_of(name)]
+        edits = [Edit(it, path.read_text(encoding="utf-8"), crate.parts) for it, path in edits_of(name)]
         edits = [it for it in edits if not given.edit or it.name in given.edit]
         start, tries = spent(), Tries(crate, given)
         tries.run(edits)

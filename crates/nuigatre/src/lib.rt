@@ -3,7 +3,9 @@
 //! then how many they are; for `alloc` nothing is passed. The answer is a struct by value.
 //!
 //! No function requires anything of its arguments, but what their types say: a pointer with a length is to so many bytes,
-//! those of `out` are the caller's alone for the call, and nothing is null. Calls may run on several threads at once.
+//! those of `out` are the caller's alone for the call, and nothing is null, also where the length is 0. Calls may run on
+//! several threads at once. A null pointer of an empty slice is tested (`checks/c/fuzz_calls.c`), and is no part of what is
+//! proved.
 //!
 //! `seed0` and `seed1` are the seed of the maps that a call makes (`wc_maps::Seed`). No answer depends on them; random ones
 //! keep who chooses names from choosing such that make a call slow. All calls of a process may have the same.
@@ -12,7 +14,7 @@
 //! `rattle_dealloc`. After each call all of it was given back.
 #![tactic(auto)]
 
-ghost use Rattle.std.specs.Prelude.{◌≡◌, ◌≢◌, ◌≤◌, []};
+ghost use Rattle.std.specs.Prelude.{◌≡◌, ◌≢◌, ◌≤◌, ◌⊎◌, ℕ, List, []};
 ghost use Rattle.std.specs.List.{All};
 ghost use Rattle.std.specs.Option.{option_map};
 ghost use Rattle.std.specs.Str.{IsUtf8};
@@ -20,11 +22,12 @@ ghost use Rattle.wc_read.specs.Sections.{IsComponent};
 ghost use Rattle.wc_dedupe.specs.Dedupe.{IsDeduped};
 ghost use Rattle.wc_gc.specs.LiveItems.{trim_input_for_names};
 ghost use Rattle.wc_gc.specs.TrimmedText.{IsTrimmed};
-ghost use Rattle.wc_calls.specs.Answers.{AreOthersOfFaultZero, AreOthersOfTextZero, AreOthersZero, IsPut, IsTooLong, done, failed, too_small, same, bad_argument};
+ghost use Rattle.wc_calls.specs.Answers.{AreOthersOfFaultZero, AreOthersOfTextZero, AreOthersZero, IsPut, IsTooLong, done, failed, too_small, same, bad_argument, no_such_fault, out_of_memory};
 ghost use Rattle.wc_calls.specs.ComponentPlans.{IsPlanAnswer};
 ghost use Rattle.wc_calls.specs.ComponentWorlds.{IsFaultOf, IsWorldAnswer};
 ghost use Rattle.wc_calls.specs.Renaming.{IsRenamed, IsRenamingFault};
 ghost use Rattle.wc_calls.specs.ExportNames.{texts};
+ghost use Rattle.wc_calls.specs.FaultTexts.{IsFaultText};
 ghost use Rattle.wc_calls.specs.ImportChains.{IsWhyFault, IsWhyText};
 ghost use Rattle.wc_calls.specs.PlannedWorlds.{IsPlannedWorldAnswer};
 ghost use Rattle.wc_calls.specs.Trimming.{AreArguments, IsTrimmingFault};
@@ -32,7 +35,7 @@ ghost use Rattle.wc_calls.specs.Validation.{IsNoModuleOf, IsValidOf, IsValidatio
 ghost use Rattle.nuigatre.specs.Arguments.{optional_name, settings_of};
 
 use std::alloc::Global;
-use wc_calls::{Answer, dedupe, plan, planned_world, trim, validate, why, world};
+use wc_calls::{Answer, dedupe, fault_text, plan, planned_world, trim, validate, why, world};
 use wc_maps::Seed;
 
 /// Renames the imports of a module so that no two share a module and a name: `wc_calls::dedupe`.
@@ -43,12 +46,12 @@ pub extern "C" fn nuigatre_dedupe(alloc: Global, wasm: &[u8], out: &mut [u8]) ->
     ensures too_small { result.status ≡ too_small
         → IsTooLong (IsRenamed wasm.now result.module_length) result.length out.old }
     ensures same { result.status ≡ same → IsDeduped wasm.now wasm.now [] }
-    ensures fault { result.status ≡ failed → IsRenamingFault wasm.now result.fault }
+    ensures fault { result.status ≡ failed → IsRenamingFault wasm.now result out.old out.new }
     ensures component { IsComponent wasm.now → result.status ≡ same }
-    ensures unchanged { result.status ≢ done → out.new ≡ out.old }
+    ensures unchanged { result.status ≢ done → result.status ≢ failed → out.new ≡ out.old }
     ensures statuses { (result.status ≤ 5) × (result.status ≢ bad_argument) }
     ensures position { result.position ≡ 0 }
-    ensures others { AreOthersZero result }
+    ensures others { AreOthersOfTextZero result }
 {
     dedupe(alloc, wasm, out)
 }
@@ -227,13 +230,37 @@ pub extern "C" fn nuigatre_validate(
     validate(alloc, seed, message, modules, adapter, out)
 }
 
+/// Writes the text of a fault of `nuigatre_dedupe` (`call` is 0), `nuigatre_trim` (1) or `nuigatre_why` (2), by the number that
+/// the call answers: `wc_calls::fault_text`.
+#[unsafe(no_mangle)]
+pub extern "C" fn nuigatre_fault_text(
+    alloc: Global,
+    call: u32,
+    number: u32,
+    out: &mut [u8],
+) -> Answer
+    ensures done { result.status ≡ done
+        → IsPut (IsFaultText call number) result.length out.old out.new }
+    ensures too_small { result.status ≡ too_small
+        → IsTooLong (IsFaultText call number) result.length out.old }
+    ensures unknown { result.status ≡ no_such_fault
+        → (text : List ℕ) → ¬ (IsFaultText call number text) }
+    ensures unchanged { result.status ≢ done → out.new ≡ out.old }
+    ensures statuses { (result.status ≡ done) ⊎ (result.status ≡ too_small)
+        ⊎ (result.status ≡ out_of_memory) ⊎ (result.status ≡ no_such_fault) }
+    ensures no_module { result.module_length ≡ 0 }
+    ensures others { AreOthersZero result }
+{
+    fault_text(alloc, call, number, out)
+}
+
 /// The form of the calls, messages and answers.
-const ABI: u32 = 5;
+const ABI: u32 = 6;
 
 /// The number of the form of these calls, their messages and answers. It goes up with each change that a caller can see.
 #[unsafe(no_mangle)]
 pub extern "C" fn nuigatre_abi() -> u32
-    ensures { result ≡ 5 }
+    ensures { result ≡ 6 }
 {
     ABI
 }

@@ -7,8 +7,8 @@ mod MissingLemmas
 mod TrimmingLemmas
 mod AskedKeyLemmas
 mod FaultAnswerLemmas
+mod FaultTextLemmas
 mod ModuleLemmas
 mod OptionTableLemmas
-mod PlaceLemmas
 mod PlannedWorldLemmas
-mod RefusedComponentLemmas
+mod RefusalLemmas

@@ -1,10 +1,9 @@
 -- One module of an encoder: what is answered for it.
-use Rattle.std.proofs.Common.{◌≡◌, ◌≢◌, ℕ, List, map, Option, Some, None, Result, Ok, Err, IfOk, String, string_bytes, ap, false, sym, subst, ◌∙◌}
+use Rattle.std.proofs.Common.{◌≡◌, ◌≢◌, ℕ, List, map, Option, Some, None, String, string_bytes, ap, false, sym, subst, ◌∙◌}
 use Rattle.std.proofs.lemmas.Bool.{false≢true}
 use Rattle.std.specs.Map.{lookup}
 use Rattle.std.specs.Option.{option_map}
 use Rattle.std.specs.Str.{bytes_eq}
-use Rattle.std.specs.declared.alloc.AllocError.{AllocError}
 use Rattle.std.specs.declared.alloc.Global.{Global}
 use Rattle.wc_dedupe.specs.Renaming.{RenameView}
 use Rattle.wc_adapters.specs.Adapters.{LibraryView, adapter_view, library_view}
@@ -12,57 +11,53 @@ use Rattle.wc_encoder.specs.EncoderParts.{EncoderView}
 use Rattle.wc_resolve.specs.Views.{key_view}
 use Rattle.wc_validate.specs.Imports.Map.{required_entry, required_in}
 use Rattle.wc_validate.specs.Explain.{IsPlace}
-use Rattle.wc_validate.specs.Refused.{HasNoPlace, IsRefusedAt}
+use Rattle.wc_validate.specs.Refused.{HasNoPlace, IsRefusedAt, RefusedModule}
 use Rattle.wc_validate.specs.Validate.{IsValidateCause, IsRecordOf, ModuleRecord, ValidationInput, adapter_input, main_input}
 use Rattle.wc_validate.specs.declared.fault.ValidateFault.{ValidateFault}
-use Rattle.wc_validate.specs.declared.refused.RefusedModule.{RefusedModule}
 use Rattle.wc_world.specs.Trimming.{validation_input_of}
 use Rattle.wc_world.specs.Causes.{IsRefused}
 use Rattle.wc_world.specs.Places.{IsInAdapter, IsValidationPlace}
-use Rattle.wc_world.specs.Refused.{IsAdapterRefusal, IsMainRefusal, IsMemoryRefusal}
+use Rattle.wc_world.specs.Refused.{IsAdapterRefusal, IsMainRefusal, IsMemoryRefusal, RefusedWorld}
 use Rattle.wc_world.specs.World.{IsMainRecord}
 use Rattle.wc_world.specs.declared.fault.WorldFault.TheVariants.{Main, Adapter}
 use Rattle.wc_world.specs.declared.places.ModulePlace.TheVariants as place
 use Rattle.wc_world.specs.declared.places.WorldPlace.{WorldPlace}
-use Rattle.wc_world.specs.declared.refused.RefusedWorld.{RefusedWorld}
 use Rattle.wc_world.proofs.RefusedLemmas.{main_placed, main_refusal_of, named_refusal, placed}
-use Rattle.wc_record.specs.Places.{part_json, world_place_json}
 use Rattle.wc_calls.specs.Encoders.{IsEncoderOf}
 use Rattle.wc_calls.specs.FaultAnswers.{IsFaultAnswered}
 use Rattle.wc_calls.specs.MemoryFaults.{is_memory, validate_is_memory}
 use Rattle.wc_calls.specs.MessageFault.{IsNoEncoderCause, of_world}
-use Rattle.wc_calls.specs.Places.{IsPlaceOf, place_text}
+use Rattle.wc_calls.specs.Places.{IsPlaceOf, world_place_text}
 use Rattle.wc_calls.specs.Private.EncoderAnswers.{IsPlaceFor}
-use Rattle.wc_calls.specs.Private.ModuleAnswers.{IsInputCause, IsInputFault, IsInputPlace, IsInputPlaceFor, IsInputRefusal, IsInputValid, IsMainCause, IsModuleFault, IsModulePlaceFor, input_of}
-use Rattle.wc_calls.specs.Private.RefusedComponent.{IsOfWorld, IsPlacedFor, refusal_text}
-use Rattle.wc_calls.specs.Private.RefusedMessage.{IsNoEncoder}
+use Rattle.wc_calls.specs.Private.ModuleAnswers.{IsInputAt, IsInputCause, IsInputFault, IsInputPlace, IsInputPlaceFor, IsInputRefusal, IsInputValid, IsMainCause, IsModuleFault, IsModulePlaceFor, input_of}
+use Rattle.wc_calls.specs.Private.Refusals.{IsNoEncoder, IsPlacedFor, IsRefusalOf, RefusedMessage, refusal_text}
 use Rattle.wc_calls.specs.Validation.{IsAdapterPlace, IsAdapterRefused, IsModuleRefused, IsModuleValid, IsUnder, IsValidationCause, IsValidationPlaceOf}
 use Rattle.wc_calls.specs.declared.answers.Answer.{Answer}
 use Rattle.wc_calls.specs.declared.message_fault.MessageFault.{MessageFault}
-use Rattle.wc_calls.specs.declared.message_fault.MessageFault.TheVariants.{Memory, Plan, World}
-use Rattle.wc_calls.specs.declared.refused_component.RefusedComponent.{RefusedComponent}
-use Rattle.wc_calls.specs.declared.refused_message.RefusedMessage.{RefusedMessage}
+use Rattle.wc_calls.specs.declared.message_fault.MessageFault.TheVariants.{Memory, World}
+use Rattle.wc_calls.specs.declared.refusals.MessagePlace.{MessagePlace}
+use Rattle.wc_calls.specs.declared.refusals.MessagePlace.TheVariants as place_as
 use Rattle.wc_calls.specs.declared.validation.AdapterInput.{AdapterInput}
-use Rattle.wc_calls.proofs.FaultAnswerLemmas.{answered_as, answered_by, part_place}
-use Rattle.wc_calls.proofs.RefusedComponentLemmas.{refusal_answered, refused_as, refused_fault, refused_placed}
+use Rattle.wc_calls.proofs.FaultAnswerLemmas.{answered_as, answered_by, no_encoder_place}
+use Rattle.wc_calls.proofs.RefusalLemmas.{refusal_answered, refusal_as, refusal_fault, world_at}
 
 -- the refusal of an adapter or a library: an allocation failed; or its fault, and the place of that
-input_memory : (g : AdapterInput) (r : RefusedWorld) (x : RefusedComponent) → IsMemoryRefusal r → IsOfWorld r x → IsInputRefusal g x
+input_memory : (g : AdapterInput) (r : RefusedWorld) (x : RefusedMessage) → IsMemoryRefusal r → IsRefusalOf of_world place_as.World r x → IsInputRefusal g x
 input_memory g r x memory passed_on =
-    let none = subst (λ f. IsInputCause g (of_world f) None) (sym memory.0) tt in
-    refused_as (IsInputCause g) r.fault r.place x (λ _. tt) (subst (λ o. IfOk o (IsInputCause g (of_world r.fault))) (sym memory.1) none) passed_on
+    refusal_as (IsInputCause g) of_world place_as.World r x passed_on
+    (subst (λ f. IsInputCause g (of_world f) (option_map place_as.World r.place)) (sym memory.0) (ap (option_map place_as.World) memory.1))
 
-placed_fault : (g : AdapterInput) (s : String Global) (f : ValidateFault) (found : Result (Option WorldPlace) AllocError) → string_bytes s ≡ g.name.now
-    → IsValidateCause (input_of g) g.adapter.now.wasm.items f → IfOk found (IsInputPlace g f) → IfOk found (IsInputCause g (World (Adapter s f)))
-placed_fault g s f (Ok p) named h at = (named, h, at)
-placed_fault g s f (Err e) named h at = tt
+placed_fault : (g : AdapterInput) (s : String Global) (f : ValidateFault) (p : Option WorldPlace) → string_bytes s ≡ g.name.now
+    → IsValidateCause (input_of g) g.adapter.now.wasm.items f → IsInputPlace g f p → IsInputCause g (World (Adapter s f)) (option_map place_as.World p)
+placed_fault g s f None named h at = (named, h, at)
+placed_fault g s f (Some p) named h at = (named, h, at)
 
-input_named : (g : AdapterInput) (f : ValidateFault) (r : RefusedWorld) (x : RefusedComponent) (s : String Global) → string_bytes s ≡ g.name.now
-    → r.fault ≡ Adapter s f → IsValidateCause (input_of g) g.adapter.now.wasm.items f → IfOk r.place (IsInputPlace g f) → IsOfWorld r x
+input_named : (g : AdapterInput) (f : ValidateFault) (r : RefusedWorld) (x : RefusedMessage) (s : String Global) → string_bytes s ≡ g.name.now
+    → r.fault ≡ Adapter s f → IsValidateCause (input_of g) g.adapter.now.wasm.items f → IsInputPlace g f r.place → IsRefusalOf of_world place_as.World r x
     → IsInputRefusal g x
 input_named g f r x s named same h at passed_on =
-    let known = placed_fault g s f r.place named h at in
-    refused_as (IsInputCause g) r.fault r.place x (λ _. tt) (subst (λ z. IfOk r.place (IsInputCause g (of_world z))) (sym same) known) passed_on
+    refusal_as (IsInputCause g) of_world place_as.World r x passed_on
+    (subst (λ z. IsInputCause g (of_world z) (option_map place_as.World r.place)) (sym same) (placed_fault g s f r.place named h at))
 
 -- what an adapter or a library is validated for, by what the code has for it
 module _ (g : AdapterInput) (library : Option LibraryView) (own : library ≡ option_map library_view g.adapter.now.library_info) where
@@ -79,10 +74,10 @@ module _ (g : AdapterInput) (library : Option LibraryView) (own : library ≡ op
   unfolding passed
   input_recorded bytes r is h = (r, subst (λ b. IsRecordOf (input_of g) b r) is (subst (λ j. IsRecordOf j bytes r) passed_input h))
 
-  pub input_refused : (bytes : List ℕ) (m : RefusedModule) (r : RefusedWorld) (x : RefusedComponent) → bytes ≡ g.adapter.now.wasm.items
+  pub input_refused : (bytes : List ℕ) (m : RefusedModule) (r : RefusedWorld) (x : RefusedMessage) → bytes ≡ g.adapter.now.wasm.items
       → IsValidateCause (adapter_input g.encoder.now library (map key_view g.adapter.now.required_exports.keys) (map required_entry g.required.now.entries)) bytes m.fault
       → IsRefusedAt (IsPlace (adapter_input g.encoder.now library (map key_view g.adapter.now.required_exports.keys) (map required_entry g.required.now.entries)) bytes) m
-      → IsAdapterRefusal g.name.now m r → IsOfWorld r x → IsInputRefusal g x
+      → IsAdapterRefusal g.name.now m r → IsRefusalOf of_world place_as.World r x → IsInputRefusal g x
   unfolding passed
   input_refused bytes m r x is cause at own passed_on =
       let h = subst (λ b. IsValidateCause (input_of g) b m.fault) is (subst (λ j. IsValidateCause j bytes m.fault) passed_input cause) in
@@ -116,7 +111,7 @@ module _ (g : AdapterInput) (main : ModuleRecord) (recorded : IsMainRecord g.enc
   placed_at f (Some p) h = (h.0, subst (λ j. IsValidationPlace j g.adapter.now.wasm.items f p.place) for_main h.1)
 
   placed_under : (f : ValidateFault) (n : String Global) (p : Option WorldPlace) (text : List ℕ) → string_bytes n ≡ g.name.now → IsInputPlace g f p
-      → text ≡ place_text world_place_json p → IsModulePlaceFor g.encoder.now (World (Adapter n f)) text
+      → text ≡ world_place_text (Adapter n f) p → IsModulePlaceFor g.encoder.now (World (Adapter n f)) text
   placed_under f n p text named h is = (
     p,
     subst (λ z. IsUnder g.encoder.now z (IsAdapterPlace g.encoder.now f p)) (sym named)
@@ -145,18 +140,24 @@ module _ (g : AdapterInput) (main : ModuleRecord) (recorded : IsMainRecord g.enc
 refused_not_memory : (j : ValidationInput) (bytes : List ℕ) (f : ValidateFault) → validate_is_memory f ≡ false → IsValidateCause j bytes f → IsRefused j bytes f
 refused_not_memory j bytes f other h = ((λ same. absurd (false≢true (sym other ∙ ap validate_is_memory same))), h)
 
-input_fault : (g : AdapterInput) (f : MessageFault) (place : Option WorldPlace) → is_memory f ≡ false → IsInputCause g f place → IsInputFault g f
-input_fault g Memory place other h = tt
-input_fault g (World (Adapter n f)) place other h = (h.0, refused_not_memory (input_of g) g.adapter.now.wasm.items f other h.1)
-input_fault g f place other h = absurd h
+input_fault : (g : AdapterInput) (f : MessageFault) (p : Option MessagePlace) → is_memory f ≡ false → IsInputCause g f p → IsInputFault g f
+input_fault g Memory p other h = tt
+input_fault g (World (Adapter n f)) p other h = (h.0, refused_not_memory (input_of g) g.adapter.now.wasm.items f other h.1)
+input_fault g f p other h = absurd h
 
-input_place : (g : AdapterInput) (f : MessageFault) (place : Option WorldPlace) (text : List ℕ) → IsInputCause g f place → text ≡ refusal_text f place
+input_text_at : (g : AdapterInput) (n : String Global) (f : ValidateFault) (p : Option MessagePlace) (text : List ℕ) → IsInputAt g f p
+    → text ≡ refusal_text (World (Adapter n f)) p → IsInputPlaceFor g (World (Adapter n f)) text
+input_text_at g n f None text at is = (None, at, is)
+input_text_at g n f (Some (place_as.World p)) text at is = (Some p, at, is)
+input_text_at g n f p text at is = absurd at
+
+input_place : (g : AdapterInput) (f : MessageFault) (p : Option MessagePlace) (text : List ℕ) → IsInputCause g f p → text ≡ refusal_text f p
     → IsInputPlaceFor g f text
-input_place g Memory place text h is = is
-input_place g (World (Adapter n f)) place text h is = (place, h.2, is)
-input_place g f place text h is = absurd h
+input_place g Memory p text h is = is ∙ ap (refusal_text Memory) h
+input_place g (World (Adapter n f)) p text h is = input_text_at g n f p text h.2 is
+input_place g f p text h is = absurd h
 
-pub input_answered : (g : AdapterInput) (x : RefusedComponent) (a : Answer) (old new : List ℕ) → IsInputRefusal g x
+pub input_answered : (g : AdapterInput) (x : RefusedMessage) (a : Answer) (old new : List ℕ) → IsInputRefusal g x
     → IsFaultAnswered (λ f. f ≡ x.fault) (λ f text. text ≡ refusal_text x.fault x.place) a old new
     → IsFaultAnswered (IsInputFault g) (IsInputPlaceFor g) a old new
 input_answered g x a old new h answered =
@@ -166,16 +167,18 @@ input_answered g x a old new h answered =
 
 -- the main module is refused
 
-module _ (e : EncoderView) (renames : Option (List RenameView)) (bytes : List ℕ) (m : RefusedModule) (r : RefusedWorld) (x : RefusedComponent)
+module _ (e : EncoderView) (renames : Option (List RenameView)) (bytes : List ℕ) (m : RefusedModule) (r : RefusedWorld) (x : RefusedMessage)
     (same : renames ≡ e.module_import_map) (is : bytes ≡ e.module_bytes) (cause : IsValidateCause (main_input e renames) bytes m.fault)
-    (at : IsRefusedAt (IsPlace (main_input e renames) bytes) m) (own : IsMainRefusal m r) (passed_on : IsOfWorld r x) where
+    (at : IsRefusedAt (IsPlace (main_input e renames) bytes) m) (own : IsMainRefusal m r) (passed_on : IsRefusalOf of_world place_as.World r x) where
   pub main_cause : IsMainCause e x.fault
   main_cause =
-      refused_fault (IsMainCause e) r.fault r.place x tt
-      (subst (λ f. IsMainCause e (of_world f)) (sym own.0) (main_refusal_of e renames bytes m same is cause at).0) passed_on
+      refusal_fault (IsMainCause e) of_world place_as.World r x passed_on
+      (subst (λ f. IsMainCause e (of_world f)) (sym own.0) (main_refusal_of e renames bytes m same is cause at).0)
 
   pub main_place : IsPlacedFor e x.fault x.place
-  main_place = refused_placed e r.fault r.place x (main_placed e m r (main_refusal_of e renames bytes m same is cause at) own) passed_on
+  main_place =
+      refusal_as (IsPlacedFor e) of_world place_as.World r x passed_on
+      (world_at e r.fault r.place (main_placed e m r (main_refusal_of e renames bytes m same is cause at) own))
 
 main_fault : (e : EncoderView) (name : Option (List ℕ)) (f : MessageFault) → is_memory f ≡ false → IsMainCause e f → IsModuleFault e name f
 main_fault e name Memory other h = tt
@@ -187,7 +190,7 @@ main_text e Memory text h at = at
 main_text e (World (Main f)) text h at = at
 main_text e f text h at = absurd h
 
-pub main_refused : (e : EncoderView) (name : Option (List ℕ)) (x : RefusedComponent) (a : Answer) (old new : List ℕ) → IsMainCause e x.fault
+pub main_refused : (e : EncoderView) (name : Option (List ℕ)) (x : RefusedMessage) (a : Answer) (old new : List ℕ) → IsMainCause e x.fault
     → IsPlacedFor e x.fault x.place → IsFaultAnswered (λ f. f ≡ x.fault) (λ f text. text ≡ refusal_text x.fault x.place) a old new
     → IsFaultAnswered (IsModuleFault e name) (IsModulePlaceFor e) a old new
 main_refused e name x a old new h placed answered =
@@ -220,16 +223,15 @@ no_encoder_cause : (message modules : List ℕ) (name : Option (List ℕ)) (f : 
 no_encoder_cause message modules name (World f) h = absurd h
 no_encoder_cause message modules name f h = h
 
-no_encoder_place : (message modules : List ℕ) (f : MessageFault) (text : List ℕ) → IsNoEncoderCause message modules f → IsPlaceOf message modules f text
+no_encoder_text : (message modules : List ℕ) (f : MessageFault) (text : List ℕ) → IsNoEncoderCause message modules f → IsPlaceOf message modules f text
     → IsValidationPlaceOf message modules f text
-no_encoder_place message modules (World f) text h at = absurd h
-no_encoder_place message modules (Plan f) text h at = absurd h
-no_encoder_place message modules f text h at = at
+no_encoder_text message modules (World f) text h at = absurd h
+no_encoder_text message modules f text h at = at
 
 pub no_encoder_refused : (message modules : List ℕ) (name : Option (List ℕ)) (x : RefusedMessage) (a : Answer) (old new : List ℕ) → IsNoEncoder message modules x
-    → IsFaultAnswered (λ g. g ≡ x.fault) (λ g text. text ≡ place_text part_json x.part) a old new
+    → IsFaultAnswered (λ g. g ≡ x.fault) (λ g text. text ≡ refusal_text x.fault x.place) a old new
     → IsFaultAnswered (IsValidationCause message modules name) (IsValidationPlaceOf message modules) a old new
 no_encoder_refused message modules name x a old new (h, about) answered =
-    answered_as x.fault (IsValidationCause message modules name) (λ g text. text ≡ place_text part_json x.part) (IsValidationPlaceOf message modules) a old new
+    answered_as x.fault (IsValidationCause message modules name) (λ g text. text ≡ refusal_text x.fault x.place) (IsValidationPlaceOf message modules) a old new
     (no_encoder_cause message modules name x.fault h)
-    (λ text at. no_encoder_place message modules x.fault text h (part_place message modules x.fault x.part text h about at)) answered
+    (λ text is. no_encoder_text message modules x.fault text h (no_encoder_place message modules x.fault x.place text h about is)) answered

@@ -1,31 +1,32 @@
 -- What the call that makes a component's world and its plan answers.
-use Rattle.std.proofs.Common.{◌≡◌, ◌++◌, ◌⊎◌, inl, inr, ℕ, List, Result, Ok, Err, IfOk, IfErr, length, ap, refl, sym, subst}
+use Rattle.std.proofs.Common.{◌≡◌, ◌++◌, ◌⊎◌, ℕ, List, Option, Result, Ok, Err, IfOk, IfErr, length, ap, refl, subst}
 use Rattle.wc_encoder.specs.EncoderParts.{EncoderView}
-use Rattle.wc_plan.specs.Fault.{HasNoFault, IsFaultNamed, IsFirstFault, UseFault, no_lowering, no_memory, no_realloc}
+use Rattle.std.specs.Option.{option_map}
+use Rattle.wc_plan.specs.Fault.{HasNoFault}
 use Rattle.wc_plan.specs.Plans.{plan_of}
-use Rattle.wc_plan.specs.Planner.{IsPlanFault}
-use Rattle.wc_plan.specs.declared.fault.PlanFault.{PlanFault}
-use Rattle.wc_plan.specs.declared.fault.PlanFault.TheVariants.{Memory as plan_memory, World as plan_world}
 use Rattle.wc_record.specs.Texts.{planned_world_text}
 use Rattle.wc_uses.specs.Views.{UseView}
 use Rattle.wc_world.specs.Causes.{IsComponentWorldCause, IsMemory}
 use Rattle.wc_world.specs.Options.{OptionsOf}
+use Rattle.wc_world.specs.Refused.{IsPlaceOrNone}
 use Rattle.wc_world.specs.Views.{ComponentWorldView}
 use Rattle.wc_world.specs.World.{IsWorldOf}
 use Rattle.wc_world.specs.declared.fault.WorldFault.{WorldFault}
 use Rattle.wc_world.specs.declared.fault.WorldFault.TheVariants.{Memory as world_memory}
+use Rattle.wc_world.specs.declared.places.WorldPlace.{WorldPlace}
 use Rattle.wc_calls.specs.ComponentWorlds.{modules_text}
 use Rattle.wc_calls.specs.Encoders.{AreOptionsOf, IsEncoderOf}
-use Rattle.wc_calls.specs.MessageFault.{of_plan, of_world}
+use Rattle.wc_calls.specs.MessageFault.{of_world}
 use Rattle.wc_calls.specs.PlannedWorlds.{IsPlannedText, IsPlannedWorldAnswer}
 use Rattle.wc_calls.specs.Private.EncoderAnswers.{IsPlanFaultFor}
-use Rattle.wc_calls.specs.Private.PlannedAnswers.{IsPlanFaultOf, IsPlannedFor}
-use Rattle.wc_calls.specs.Private.RefusedComponent.{IsPlacedFor}
+use Rattle.wc_calls.specs.Private.PlannedAnswers.{IsPlanFaultOf, IsPlanPlacedOf, IsPlanRefusalOf, IsPlannedFor}
+use Rattle.wc_calls.specs.Private.Refusals.{IsPlanPlacedFor, IsWithoutPlace, RefusedMessage}
 use Rattle.wc_calls.specs.declared.component_worlds.WorldAnswer.{WorldAnswer}
 use Rattle.wc_calls.specs.declared.message_fault.MessageFault.{MessageFault}
 use Rattle.wc_calls.specs.declared.message_fault.MessageFault.TheVariants.{Memory, Plan}
-use Rattle.wc_calls.specs.declared.refused_component.RefusedComponent.{RefusedComponent}
-use Rattle.wc_calls.proofs.RefusedComponentLemmas.{plan_placed}
+use Rattle.wc_calls.specs.declared.refusals.MessagePlace.{MessagePlace}
+use Rattle.wc_calls.specs.declared.refusals.MessagePlace.TheVariants as place
+use Rattle.wc_calls.proofs.RefusalLemmas.{memory_as, world_at}
 
 -- what is answered for a world with this plan
 
@@ -39,22 +40,6 @@ planned_text w uses (Ok a) servable is modules json = record {
 }
 planned_text w uses (Err x) servable is modules json = tt
 
--- and the fault of a plan, which carries no fault of a world
-
-no_world_fault : (w : ComponentWorldView) (g : WorldFault) (p : IsFirstFault w (plan_world g)) (k : UseFault) → p.kind ≡ k → ⊥
-no_world_fault w g p no_memory is = subst (λ k. IsFaultNamed k p.at.0.name (plan_world g)) is p.named
-no_world_fault w g p no_realloc is = subst (λ k. IsFaultNamed k p.at.0.name (plan_world g)) is p.named
-no_world_fault w g p no_lowering is = subst (λ k. IsFaultNamed k p.at.0.name (plan_world g)) is p.named
-
-first_fault_of : (w : ComponentWorldView) (f : PlanFault) → IsFirstFault w f → IsPlanFaultOf w (of_plan f)
-first_fault_of w plan_memory p = tt
-first_fault_of w (plan_world g) p = absurd (no_world_fault w g p p.kind refl)
-first_fault_of w f p = p
-
-pub plan_fault_of : (w : ComponentWorldView) (f : PlanFault) → IsPlanFault w f → IsPlanFaultOf w (of_plan f)
-plan_fault_of w f (inl is) = subst (λ g. IsPlanFaultOf w (of_plan g)) (sym is) tt
-plan_fault_of w f (inr p) = first_fault_of w f p
-
 -- the same for an encoder and options, of which this is the component's world
 
 pub planned_for : {A : Type 0} (options : OptionsOf) (e : EncoderView) (w : ComponentWorldView) (r : Result WorldAnswer A) → IsWorldOf options e w
@@ -63,21 +48,31 @@ pub planned_for : {A : Type 0} (options : OptionsOf) (e : EncoderView) (w : Comp
 planned_for options e w (Ok a) made is = record { world = w; made = made; is = is }
 planned_for options e w (Err x) made is = tt
 
-pub fault_of_plan : (options : OptionsOf) (e : EncoderView) (w : ComponentWorldView) → IsWorldOf options e w → (f : MessageFault) → IsPlanFaultOf w f
+fault_of_plan : (options : OptionsOf) (e : EncoderView) (w : ComponentWorldView) → IsWorldOf options e w → (f : MessageFault) → IsPlanFaultOf w f
     → IsPlanFaultFor options e f
 fault_of_plan options e w made Memory h = tt
 fault_of_plan options e w made (Plan f) h = (w, made, h)
 fault_of_plan options e w made f h = absurd h
 
-pub faults_of_plan : {A : Type 0} (options : OptionsOf) (e : EncoderView) (w : ComponentWorldView) (r : Result A RefusedComponent) → IsWorldOf options e w
-    → IfErr r (λ x. IsPlanFaultOf w x.fault) → IfErr r (λ x. IsPlanFaultFor options e x.fault)
-faults_of_plan options e w (Ok a) made h = tt
-faults_of_plan options e w (Err x) made h = fault_of_plan options e w made x.fault h
+place_of_plan : (options : OptionsOf) (e : EncoderView) (w : ComponentWorldView) → IsWorldOf options e w → (f : MessageFault) (p : Option MessagePlace)
+    → IsPlanFaultOf w f → IsPlanPlacedOf w f p → IsPlanPlacedFor options e f p
+place_of_plan options e w made Memory p h at = at
+place_of_plan options e w made (Plan f) p h at = (w, made, at)
+place_of_plan options e w made f p h at = absurd h
 
-pub places_of_plan : {A : Type 0} (e : EncoderView) (w : ComponentWorldView) (r : Result A RefusedComponent) → IfErr r (λ x. IsPlanFaultOf w x.fault)
-    → IfErr r (λ x. IsPlacedFor e x.fault x.place)
-places_of_plan e w (Ok a) h = tt
-places_of_plan e w (Err x) h = plan_placed e w x.fault x.place h
+pub faults_of_plan : {A : Type 0} (options : OptionsOf) (e : EncoderView) (w : ComponentWorldView) (r : Result A RefusedMessage) → IsWorldOf options e w
+    → IfErr r (IsPlanRefusalOf w) → IfErr r (λ x. IsPlanFaultFor options e x.fault)
+faults_of_plan options e w (Ok a) made h = tt
+faults_of_plan options e w (Err x) made h = fault_of_plan options e w made x.fault h.0
+
+pub places_of_plan : {A : Type 0} (options : OptionsOf) (e : EncoderView) (w : ComponentWorldView) (r : Result A RefusedMessage) → IsWorldOf options e w
+    → IfErr r (IsPlanRefusalOf w) → IfErr r (λ x. IsPlanPlacedFor options e x.fault x.place)
+places_of_plan options e w (Ok a) made h = tt
+places_of_plan options e w (Err x) made h = place_of_plan options e w made x.fault x.place h.0 h.1
+
+-- an allocation failed
+pub memory_of_plan : {A : Type 0} (w : ComponentWorldView) (r : Result A RefusedMessage) → IfErr r (IsWithoutPlace Memory) → IfErr r (IsPlanRefusalOf w)
+memory_of_plan w r is = memory_as (λ f p. IsPlanFaultOf w f × IsPlanPlacedOf w f p) r (tt, refl) is
 
 -- and where there is none
 pub no_world_for : (options : OptionsOf) (e : EncoderView) (f : WorldFault) → IsMemory e f ⊎ IsComponentWorldCause e f → IsPlanFaultFor options e (of_world f)
@@ -90,3 +85,9 @@ pub planned_to : (message modules : List ℕ) (options : OptionsOf) (e : Encoder
     → IsPlannedWorldAnswer message modules module_length text
 planned_to message modules options e module_length encodes given text is =
     record { encoder = e; encodes = encodes; options = options; given = given; world = is.world; made = is.made; is = is.is }
+
+-- a fault of the world is about the same where a plan is wanted
+pub no_world_placed : (options : OptionsOf) (e : EncoderView) (f : WorldFault) (p : Option WorldPlace) → IsPlaceOrNone e f p
+    → IsPlanPlacedFor options e (of_world f) (option_map place.World p)
+no_world_placed options e world_memory p h = world_at e world_memory p h
+no_world_placed options e f p h = world_at e f p h

@@ -3,7 +3,7 @@ use Rattle.std.specs.Prelude.{◌≡◌, ◌≢◌, ◌<◌, ◌≤◌, ◌⊎�
 use Rattle.wc_calls.specs.declared.answers.Answer.{Answer}
 
 -- the statuses: the answer is in the buffer; a fault; the buffer is too small; the answer is the input; the arguments
--- have no answer; an allocation failed
+-- have no answer; an allocation failed; no fault has the number
 
 abbrev pub done : ℕ
 done = 0
@@ -22,6 +22,9 @@ bad_argument = 4
 
 abbrev pub out_of_memory : ℕ
 out_of_memory = 5
+
+abbrev pub no_such_fault : ℕ
+no_such_fault = 6
 
 -- the text is in the front of the buffer, and the rest of the buffer is as it was
 abbrev pub IsFront : List ℕ → List ℕ → List ℕ → Type 0
@@ -56,6 +59,17 @@ HasNoFault a = (a.fault ≡ 0) × (a.position ≡ 0)
 
 abbrev pub HasNoBytes : Answer → Type 0
 HasNoBytes a = (a.length ≡ 0) × (a.module_length ≡ 0)
+
+-- a fault of a call on bytes, by its number and a position; what it is about is in the front of the buffer, or longer than
+-- it
+pub record IsFaultPut (n at : ℕ) (place : List ℕ) (answer : Answer) (old new : List ℕ) : Type 0 where
+  pub status : answer.status ≡ failed
+  pub number : answer.fault ≡ n
+  pub position : answer.position ≡ at
+  pub size : answer.length ≡ length place
+  pub no_module : answer.module_length ≡ 0
+  pub put : length place ≤ length old → IsFront place old new
+  pub longer : length old < length place → new ≡ old
 
 -- what an answer has no use for is 0; a fault of the call has no bytes
 abbrev pub AreOthersZero : Answer → Type 0

@@ -5,6 +5,7 @@ pub mod ComponentWorlds
 pub mod Encoders
 pub mod ExportNames
 pub mod FaultAnswers
+pub mod FaultTexts
 pub mod ImportChains
 pub mod ImportOptions
 pub mod MemoryFaults

@@ -40,8 +40,6 @@ use Rattle.wc_selection.specs.ModuleKeys.{AreKeysThere}
 use Rattle.wc_selection.specs.Requests.{RequestValue, given_keys}
 use Rattle.wc_selection.specs.Texts.{IsFirstMissing, IsFirstRepeated, is_in}
 use Rattle.wc_selection.specs.Worlds.{ArePackagesIn, AreSeveralWorlds, IsNoWorld}
-use Rattle.wc_selection.specs.declared.fault.RequestFault.{RequestFault}
-use Rattle.wc_selection.specs.declared.fault.RequestFault.TheVariants as request
 use Rattle.wc_calls.specs.AskedKeys.{keys_in, request_of}
 use Rattle.wc_calls.specs.Encoders.{AreChosen, AreExporters, AreOptionsOf, IsEncoderOf, IsMessage, IsPartsOf, IsWorldNamed}
 use Rattle.wc_calls.specs.declared.message_fault.MessageFault.{MessageFault}
@@ -74,18 +72,11 @@ of_plan plan_memory = Memory
 of_plan (plan_world f) = World f
 of_plan f = Plan f
 
--- a world that is not selected; the name is left out
-abbrev pub of_request : RequestFault → MessageFault
-of_request request.PackageRange = PackageRange
-of_request (request.UnknownWorld name) = UnknownWorld
-of_request (request.SeveralWorlds name) = SeveralWorlds
-of_request f = Memory
-
 -- why a text names no world of a document
 abbrev pub IsNameCause : DocumentView → List ℕ → MessageFault → Type 0
 IsNameCause d name Memory = ⊤
-IsNameCause d name UnknownWorld = IsNoWorld d name
-IsNameCause d name SeveralWorlds = AreSeveralWorlds d name
+IsNameCause d name (UnknownWorld n) = (string_bytes n ≡ name) × IsNoWorld d name
+IsNameCause d name (SeveralWorlds n) = (string_bytes n ≡ name) × AreSeveralWorlds d name
 IsNameCause d name PackageRange = ¬ ArePackagesIn d
 IsNameCause d name f = ⊥
 
@@ -158,8 +149,8 @@ IsMainCause m f world main others =
 -- imports are renamed; and the encoder is made. None carries a Memory of its own
 abbrev pub IsPartsCause : MessageView → List ℕ → MessageFault → Type 0
 IsPartsCause m modules Memory = ⊤
-IsPartsCause m modules UnknownWorld = IsWorldNameCause m.document m.world UnknownWorld
-IsPartsCause m modules SeveralWorlds = IsWorldNameCause m.document m.world SeveralWorlds
+IsPartsCause m modules (UnknownWorld name) = IsWorldNameCause m.document m.world (UnknownWorld name)
+IsPartsCause m modules (SeveralWorlds name) = IsWorldNameCause m.document m.world (SeveralWorlds name)
 IsPartsCause m modules PackageRange = IsWorldNameCause m.document m.world PackageRange
 IsPartsCause m modules Lengths =
     ((world : ℕ) × IsWorldNamed m.document m.world world × (length modules < m.size)) ⊎ IsOfChosen m modules (AreLengthsOther m)
@@ -204,15 +195,15 @@ abbrev pub message_fault_text : MessageFault → List ℕ
 message_fault_text Memory = memory_text
 message_fault_text NotText = codes "NotText"
 message_fault_text (Json f) = carried_text (codes "Json") (json_fault_text f)
-message_fault_text UnknownWorld = codes "UnknownWorld"
+message_fault_text (UnknownWorld name) = quoted_text (codes "UnknownWorld") (string_bytes name)
 message_fault_text Lengths = codes "Lengths"
 message_fault_text (Resolve f) = carried_text (codes "Resolve") (resolve_fault_text f)
 message_fault_text (AdapterTwice name) = quoted_text (codes "AdapterTwice") (string_bytes name)
-message_fault_text (Dedupe f) = carried_text (codes "Dedupe") (dedupe_fault_text f)
+message_fault_text (Dedupe f) = carried_text (codes "Main module") (dedupe_fault_text f)
 message_fault_text (Encoder f) = carried_text (codes "Encoder") (encoder_fault_text f)
 message_fault_text (World f) = carried_text (codes "World") (world_fault_text f)
 message_fault_text (Plan f) = carried_text (codes "Plan") (plan_fault_text f)
-message_fault_text SeveralWorlds = codes "SeveralWorlds"
+message_fault_text (SeveralWorlds name) = quoted_text (codes "SeveralWorlds") (string_bytes name)
 message_fault_text PackageRange = codes "PackageRange"
 message_fault_text (UnknownKey key) = quoted_text (codes "UnknownKey") (string_bytes key)
 message_fault_text (SeveralKeys key) = quoted_text (codes "SeveralKeys") (string_bytes key)
@@ -223,7 +214,7 @@ abbrev pub message_fault_number : MessageFault → ℕ
 message_fault_number Memory = 0
 message_fault_number NotText = 1
 message_fault_number (Json f) = carrying 2 (json_fault_number f)
-message_fault_number UnknownWorld = 3
+message_fault_number (UnknownWorld name) = 3
 message_fault_number Lengths = 4
 message_fault_number (Resolve f) = carrying 5 (resolve_fault_number f)
 message_fault_number (AdapterTwice name) = 6
@@ -231,7 +222,7 @@ message_fault_number (Dedupe f) = carrying 7 (dedupe_fault_number f)
 message_fault_number (Encoder f) = carrying 8 (encoder_fault_number f)
 message_fault_number (World f) = carrying 9 (world_fault_number f)
 message_fault_number (Plan f) = carrying 10 (plan_fault_number f)
-message_fault_number SeveralWorlds = 11
+message_fault_number (SeveralWorlds name) = 11
 message_fault_number PackageRange = 12
 message_fault_number (UnknownKey key) = 13
 message_fault_number (SeveralKeys key) = 14

@@ -4,6 +4,5 @@ pub mod AskedKeys
 pub mod ModuleAnswers
 pub mod OptionTables
 pub mod PlannedAnswers
-pub mod RefusedComponent
-pub mod RefusedMessage
+pub mod Refusals
 pub mod TrimArguments

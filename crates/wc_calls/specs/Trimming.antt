@@ -1,5 +1,5 @@
 -- What the call that trims an adapter answers.
-use Rattle.std.specs.Prelude.{◌≡◌, ◌≢◌, ◌≤◌, ◌<◌, false, length, ℕ, List, [], IfSome, Some, string_bytes}
+use Rattle.std.specs.Prelude.{◌≡◌, ◌≢◌, ◌≤◌, false, ℕ, List, [], IfSome, Some, string_bytes}
 use Rattle.std.specs.List.{All, slice_get}
 use Rattle.std.specs.Str.{IsUtf8}
 use Rattle.wc_gc.specs.LiveItems.{TrimInput, trim_input_for_names}
@@ -7,7 +7,7 @@ use Rattle.wc_gc.specs.Parts.{SettingsView}
 use Rattle.wc_gc.specs.Trim.{IsTrimFault}
 use Rattle.wc_gc.specs.declared.fault.GcFault.{GcFault}
 use Rattle.wc_gc.specs.declared.fault.GcFault.TheVariants.{MissingExport}
-use Rattle.wc_calls.specs.Answers.{IsFront, failed}
+use Rattle.wc_calls.specs.Answers.{IsFaultPut}
 use Rattle.wc_gc.specs.Fault.{gc_fault_number}
 use Rattle.wc_calls.specs.MemoryFaults.{gc_is_memory}
 use Rattle.wc_calls.specs.Places.{IsTrimPlaceText}
@@ -36,16 +36,9 @@ IsPosition names (MissingExport name) position =
     (position ≡ position_of names (string_bytes name)) × (slice_get names position ≡ Some (string_bytes name))
 IsPosition names f position = position ≡ 0
 
--- a fault by its number, and the position of the name that it carries; what it is about is in the front of the buffer, or
--- longer than it
-pub record IsTrimFaultAnswer (names : List (List ℕ)) (f : GcFault) (place : List ℕ) (answer : Answer) (old new : List ℕ) : Type 0 where
-  pub status : answer.status ≡ failed
-  pub number : answer.fault ≡ gc_fault_number f
-  pub position : answer.position ≡ position_in names f
-  pub size : answer.length ≡ length place
-  pub no_module : answer.module_length ≡ 0
-  pub put : length place ≤ length old → IsFront place old new
-  pub longer : length old < length place → new ≡ old
+-- a fault by its number, and the position of the name that it carries, with what it is about
+abbrev pub IsTrimFaultAnswer : List (List ℕ) → GcFault → List ℕ → Answer → List ℕ → List ℕ → Type 0
+IsTrimFaultAnswer names f place = IsFaultPut (gc_fault_number f) (position_in names f) place
 
 -- the answer is this fault, with what it is about
 abbrev pub IsTrimRefused : TrimInput → List (List ℕ) → GcFault → Answer → List ℕ → List ℕ → Type 0

@@ -1,6 +1,6 @@
 -- What the call that validates one module of a component answers: the main module, or also the adapter or the library of a
 -- name.
-use Rattle.std.specs.Prelude.{◌≡◌, ◌⊎◌, ℕ, List, [], MatchOption, Option, Some, None, string_bytes}
+use Rattle.std.specs.Prelude.{◌≡◌, ◌⊎◌, ℕ, List, MatchOption, Option, Some, None, string_bytes}
 use Rattle.std.specs.Map.{lookup}
 use Rattle.std.specs.Str.{IsUtf8, bytes_eq}
 use Rattle.wc_adapters.specs.Adapters.{AdapterView}
@@ -15,14 +15,13 @@ use Rattle.wc_world.specs.World.{IsMainRecord}
 use Rattle.wc_world.specs.declared.fault.WorldFault.{WorldFault}
 use Rattle.wc_world.specs.declared.fault.WorldFault.TheVariants.{Main, Adapter}
 use Rattle.wc_world.specs.declared.places.WorldPlace.{WorldPlace}
-use Rattle.wc_record.specs.Places.{world_place_json}
 use Rattle.wc_calls.specs.Encoders.{IsEncoderOf}
 use Rattle.wc_calls.specs.FaultAnswers.{IsFaultAnswered}
 use Rattle.wc_calls.specs.MessageFault.{IsNoEncoderCause}
-use Rattle.wc_calls.specs.Places.{IsPartPlaceText, IsWorldPlaceText, place_text}
+use Rattle.wc_calls.specs.Places.{IsPlaceOf, IsWorldPlaceText, world_place_text}
 use Rattle.wc_calls.specs.declared.answers.Answer.{Answer}
 use Rattle.wc_calls.specs.declared.message_fault.MessageFault.{MessageFault}
-use Rattle.wc_calls.specs.declared.message_fault.MessageFault.TheVariants.{Resolve, World}
+use Rattle.wc_calls.specs.declared.message_fault.MessageFault.TheVariants.{World}
 
 -- a fact of what is recorded of the main module, and of the adapter or the library that the encoder has under a name
 abbrev pub IsUnder : EncoderView → List ℕ → (ModuleRecord → NamedAdapter → Type 0) → Type 0
@@ -61,7 +60,7 @@ IsAdapterPlace e f place main x =
 
 abbrev pub IsModulePlaceText : EncoderView → WorldFault → List ℕ → Type 0
 IsModulePlaceText e (Adapter n f) text =
-    (p : Option WorldPlace) × IsUnder e (string_bytes n) (IsAdapterPlace e f p) × (text ≡ place_text world_place_json p)
+    (p : Option WorldPlace) × IsUnder e (string_bytes n) (IsAdapterPlace e f p) × (text ≡ world_place_text (Adapter n f) p)
 IsModulePlaceText e f text = IsWorldPlaceText e f text
 
 -- the module that is asked for is valid, for the encoder that the message and the modules are; and there is none to be
@@ -79,8 +78,7 @@ IsValidationCause message modules name f = IsNoEncoderCause message modules f
 
 abbrev pub IsValidationPlaceOf : List ℕ → List ℕ → MessageFault → List ℕ → Type 0
 IsValidationPlaceOf message modules (World f) text = (e : EncoderView) × IsEncoderOf message modules e × IsModulePlaceText e f text
-IsValidationPlaceOf message modules (Resolve f) text = IsPartPlaceText message f text
-IsValidationPlaceOf message modules f text = text ≡ []
+IsValidationPlaceOf message modules f text = IsPlaceOf message modules f text
 
 abbrev pub IsValidationFaultOf : List ℕ → List ℕ → Option (List ℕ) → Answer → List ℕ → List ℕ → Type 0
 IsValidationFaultOf message modules name = IsFaultAnswered (IsValidationCause message modules name) (IsValidationPlaceOf message modules)

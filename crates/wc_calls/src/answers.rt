@@ -1,13 +1,13 @@
 //! Answers in a buffer of the caller's.
 
 ghost use Rattle.std.specs.Prelude.{◌≡◌, ◌≢◌, ◌++◌, ◌<◌, ◌⊎◌, length};
-ghost use Rattle.wc_calls.specs.Answers.{HasNoBytes, HasNoFault, IsFront, done, too_small, failed};
+ghost use Rattle.wc_calls.specs.Answers.{HasNoBytes, HasNoFault, IsFaultPut, IsFront, done, too_small};
 
 /// The answer is in the front of the buffer, and the rest of the buffer is as it was.
 pub const DONE: u32 = 0;
 
-/// There is no answer, for the reason whose number the answer has. The buffer is as it was, or begins with the text of
-/// the reason and what it is about (`world`).
+/// There is no answer, for the reason whose number the answer has. The buffer is as it was, or begins with what is said of
+/// the reason (`trim`, `world`).
 pub const FAULT: u32 = 1;
 
 /// The buffer is too small for the answer, and is as it was.
@@ -22,16 +22,19 @@ pub const BAD_ARGUMENT: u32 = 4;
 /// An allocation failed. The buffer is as it was.
 pub const MEMORY: u32 = 5;
 
+/// No fault of the call has the number (`fault_text`). The buffer is as it was.
+pub const NO_SUCH_FAULT: u32 = 6;
+
 /// The answer of a call.
 #[derive(Clone, Copy, Debug, PartialEq, Eq)]
 #[repr(C)]
 pub struct Answer {
-    /// Which kind of answer it is: 0 to 5, as the constants say.
+    /// Which kind of answer it is: 0 to 6, as the constants say.
     pub status: u32,
     /// With `FAULT` the number of the fault; else 0.
     pub fault: u32,
-    /// With `DONE` and `TOO_SMALL` how many bytes the answer has; with `FAULT` of `trim` how many the fault's place has, of
-    /// a call on a message how many its text and place have; else 0.
+    /// With `DONE` and `TOO_SMALL` how many bytes the answer has; with `FAULT` how many say what the fault is about, and of a
+    /// call on a message its text too; else 0.
     pub length: usize,
     /// How many of these bytes are modules; they are the first ones.
     pub module_length: usize,
@@ -52,22 +55,6 @@ pub(crate) fn answer_without_bytes(status: u32) -> Answer
         length: 0,
         module_length: 0,
         position: 0,
-    }
-}
-
-/// The answer for a fault.
-pub(crate) fn fault_answer(fault: u32, position: usize) -> Answer
-    ensures status { result.status ≡ failed }
-    ensures fault { result.fault ≡ fault }
-    ensures position { result.position ≡ position }
-    ensures no_bytes { HasNoBytes result }
-{
-    Answer {
-        status: FAULT,
-        fault,
-        length: 0,
-        module_length: 0,
-        position,
     }
 }
 
@@ -103,5 +90,20 @@ pub(crate) fn put(wasm: &[u8], others: &[u8], out: &mut [u8]) -> Answer
         length,
         module_length: wasm.len(),
         position: 0,
+    }
+}
+
+/// Answers a fault by its number and a position, and writes what it is about to the front of the buffer, if it has room
+/// for that.
+pub(crate) fn put_refusal(fault: u32, position: usize, place: &[u8], out: &mut [u8]) -> Answer
+    ensures { IsFaultPut fault position place.now result out.old out.new }
+{
+    let answer = put(&[], place, out);
+    Answer {
+        status: FAULT,
+        fault,
+        length: answer.length,
+        module_length: 0,
+        position,
     }
 }

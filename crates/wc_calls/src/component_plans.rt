@@ -9,47 +9,48 @@ ghost use Rattle.wc_calls.specs.Answers.{AreOthersOfTextZero, IsPut, IsTextStatu
 ghost use Rattle.wc_calls.specs.ComponentPlans.{IsPlanAnswer};
 ghost use Rattle.wc_calls.specs.ComponentWorlds.{IsFaultOf};
 ghost use Rattle.wc_calls.specs.FaultAnswers.{IsFaultAnswered};
-ghost use Rattle.wc_calls.specs.Private.EncoderAnswers.{IsPlaceFor, IsPlanFaultFor, IsPlanFor};
+ghost use Rattle.wc_calls.specs.Private.EncoderAnswers.{IsPlanPlaceFor, IsPlanFaultFor, IsPlanFor};
 ghost use Rattle.wc_calls.specs.Private.OptionTables.{table_options};
-ghost use Rattle.wc_calls.specs.Private.PlannedAnswers.{IsPlanFaultOf};
-ghost use Rattle.wc_calls.specs.Private.RefusedComponent.{IsPlacedFor};
+ghost use Rattle.wc_calls.specs.Private.PlannedAnswers.{IsPlanRefusalOf};
+ghost use Rattle.wc_calls.specs.Private.Refusals.{IsPlanPlacedFor};
 
 use crate::answers::{Answer, put};
 use crate::encoders::{WorldInput, world_input};
-use crate::explained::{answer_no_world, answer_refused};
-use crate::refused_component::RefusedComponent;
+use crate::explained::answer_refused;
+use crate::refusals::{RefusedMessage, plan_refusal, world_refusal};
 use std::alloc::Global;
 use wc_maps::Seed;
 use wc_plan::laws::worlds_nameable;
-use wc_plan::plan as plan_of_world;
+use wc_plan::plan_explained;
 use wc_record::plan_to_json;
 use wc_world::ComponentWorld;
 
 /// The plan of a component's world, as JSON.
-fn answer_of_world(alloc: Global, world: &ComponentWorld<'_>) -> Result<Vec<u8>, RefusedComponent>
+fn answer_of_world(alloc: Global, world: &ComponentWorld<'_>) -> Result<Vec<u8>, RefusedMessage>
     requires { AreNameable (world_view world.now) }
     ensures servable { OnOk result (HasNoFault (world_view world.now)) }
     ensures answer { IfOk result (λ v. v.items ≡ plan_text (plan_of (world_view world.now))) }
-    ensures fault { IfErr result (λ x. IsPlanFaultOf (world_view world.now) x.fault) }
+    ensures refusal { IfErr result (IsPlanRefusalOf (world_view world.now)) }
 {
-    match plan_of_world(alloc, world) {
+    match plan_explained(alloc, world) {
         Ok(plan) => Ok(plan_to_json(alloc, &plan)?),
-        Err(fault) => Err(RefusedComponent::from(fault)),
+        Err(refused) => Err(plan_refusal(refused)),
     }
 }
 
 /// The plan of an encoder and options, as JSON.
-fn answer_of_input(alloc: Global, input: &WorldInput) -> Result<Vec<u8>, RefusedComponent>
+fn answer_of_input(alloc: Global, input: &WorldInput) -> Result<Vec<u8>, RefusedMessage>
     ensures answer { IfOk result (λ v. IsPlanFor (table_options input.now.options)
         input.now.encoder v.items) }
     ensures fault { IfErr result (λ x. IsPlanFaultFor (table_options input.now.options)
         input.now.encoder x.fault) }
-    ensures place { IfErr result (λ x. IsPlacedFor input.now.encoder x.fault x.place) }
+    ensures place { IfErr result (λ x. IsPlanPlacedFor (table_options input.now.options)
+        input.now.encoder x.fault x.place) }
 {
     worlds_nameable(&input.encoder);
     match ComponentWorld::new_explained(alloc, &input.encoder, &input.options) {
         Ok(world) => answer_of_world(alloc, &world),
-        Err(refused) => Err(RefusedComponent::from(refused)),
+        Err(refused) => Err(world_refusal(refused)),
     }
 }
 
@@ -63,7 +64,8 @@ fn plan_for(alloc: Global, input: &WorldInput, out: &mut [u8]) -> Answer
         result.length out.old }
     ensures fault { result.status ≡ failed
         → IsFaultAnswered (IsPlanFaultFor (table_options input.now.options) input.now.encoder)
-        (IsPlaceFor input.now.encoder) result out.old out.new }
+        (IsPlanPlaceFor (table_options input.now.options) input.now.encoder)
+        result out.old out.new }
     ensures module_length { result.module_length ≡ 0 }
     ensures unchanged { result.status ≢ done → result.status ≢ failed → out.new ≡ out.old }
     ensures statuses { IsTextStatus result.status }
@@ -71,7 +73,7 @@ fn plan_for(alloc: Global, input: &WorldInput, out: &mut [u8]) -> Answer
 {
     match answer_of_input(alloc, input) {
         Ok(answer) => put(&[], &answer, out),
-        Err(refused) => answer_no_world(alloc, &refused, out),
+        Err(refused) => answer_refused(alloc, &refused, out),
     }
 }
 
@@ -82,8 +84,8 @@ fn plan_for(alloc: Global, input: &WorldInput, out: &mut [u8]) -> Answer
 ///   that has.
 /// - `TOO_SMALL`: the same would have `length` bytes, and `out` has fewer.
 /// - `FAULT`: why there is no plan, by its number (`MessageFault::number`), and its text, and what it is about, as of
-///   `world`. It neither is nor carries a `Memory`. A fault of the plan itself is about a function, by its name
-///   (`wc_record::function_to_json`).
+///   `world`. It neither is nor carries a `Memory`. A fault of the plan itself is about a function, which a module imports
+///   (`wc_record::plan_place_to_json`).
 /// - `MEMORY`: an allocation failed.
 ///
 /// It is never `SAME` or `BAD_ARGUMENT`. `out` is as it was but for what is said here, and then after the first `length`

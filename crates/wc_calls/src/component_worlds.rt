@@ -8,13 +8,13 @@ ghost use Rattle.wc_calls.specs.ComponentWorlds.{IsFaultOf, IsWorldAnswer, modul
 ghost use Rattle.wc_calls.specs.FaultAnswers.{IsFaultAnswered};
 ghost use Rattle.wc_calls.specs.Private.EncoderAnswers.{IsAnswerFor, IsFaultFor, IsPlaceFor};
 ghost use Rattle.wc_calls.specs.Private.OptionTables.{table_options};
-ghost use Rattle.wc_calls.specs.Private.RefusedComponent.{IsPlacedFor};
+ghost use Rattle.wc_calls.specs.Private.Refusals.{IsPlacedFor, IsWithoutPlace};
 ghost use Rattle.wc_calls.specs.declared.message_fault.MessageFault.TheVariants.{Memory};
 
 use crate::answers::{Answer, put};
 use crate::encoders::{WorldInput, world_input};
-use crate::explained::{answer_no_world, answer_refused};
-use crate::refused_component::RefusedComponent;
+use crate::explained::answer_refused;
+use crate::refusals::{RefusedMessage, world_refusal};
 use std::alloc::{AllocError, Global};
 use wc_maps::Seed;
 use wc_record::world_to_json;
@@ -39,7 +39,7 @@ pub(crate) fn modules_of(alloc: Global, world: &ComponentWorld<'_>) -> Result<Ve
 }
 
 /// The answer for an encoder and options.
-fn answer_of_input(alloc: Global, input: &WorldInput) -> Result<WorldAnswer, RefusedComponent>
+fn answer_of_input(alloc: Global, input: &WorldInput) -> Result<WorldAnswer, RefusedMessage>
     ensures answer { IfOk result (λ a. IsAnswerFor (table_options input.now.options)
         input.now.encoder (length a.modules.items) (a.modules.items ++ a.json.items)) }
     ensures fault { IfErr result (λ x. IsFaultFor input.now.encoder x.fault) }
@@ -47,18 +47,15 @@ fn answer_of_input(alloc: Global, input: &WorldInput) -> Result<WorldAnswer, Ref
 {
     match ComponentWorld::new_explained(alloc, &input.encoder, &input.options) {
         Ok(world) => answer_of_world(alloc, &world),
-        Err(refused) => Err(RefusedComponent::from(refused)),
+        Err(refused) => Err(world_refusal(refused)),
     }
 }
 
 /// The answer for a component's world.
-fn answer_of_world(
-    alloc: Global,
-    world: &ComponentWorld<'_>,
-) -> Result<WorldAnswer, RefusedComponent>
+fn answer_of_world(alloc: Global, world: &ComponentWorld<'_>) -> Result<WorldAnswer, RefusedMessage>
     ensures modules { IfOk result (λ a. a.modules.items ≡ modules_text (world_view world.now)) }
     ensures json { IfOk result (λ a. a.json.items ≡ world_text (world_view world.now)) }
-    ensures fault { IfErr result (λ x. x.fault ≡ Memory) }
+    ensures fault { IfErr result (IsWithoutPlace Memory) }
 {
     Ok(WorldAnswer {
         modules: modules_of(alloc, world)?,
@@ -81,7 +78,7 @@ fn world_for(alloc: Global, input: &WorldInput, out: &mut [u8]) -> Answer
 {
     match answer_of_input(alloc, input) {
         Ok(answer) => put(&answer.modules, &answer.json, out),
-        Err(refused) => answer_no_world(alloc, &refused, out),
+        Err(refused) => answer_refused(alloc, &refused, out),
     }
 }
 
@@ -118,10 +115,10 @@ fn world_for(alloc: Global, input: &WorldInput, out: &mut [u8]) -> Answer
 /// - `FAULT`: why there is no component's world, by its number (`MessageFault::number`). It neither is nor carries a
 ///   `Memory`. Its text, as it is printed, has `position` bytes. Of a message that is not what it has to be, it has the path
 ///   to what is wrong, as `Json: adapters[0].length: not an index`. After the text is a JSON object that says what the fault
-///   is about, if it is one of an import, an export, a section or a body (`wc_world::RefusedWorld`), of page sizes, or of a
-///   world, an interface, a type or a package (`wc_resolve::Refusal`); else nothing. Both have `length` bytes, and are in
-///   the front of `out`, if `out` has so many. `wc_record::world_place_to_json`, `page_sizes_to_json` and `part_to_json`
-///   list the members of these objects.
+///   is about, but for `NotText`, `Lengths`, `PackageRange` and `Encoder`. Both have `length` bytes, and are in the front of
+///   `out`, if `out` has so many. Its member `kind` says which it is, and these calls of `wc_record` list the others:
+///   `json_place_to_json`, `worlds_to_json`, `part_to_json`, `key_to_json`, `adapter_to_json`, `read_place_to_json` of the
+///   main module, `world_place_to_json`, and where a fault of trimming has no place `trim_fault_to_json`.
 /// - `MEMORY`: an allocation failed, at whichever step.
 ///
 /// It is never `SAME` or `BAD_ARGUMENT`. `out` is as it was but for what is said here, and then after the first `length`

@@ -1,62 +1,125 @@
 //! Encoders out of messages and the bytes of their modules, and the options of lowered functions.
 
-ghost use Rattle.std.specs.Prelude.{◌≡◌, ◌++◌, ◌<◌, IfErr, IfNone, IfOk, IfSome, List, length, map, string_bytes, unwrap_or, ℕ};
+ghost use Rattle.std.specs.Prelude.{◌≡◌, ◌++◌, ◌<◌, IfErr, IfNone, IfOk, IfSome, List, Some, length, map, string_bytes, unwrap_or, ℕ};
 ghost use Rattle.std.specs.Option.{option_map};
 ghost use Rattle.wc_adapters.specs.Adapters.{adapter_entry, adapter_view, library_view};
 ghost use Rattle.wc_encoder.specs.WellFormed.{IsWellFormed};
 ghost use Rattle.wc_json.specs.Document.{document_view};
 ghost use Rattle.wc_json.specs.Messages.{adapter_message_view, exports_view, message_view, world_name_view};
+ghost use Rattle.wc_dedupe.specs.Dedupe.{IsDeduped, renames_in};
+ghost use Rattle.wc_resolve.specs.ResolveParts.{parts_view};
 ghost use Rattle.wc_resolve.specs.Views.{key_view};
+ghost use Rattle.wc_resolve.specs.WellFormed.{IsWellFormed as AreFormed};
 ghost use Rattle.wc_selection.specs.Keys.{AreKeysApart, named_key};
 ghost use Rattle.wc_selection.specs.TaskHook.{no_task_hook};
 ghost use Rattle.wc_selection.specs.Worlds.{IsSelected};
-ghost use Rattle.wc_calls.specs.Encoders.{AreAdaptersOf, AreChosen, AreExporters, AreOptionsOf, IsEncoderOf, IsPartsOf, IsWorldNamed};
-ghost use Rattle.wc_calls.specs.MessageFault.{IsAdaptersCause, IsNameCause, IsWorldNameCause, of_request};
+ghost use Rattle.wc_calls.specs.Encoders.{AreAdaptersOf, AreChosen, AreExporters, AreOptionsOf, IsEncoderOf, IsMessage, IsPartsOf, IsWorldNamed};
+ghost use Rattle.wc_calls.specs.MessageFault.{IsAdaptersCause};
+ghost use Rattle.wc_calls.specs.Places.{world_names};
 ghost use Rattle.wc_calls.specs.Private.AskedKeys.{IsExportersCause};
 ghost use Rattle.wc_calls.specs.Private.OptionTables.{table_options};
-ghost use Rattle.wc_calls.specs.Private.RefusedMessage.{AreNoParts, IsNoEncoder};
+ghost use Rattle.wc_calls.specs.Private.Refusals.{AreNoParts, AreWorldsAt, IsMainRefused, IsNameRefusal, IsNoEncoder, IsPartsRefused, IsTextRefused, IsUnselected, IsWorldNameRefusal};
 
 use crate::asked_keys::{AskedWorld, adapter_keys, asked_of};
 use crate::import_options::OptionTable;
 use crate::message_fault::MessageFault;
-use crate::refused_message::RefusedMessage;
+use crate::refusals::{
+    MessagePlace, RefusedMessage, parts_refusal, renaming_refusal, text_refusal,
+};
 use std::alloc::{AllocError, Global};
 use std::borrow::CowSlice;
 use std::str;
 use wc_encoder::{Adapter, ComponentEncoder, EncoderParts, LibraryInfo, Metadata};
 use wc_json::{AdapterMessage, Document, Message, WorldName, message_from_json};
 use wc_maps::{Map, Seed, Set};
-use wc_resolve::{Resolve, WorldId, WorldKey};
-use wc_selection::{KeyIndex, MainModule, RequestFault, no_task_hook, select_world};
+use wc_resolve::{Parts, Resolve, WorldId, WorldKey};
+use wc_selection::{KeyIndex, MainModule, RequestFault, no_task_hook, select_world, world_name};
+use wc_texts::Refused;
 
-/// The fault of a message whose world is not selected.
-fn world_fault(fault: RequestFault<'_>) -> MessageFault
-    ensures { result ≡ of_request fault.entry }
+/// The names of the worlds of a document, in order.
+fn world_names(alloc: Global, document: &Document) -> Result<Vec<String>, AllocError>
+    ensures { IfOk result (λ names. map string_bytes names.items
+        ≡ world_names (document_view document.now)) }
+{
+    let mut names = Vec::new(alloc);
+    for index in 0..document.parts.worlds.len() {
+        names.push(world_name(alloc, document, index)?)?;
+    }
+    Ok(names)
+}
+
+/// A name of a world, and the names of the worlds of a document.
+fn worlds_place(alloc: Global, document: &Document, name: &str) -> Result<MessagePlace, AllocError>
+    ensures { IfOk result (λ place. AreWorldsAt (document_view document.now) name.now
+        (Some place)) }
+{
+    let worlds = world_names(alloc, document)?;
+    let name = String::from_str(alloc, name)?;
+    Ok(MessagePlace::Worlds { name, worlds })
+}
+
+/// The refusal of a message whose world is not selected.
+fn unselected(
+    alloc: Global,
+    document: &Document,
+    fault: RequestFault<'_>,
+) -> Result<RefusedMessage, AllocError>
+    ensures { IfOk result (IsUnselected (document_view document.now) fault.entry) }
 {
     match fault {
-        RequestFault::PackageRange => MessageFault::PackageRange,
-        RequestFault::UnknownWorld(_) => MessageFault::UnknownWorld,
-        RequestFault::SeveralWorlds(_) => MessageFault::SeveralWorlds,
-        _ => MessageFault::Memory,
+        RequestFault::PackageRange => Ok(Refused {
+            fault: MessageFault::PackageRange,
+            place: None,
+        }),
+        RequestFault::UnknownWorld(name) => {
+            let place = worlds_place(alloc, document, name)?;
+            let fault = MessageFault::UnknownWorld(String::from_str(alloc, name)?);
+            Ok(Refused {
+                fault,
+                place: Some(place),
+            })
+        }
+        RequestFault::SeveralWorlds(name) => {
+            let place = worlds_place(alloc, document, name)?;
+            let fault = MessageFault::SeveralWorlds(String::from_str(alloc, name)?);
+            Ok(Refused {
+                fault,
+                place: Some(place),
+            })
+        }
+        _ => Ok(Refused {
+            fault: MessageFault::Memory,
+            place: None,
+        }),
+    }
+}
+
+/// The refusal of a message whose world is not selected, or that an allocation failed.
+fn world_refused(alloc: Global, document: &Document, fault: RequestFault<'_>) -> RefusedMessage
+    ensures { IsUnselected (document_view document.now) fault.entry result }
+{
+    match unselected(alloc, document, fault) {
+        Ok(refused) => refused,
+        Err(e) => Refused::from(e),
     }
 }
 
 /// The id of the world of a document that a text names (`select_world`).
-fn named_world(alloc: Global, document: &Document, name: &str) -> Result<WorldId, MessageFault>
+fn named_world(alloc: Global, document: &Document, name: &str) -> Result<WorldId, RefusedMessage>
     ensures selected { IfOk result (λ id. IsSelected (document_view document.now) name.now id.0) }
-    ensures fault { IfErr result (IsNameCause (document_view document.now) name.now) }
+    ensures fault { IfErr result (IsNameRefusal (document_view document.now) name.now) }
 {
     match select_world(alloc, document, name) {
         Ok(id) => Ok(id),
-        Err(fault) => Err(world_fault(fault)),
+        Err(fault) => Err(world_refused(alloc, document, fault)),
     }
 }
 
 /// The id of the world of a document that a message names. An index may be out of range.
-fn world_of(alloc: Global, document: &Document, name: &WorldName) -> Result<WorldId, MessageFault>
+fn world_of(alloc: Global, document: &Document, name: &WorldName) -> Result<WorldId, RefusedMessage>
     ensures named { IfOk result (λ id.
         IsWorldNamed (document_view document.now) (world_name_view name.now) id.0) }
-    ensures fault { IfErr result (IsWorldNameCause (document_view document.now)
+    ensures fault { IfErr result (IsWorldNameRefusal (document_view document.now)
         (world_name_view name.now)) }
 {
     match name {
@@ -195,6 +258,30 @@ fn hook_name(alloc: Global, hook: Option<String>) -> Result<String, AllocError>
     }
 }
 
+/// The worlds, interfaces, types and packages of a message.
+fn resolve_of(alloc: Global, parts: Parts) -> Result<Resolve, RefusedMessage>
+    ensures ok { IfOk result (λ r. r ≡ parts_view parts) }
+    ensures formed { IfOk result AreFormed }
+    ensures fault { IfErr result (IsPartsRefused (parts_view parts)) }
+{
+    match Resolve::build_explained(alloc, parts) {
+        Ok(resolve) => Ok(resolve),
+        Err(refused) => Err(parts_refusal(refused.refusal)),
+    }
+}
+
+/// The main module of a message, with its repeated imports renamed.
+fn main_module(alloc: Global, wasm: &[u8]) -> Result<MainModule, RefusedMessage>
+    ensures dedupe { IfOk result (λ m. IsDeduped wasm.now m.wasm.items
+        (renames_in m.import_map)) }
+    ensures fault { IfErr result (IsMainRefused wasm.now) }
+{
+    match MainModule::new_explained(alloc, CowSlice::Borrowed(wasm)) {
+        Ok(main) => Ok(main),
+        Err(refused) => Err(renaming_refusal(refused)),
+    }
+}
+
 /// The bytes of a message's modules.
 #[derive(Clone, Copy)]
 struct ModuleBytes<'a> {
@@ -229,14 +316,14 @@ fn encoder_for(
         adapters,
         options: _options,
     } = message;
-    let resolve = Resolve::build_explained(alloc, document.parts)?;
+    let resolve = resolve_of(alloc, document.parts)?;
     let asked = AskedWorld {
         resolve: &resolve,
         world,
         exports: &exports,
     };
     let exporters = exporters_of(alloc, seed, asked, adapters, bytes.others)?;
-    let main = MainModule::new(alloc, CowSlice::Borrowed(bytes.main))?;
+    let main = main_module(alloc, bytes.main)?;
     let rejects = reject_legacy_names.unwrap_or(false);
     let grows = realloc_via_memory_grow.unwrap_or(false);
     let hook = hook_name(alloc, task_hook)?;
@@ -250,7 +337,10 @@ fn encoder_for(
         realloc_via_memory_grow: grows,
         task_hook: hook,
     };
-    Ok(ComponentEncoder::build(alloc, parts)?)
+    match ComponentEncoder::build(alloc, parts) {
+        Ok(encoder) => Ok(encoder),
+        Err(fault) => Err(Refused::without_place(MessageFault::from(fault))),
+    }
 }
 
 /// The encoder of a message, with the bytes of its modules one after another, the main module first.
@@ -266,9 +356,20 @@ fn encoder_with(
 {
     let world = world_of(alloc, &message.document, &message.world)?;
     let Some((main, others)) = split(modules, message.length) else {
-        return Err(RefusedMessage::from(MessageFault::Lengths));
+        return Err(Refused::without_place(MessageFault::Lengths));
     };
     encoder_for(alloc, seed, message, world, ModuleBytes { main, others })
+}
+
+/// The message of a text.
+fn message_of(alloc: Global, seed: Seed, text: &str) -> Result<Message, RefusedMessage>
+    ensures ok { IfOk result (λ m. IsMessage text.now (message_view m)) }
+    ensures fault { IfErr result (IsTextRefused text.now) }
+{
+    match message_from_json(alloc, seed, text) {
+        Ok(message) => Ok(message),
+        Err(fault) => Err(text_refusal(alloc, seed, text, fault)),
+    }
 }
 
 /// The parts that a component's world is made of.
@@ -291,9 +392,9 @@ pub(crate) fn world_input(
     ensures fault { IfErr result (IsNoEncoder message.now modules.now) }
 {
     let Ok(text) = str::from_utf8(message) else {
-        return Err(RefusedMessage::from(MessageFault::NotText));
+        return Err(Refused::without_place(MessageFault::NotText));
     };
-    let message = message_from_json(alloc, seed, text)?;
+    let message = message_of(alloc, seed, text)?;
     let options = OptionTable::listed(alloc, seed, &message.options)?;
     let encoder = encoder_with(alloc, seed, message, modules)?;
     Ok(WorldInput { encoder, options })

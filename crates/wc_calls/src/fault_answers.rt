@@ -10,6 +10,7 @@ use crate::answers::{Answer, FAULT, MEMORY, answer_without_bytes, put};
 use crate::memory_faults::is_memory;
 use crate::message_fault::MessageFault;
 use std::alloc::Global;
+use wc_texts::text_of;
 
 /// Writes the text of a fault, and what it is about, to the front of the buffer, if it has room for both.
 fn put_fault(fault: &MessageFault, text: &str, place: &[u8], out: &mut [u8]) -> Answer
@@ -43,7 +44,7 @@ pub(crate) fn answer_fault(
     if is_memory(fault) {
         return answer_without_bytes(MEMORY);
     }
-    match format!(in alloc; "{fault}") {
+    match text_of(alloc, fault) {
         Ok(text) => put_fault(fault, &text, place, out),
         Err(_) => answer_without_bytes(MEMORY),
     }

@@ -4,19 +4,21 @@ ghost use Rattle.std.specs.Prelude.{◌≡◌, ◌≢◌, ◌<◌, ◌≤◌, �
 ghost use Rattle.std.specs.List.{All};
 ghost use Rattle.std.specs.Str.{IsUtf8};
 ghost use Rattle.wc_gc.specs.LiveItems.{IsFault, trim_input, trim_input_for_names};
+ghost use Rattle.wc_gc.specs.TrimPlace.{IsExplained};
 ghost use Rattle.wc_calls.specs.Answers.{AreOthersOfTextZero, IsBytesStatus, IsFront, IsPut, IsTooLong, bad_argument, done, failed, out_of_memory, same, too_small};
 ghost use Rattle.wc_calls.specs.ExportNames.{texts};
 ghost use Rattle.wc_calls.specs.ImportChains.{IsWhyFault, IsWhyText};
 ghost use Rattle.wc_calls.specs.MemoryFaults.{gc_is_memory};
-ghost use Rattle.wc_calls.specs.Private.TrimArguments.{IsRefusedFor};
+ghost use Rattle.wc_calls.specs.Private.TrimArguments.{IsTrimAnswered};
 
 use crate::answers::{Answer, BAD_ARGUMENT, MEMORY, answer_without_bytes, put};
 use crate::export_names::{are_texts, name_set};
-use crate::trimming::{Arguments, answer_trim_fault};
+use crate::trimming::answer_refused_trim;
 use std::alloc::Global;
-use wc_gc::{GcFault, why_imports};
+use wc_gc::{GcFault, TrimPlace, why_imports_explained};
 use wc_maps::{Seed, Set};
 use wc_record::import_chains_to_json;
+use wc_texts::Refused;
 
 /// Says why an adapter imports what it does, where its exports of the names `required` are: the shortest chain to each
 /// import that they reach, as `wc_gc::why_imports` does. A repeated name counts once, and no name is one. `seed`: the
@@ -80,21 +82,21 @@ fn why_for_names<'a>(
         return answer_without_bytes(MEMORY);
     };
     let text = why_text(alloc, wasm, &names);
-    let passed = Arguments {
-        wasm,
-        required,
-        realloc: None,
-        page_size_log2: 16,
-    };
-    put_why(alloc, passed, &names, &text, out)
+    put_why(alloc, required, &text, out)
 }
 
 /// The chains to imports of an adapter, as JSON.
-fn why_text(alloc: Global, wasm: &[u8], names: &Set<String>) -> Result<Vec<u8>, GcFault>
+fn why_text(
+    alloc: Global,
+    wasm: &[u8],
+    names: &Set<String>,
+) -> Result<Vec<u8>, Refused<GcFault, TrimPlace>>
     ensures text { IfOk result (λ v. IsWhyText (trim_input wasm.now names.now.keys) v.items) }
-    ensures fault { IfErr result (IsFault (trim_input wasm.now names.now.keys)) }
+    ensures fault { IfErr result (λ x. IsFault (trim_input wasm.now names.now.keys) x.fault) }
+    ensures place { IfErr result (λ x. IsExplained (trim_input wasm.now names.now.keys)
+        x.fault x.place) }
 {
-    let chains = why_imports(alloc, wasm, names)?;
+    let chains = why_imports_explained(alloc, wasm, names)?;
     let text = import_chains_to_json(alloc, &chains)?;
     Ok(text)
 }
@@ -102,9 +104,8 @@ fn why_text(alloc: Global, wasm: &[u8], names: &Set<String>) -> Result<Vec<u8>, 
 /// Writes the chains to imports of an adapter; of a fault what it is about.
 fn put_why(
     alloc: Global,
-    passed: Arguments<'_>,
-    names: &Set<String>,
-    text: &Result<Vec<u8>, GcFault>,
+    required: &[&[u8]],
+    text: &Result<Vec<u8>, Refused<GcFault, TrimPlace>>,
     out: &mut [u8],
 ) -> Answer
     ensures module_length { result.module_length ≡ 0 }
@@ -117,14 +118,15 @@ fn put_why(
         × (result.status ≢ too_small)) }
     ensures fault_or_memory { IfErr text.now (λ _. (result.status ≡ failed)
         ⊎ (result.status ≡ out_of_memory)) }
-    ensures memory { IfErr text.now (λ f. result.status ≡ failed → gc_is_memory f ≡ false) }
-    ensures fault { IfErr text.now (λ f. IsRefusedFor passed.entry names.now.keys f
-        result out.old out.new) }
+    ensures memory { IfErr text.now (λ x. result.status ≡ failed
+        → gc_is_memory x.fault ≡ false) }
+    ensures fault { IfErr text.now (λ x. result.status ≡ failed
+        → IsTrimAnswered (texts required.now) x result out.old out.new) }
     ensures unchanged { result.status ≢ done → result.status ≢ failed → out.new ≡ out.old }
     ensures others { AreOthersOfTextZero result }
 {
     match text {
         Ok(bytes) => put(&[], bytes.as_slice(), out),
-        Err(fault) => answer_trim_fault(alloc, passed, names, fault, out),
+        Err(refused) => answer_refused_trim(alloc, required, refused, out),
     }
 }

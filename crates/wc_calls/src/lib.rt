@@ -1,7 +1,8 @@
 //! The calls on modules as calls on slices, for a caller that shares no other types: `dedupe` renames the repeated
 //! imports of a module, `trim` cuts an adapter to what its exports reach, `why` says why it imports what it does, and `world`
 //! makes the world of a component, which is described in JSON; `plan` makes its plan, `planned_world` both, and `validate`
-//! validates one of its modules. Each writes its answer to the front of a buffer of the caller's, and returns an `Answer`, which is numbers alone.
+//! validates one of its modules. `fault_text` gives the text of a fault of the first three by its number. Each writes its
+//! answer to the front of a buffer of the caller's, and returns an `Answer`, which is numbers alone.
 //! No call requires anything of its arguments. The maps of all but `dedupe` hash under a seed that is passed: whoever
 //! chooses names shouldn't know it.
 //!
@@ -33,22 +34,23 @@ mod encoders;
 mod explained;
 mod export_names;
 mod fault_answers;
+mod fault_texts;
 mod import_chains;
 mod import_options;
 mod memory_faults;
 mod message_fault;
 mod places;
 mod planned_worlds;
-mod refused_component;
-mod refused_message;
+mod refusals;
 mod renames;
 mod renaming;
 mod trimming;
 mod validation;
 
-pub use answers::{Answer, BAD_ARGUMENT, DONE, FAULT, MEMORY, SAME, TOO_SMALL};
+pub use answers::{Answer, BAD_ARGUMENT, DONE, FAULT, MEMORY, NO_SUCH_FAULT, SAME, TOO_SMALL};
 pub use component_plans::plan;
 pub use component_worlds::world;
+pub use fault_texts::{DEDUPE_CALL, TRIM_CALL, WHY_CALL, fault_text};
 pub use import_chains::why;
 pub use message_fault::MessageFault;
 pub use planned_worlds::planned_world;

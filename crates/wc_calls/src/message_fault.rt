@@ -1,20 +1,17 @@
 //! The faults of messages: why one has no component's world, or no plan.
 
-ghost use Rattle.std.specs.Prelude.{◌≡◌, Some};
+ghost use Rattle.std.specs.Prelude.{◌≡◌};
 ghost use Rattle.wc_calls.specs.MessageFault.{message_fault_number, message_fault_text};
 ghost use Rattle.wc_calls.specs.declared.message_fault.MessageFault.TheVariants.{Memory};
 
 use std::alloc::{AllocError, AllocFailed};
-use std::error::Error as StdError;
-use std::fmt;
+use thiserror::Error;
 use wc_dedupe::DedupeFault;
 use wc_encoder::EncoderFault;
 use wc_json::JsonFault;
 use wc_plan::PlanFault;
 use wc_resolve::ResolveFault;
-use wc_texts::{
-    CARRIED, FaultText, OUT_OF_MEMORY, Pieces, PutFailed, put_carried, put_quoted, show,
-};
+use wc_texts::{CARRIED, FaultText, OUT_OF_MEMORY, Pieces, PutFailed, put_carried, put_quoted};
 use wc_world::WorldFault;
 
 /// Why a message has no component's world, or no plan of it. Of several causes the first in this order is named, with
@@ -23,40 +20,56 @@ use wc_world::WorldFault;
 /// those of the main module are before those of adapters, and one that no export has is before one that is given twice.
 /// A `World` may carry a `Memory`, that of the step at which an allocation failed; no other does, and no answer of a call:
 /// that is `MEMORY`.
-#[derive(Debug, Drop)]
+#[derive(Debug, Drop, Error)]
 pub enum MessageFault {
     /// An allocation failed.
+    #[error("out of memory")]
     Memory,
     /// The message is not text, in UTF-8.
+    #[error("NotText")]
     NotText,
     /// The message is not what it has to be; the fault has the path to what is wrong.
+    #[error("Json: {0}")]
     Json(JsonFault),
-    /// No world has the name that the message has.
-    UnknownWorld,
+    /// No world has this name, which the message gives.
+    #[error("UnknownWorld `{0}`")]
+    UnknownWorld(String),
     /// The modules have not as many bytes as the message says.
+    #[error("Lengths")]
     Lengths,
     /// The worlds, interfaces, types and packages are not well-formed.
+    #[error("Resolve: {0}")]
     Resolve(ResolveFault),
     /// Two adapters have this name.
+    #[error("AdapterTwice `{0}`")]
     AdapterTwice(String),
     /// The main module's imports could not be renamed.
+    #[error("Main module: {0}")]
     Dedupe(DedupeFault),
     /// There is no encoder of these parts.
+    #[error("Encoder: {0}")]
     Encoder(EncoderFault),
     /// The component of the encoder has no world.
+    #[error("World: {0}")]
     World(WorldFault),
     /// The component's world has no plan. It carries neither `World` nor `Memory`.
+    #[error("Plan: {0}")]
     Plan(PlanFault),
-    /// Several worlds have the name that the message has.
-    SeveralWorlds,
+    /// Several worlds have this name, which the message gives.
+    #[error("SeveralWorlds `{0}`")]
+    SeveralWorlds(String),
     /// The world is given by its name, and a world says to be of a package that is not there.
+    #[error("PackageRange")]
     PackageRange,
     /// No export of the world has this key.
+    #[error("UnknownKey `{0}`")]
     UnknownKey(String),
     /// Several exports of the world have this key, but for their versions.
+    #[error("SeveralKeys `{0}`")]
     SeveralKeys(String),
     /// This key of an export is given twice, for one module or for two: as the same text, or as two texts of one export,
     /// with its version and without, or as its index.
+    #[error("RepeatedKey `{0}`")]
     RepeatedKey(String),
 }
 
@@ -70,7 +83,7 @@ impl MessageFault {
             MessageFault::Memory => 0,
             MessageFault::NotText => 1,
             MessageFault::Json(fault) => 2 + CARRIED * fault.number(),
-            MessageFault::UnknownWorld => 3,
+            MessageFault::UnknownWorld(_) => 3,
             MessageFault::Lengths => 4,
             MessageFault::Resolve(fault) => 5 + CARRIED * fault.number(),
             MessageFault::AdapterTwice(_) => 6,
@@ -78,7 +91,7 @@ impl MessageFault {
             MessageFault::Encoder(fault) => 8 + CARRIED * fault.number(),
             MessageFault::World(fault) => 9 + CARRIED * fault.number(),
             MessageFault::Plan(fault) => 10 + CARRIED * fault.number(),
-            MessageFault::SeveralWorlds => 11,
+            MessageFault::SeveralWorlds(_) => 11,
             MessageFault::PackageRange => 12,
             MessageFault::UnknownKey(_) => 13,
             MessageFault::SeveralKeys(_) => 14,
@@ -95,15 +108,15 @@ impl FaultText for MessageFault {
             MessageFault::Memory => out.put_piece(OUT_OF_MEMORY),
             MessageFault::NotText => out.put_piece("NotText"),
             MessageFault::Json(fault) => put_carried(out, "Json", fault),
-            MessageFault::UnknownWorld => out.put_piece("UnknownWorld"),
+            MessageFault::UnknownWorld(name) => put_quoted(out, "UnknownWorld", name),
             MessageFault::Lengths => out.put_piece("Lengths"),
             MessageFault::Resolve(fault) => put_carried(out, "Resolve", fault),
             MessageFault::AdapterTwice(name) => put_quoted(out, "AdapterTwice", name),
-            MessageFault::Dedupe(fault) => put_carried(out, "Dedupe", fault),
+            MessageFault::Dedupe(fault) => put_carried(out, "Main module", fault),
             MessageFault::Encoder(fault) => put_carried(out, "Encoder", fault),
             MessageFault::World(fault) => put_carried(out, "World", fault),
             MessageFault::Plan(fault) => put_carried(out, "Plan", fault),
-            MessageFault::SeveralWorlds => out.put_piece("SeveralWorlds"),
+            MessageFault::SeveralWorlds(name) => put_quoted(out, "SeveralWorlds", name),
             MessageFault::PackageRange => out.put_piece("PackageRange"),
             MessageFault::UnknownKey(key) => put_quoted(out, "UnknownKey", key),
             MessageFault::SeveralKeys(key) => put_quoted(out, "SeveralKeys", key),
@@ -111,16 +124,6 @@ impl FaultText for MessageFault {
         }
     }
 }
-
-impl fmt::Display for MessageFault {
-    ghost output = { λ fault. Some (message_fault_text fault) };
-
-    fn fmt<W: fmt::Write>(&self, f: &mut fmt::Formatter<W>) -> fmt::Result {
-        show(self, f)
-    }
-}
-
-impl StdError for MessageFault {}
 
 impl From<AllocError> for MessageFault {
     ghost from_gives = { λ _ e. e ≡ Memory };

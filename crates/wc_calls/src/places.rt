@@ -1,37 +1,22 @@
-//! The places of faults as JSON; no bytes where there is none.
+//! What faults are about, as JSON; no bytes where that is nothing.
 
 ghost use Rattle.std.specs.Prelude.{◌≡◌, IfOk, None};
-ghost use Rattle.wc_record.specs.Places.{part_json, trim_place_json, world_place_json};
-ghost use Rattle.wc_calls.specs.Places.{place_text};
+ghost use Rattle.wc_record.specs.Places.{bytes_json, trim_place_json};
+ghost use Rattle.wc_record.specs.Texts.{text_of};
+ghost use Rattle.wc_calls.specs.Places.{place_text, unplaced_world_text};
+ghost use Rattle.wc_calls.specs.Private.Refusals.{message_place_json, refusal_text, unplaced_text};
 
+use crate::message_fault::MessageFault;
+use crate::refusals::{MessagePlace, RefusedMessage};
 use std::alloc::{AllocError, Global};
 use wc_gc::TrimPlace;
-use wc_record::{part_to_json, trim_place_to_json, world_place_to_json};
-use wc_resolve::Part;
-use wc_world::WorldPlace;
-
-/// The place of a fault of a component's world.
-pub(crate) fn world_place_text(
-    alloc: Global,
-    place: &Option<WorldPlace>,
-) -> Result<Vec<u8>, AllocError>
-    ensures { IfOk result (λ v. v.items ≡ place_text world_place_json place.now) }
-{
-    match place {
-        Some(place) => world_place_to_json(alloc, place),
-        None => Ok(Vec::new(alloc)),
-    }
-}
-
-/// The part that a fault of worlds, interfaces, types and packages is about.
-pub(crate) fn part_text(alloc: Global, part: Option<Part>) -> Result<Vec<u8>, AllocError>
-    ensures { IfOk result (λ v. v.items ≡ place_text part_json part) }
-{
-    match part {
-        Some(part) => part_to_json(alloc, part),
-        None => Ok(Vec::new(alloc)),
-    }
-}
+use wc_read::ReadPlace;
+use wc_record::{
+    adapter_to_json, json_place_to_json, key_to_json, part_to_json, plan_place_to_json,
+    read_place_to_json, trim_fault_to_json, trim_place_to_json, world_place_to_json,
+    worlds_to_json,
+};
+use wc_world::WorldFault;
 
 /// The place of a fault of trimming.
 pub(crate) fn trim_place_text(
@@ -43,5 +28,66 @@ pub(crate) fn trim_place_text(
     match place {
         Some(place) => trim_place_to_json(alloc, place),
         None => Ok(Vec::new(alloc)),
+    }
+}
+
+/// The byte at which a module stops to be right.
+pub(crate) fn read_place_text(
+    alloc: Global,
+    place: Option<ReadPlace>,
+) -> Result<Vec<u8>, AllocError>
+    ensures { IfOk result (λ v. v.items ≡ place_text (bytes_json None) place) }
+{
+    match place {
+        Some(place) => read_place_to_json(alloc, place),
+        None => Ok(Vec::new(alloc)),
+    }
+}
+
+/// What the refusal of a message is about.
+pub(crate) fn refusal_text(alloc: Global, refused: &RefusedMessage) -> Result<Vec<u8>, AllocError>
+    ensures { IfOk result (λ v. v.items ≡ refusal_text refused.now.fault refused.now.place) }
+{
+    match &refused.place {
+        Some(place) => message_place_text(alloc, place),
+        None => unplaced_text(alloc, &refused.fault),
+    }
+}
+
+/// A place.
+fn message_place_text(alloc: Global, place: &MessagePlace) -> Result<Vec<u8>, AllocError>
+    ensures { IfOk result (λ v. v.items ≡ text_of (message_place_json place.now)) }
+{
+    match place {
+        MessagePlace::Json(place) => json_place_to_json(alloc, place),
+        MessagePlace::Worlds { name, worlds } => worlds_to_json(alloc, name, worlds),
+        MessagePlace::Part(part) => part_to_json(alloc, *part),
+        MessagePlace::Bytes(place) => read_place_to_json(alloc, *place),
+        MessagePlace::World(place) => world_place_to_json(alloc, place),
+        MessagePlace::Plan(place) => plan_place_to_json(alloc, place),
+    }
+}
+
+/// What a fault without a place is about.
+fn unplaced_text(alloc: Global, fault: &MessageFault) -> Result<Vec<u8>, AllocError>
+    ensures { IfOk result (λ v. v.items ≡ unplaced_text fault.now) }
+{
+    match fault {
+        MessageFault::World(fault) => unplaced_world_text(alloc, fault),
+        MessageFault::AdapterTwice(name) => adapter_to_json(alloc, name),
+        MessageFault::UnknownKey(key) => key_to_json(alloc, key),
+        MessageFault::SeveralKeys(key) => key_to_json(alloc, key),
+        MessageFault::RepeatedKey(key) => key_to_json(alloc, key),
+        _ => Ok(Vec::new(alloc)),
+    }
+}
+
+/// What a fault of a component's world is about that has no place.
+fn unplaced_world_text(alloc: Global, fault: &WorldFault) -> Result<Vec<u8>, AllocError>
+    ensures { IfOk result (λ v. v.items ≡ unplaced_world_text fault.now) }
+{
+    match fault {
+        WorldFault::Trim(adapter, fault) => trim_fault_to_json(alloc, adapter, fault),
+        _ => Ok(Vec::new(alloc)),
     }
 }

@@ -9,21 +9,21 @@ ghost use Rattle.wc_calls.specs.Answers.{AreOthersOfTextZero, IsPut, IsTextStatu
 ghost use Rattle.wc_calls.specs.ComponentWorlds.{IsFaultOf, modules_text};
 ghost use Rattle.wc_calls.specs.FaultAnswers.{IsFaultAnswered};
 ghost use Rattle.wc_calls.specs.PlannedWorlds.{IsPlannedText, IsPlannedWorldAnswer};
-ghost use Rattle.wc_calls.specs.Private.EncoderAnswers.{IsPlaceFor, IsPlanFaultFor};
+ghost use Rattle.wc_calls.specs.Private.EncoderAnswers.{IsPlanPlaceFor, IsPlanFaultFor};
 ghost use Rattle.wc_calls.specs.Private.OptionTables.{table_options};
-ghost use Rattle.wc_calls.specs.Private.PlannedAnswers.{IsPlanFaultOf, IsPlannedFor};
-ghost use Rattle.wc_calls.specs.Private.RefusedComponent.{IsPlacedFor};
+ghost use Rattle.wc_calls.specs.Private.PlannedAnswers.{IsPlanRefusalOf, IsPlannedFor};
+ghost use Rattle.wc_calls.specs.Private.Refusals.{IsPlanPlacedFor, IsWithoutPlace};
 ghost use Rattle.wc_calls.specs.declared.message_fault.MessageFault.TheVariants.{Memory};
 
 use crate::answers::{Answer, put};
 use crate::component_worlds::{WorldAnswer, modules_of};
 use crate::encoders::{WorldInput, world_input};
-use crate::explained::{answer_no_world, answer_refused};
-use crate::refused_component::RefusedComponent;
+use crate::explained::answer_refused;
+use crate::refusals::{RefusedMessage, plan_refusal, world_refusal};
 use std::alloc::Global;
 use wc_maps::Seed;
 use wc_plan::laws::worlds_nameable;
-use wc_plan::{Plan, plan};
+use wc_plan::{Plan, plan_explained};
 use wc_record::planned_world_to_json;
 use wc_world::ComponentWorld;
 
@@ -32,11 +32,11 @@ fn answer_of_plan(
     alloc: Global,
     world: &ComponentWorld<'_>,
     plan: &Plan,
-) -> Result<WorldAnswer, RefusedComponent>
+) -> Result<WorldAnswer, RefusedMessage>
     ensures modules { IfOk result (λ a. a.modules.items ≡ modules_text (world_view world.now)) }
     ensures json { IfOk result (λ a. a.json.items
         ≡ planned_world_text (world_view world.now) (plan_view plan.now)) }
-    ensures fault { IfErr result (λ x. x.fault ≡ Memory) }
+    ensures fault { IfErr result (IsWithoutPlace Memory) }
 {
     Ok(WorldAnswer {
         modules: modules_of(alloc, world)?,
@@ -45,33 +45,31 @@ fn answer_of_plan(
 }
 
 /// The answer for a component's world.
-fn answer_of_world(
-    alloc: Global,
-    world: &ComponentWorld<'_>,
-) -> Result<WorldAnswer, RefusedComponent>
+fn answer_of_world(alloc: Global, world: &ComponentWorld<'_>) -> Result<WorldAnswer, RefusedMessage>
     requires { AreNameable (world_view world.now) }
     ensures answer { IfOk result (λ a. IsPlannedText (world_view world.now)
         (length a.modules.items) (a.modules.items ++ a.json.items)) }
-    ensures fault { IfErr result (λ x. IsPlanFaultOf (world_view world.now) x.fault) }
+    ensures refusal { IfErr result (IsPlanRefusalOf (world_view world.now)) }
 {
-    match plan(alloc, world) {
+    match plan_explained(alloc, world) {
         Ok(plan) => answer_of_plan(alloc, world, &plan),
-        Err(fault) => Err(RefusedComponent::from(fault)),
+        Err(refused) => Err(plan_refusal(refused)),
     }
 }
 
 /// The answer for an encoder and options.
-fn answer_of_input(alloc: Global, input: &WorldInput) -> Result<WorldAnswer, RefusedComponent>
+fn answer_of_input(alloc: Global, input: &WorldInput) -> Result<WorldAnswer, RefusedMessage>
     ensures answer { IfOk result (λ a. IsPlannedFor (table_options input.now.options)
         input.now.encoder (length a.modules.items) (a.modules.items ++ a.json.items)) }
     ensures fault { IfErr result (λ x. IsPlanFaultFor (table_options input.now.options)
         input.now.encoder x.fault) }
-    ensures place { IfErr result (λ x. IsPlacedFor input.now.encoder x.fault x.place) }
+    ensures place { IfErr result (λ x. IsPlanPlacedFor (table_options input.now.options)
+        input.now.encoder x.fault x.place) }
 {
     worlds_nameable(&input.encoder);
     match ComponentWorld::new_explained(alloc, &input.encoder, &input.options) {
         Ok(world) => answer_of_world(alloc, &world),
-        Err(refused) => Err(RefusedComponent::from(refused)),
+        Err(refused) => Err(world_refusal(refused)),
     }
 }
 
@@ -84,14 +82,15 @@ fn planned_world_for(alloc: Global, input: &WorldInput, out: &mut [u8]) -> Answe
         result.module_length) result.length out.old }
     ensures fault { result.status ≡ failed
         → IsFaultAnswered (IsPlanFaultFor (table_options input.now.options) input.now.encoder)
-        (IsPlaceFor input.now.encoder) result out.old out.new }
+        (IsPlanPlaceFor (table_options input.now.options) input.now.encoder)
+        result out.old out.new }
     ensures unchanged { result.status ≢ done → result.status ≢ failed → out.new ≡ out.old }
     ensures statuses { IsTextStatus result.status }
     ensures others { AreOthersOfTextZero result }
 {
     match answer_of_input(alloc, input) {
         Ok(answer) => put(&answer.modules, &answer.json, out),
-        Err(refused) => answer_no_world(alloc, &refused, out),
+        Err(refused) => answer_refused(alloc, &refused, out),
     }
 }
 

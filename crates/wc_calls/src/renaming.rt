@@ -1,21 +1,26 @@
 //! The call that renames repeated imports.
 
-ghost use Rattle.std.specs.Prelude.{◌≡◌, ◌≢◌, ◌≤◌, ◌⊎◌, ◌<◌, ◌++◌, [], false, length};
+ghost use Rattle.std.specs.Prelude.{◌≡◌, ◌≢◌, ◌≤◌, ◌⊎◌, ◌<◌, ◌++◌, [], None, false, length};
 ghost use Rattle.wc_read.specs.Sections.{IsComponent};
 ghost use Rattle.wc_dedupe.specs.Dedupe.{IsDeduped};
 ghost use Rattle.wc_dedupe.specs.Renames.{rename_values};
 ghost use Rattle.wc_calls.specs.Renames.{renames_text};
-ghost use Rattle.wc_calls.specs.Answers.{AreOthersZero, HasNoBytes, HasNoFault, IsFront, IsBytesStatus, IsPut, IsTooLong, done, failed, too_small, same, bad_argument, out_of_memory};
+ghost use Rattle.wc_record.specs.Places.{bytes_json};
+ghost use Rattle.wc_calls.specs.Answers.{AreOthersOfTextZero, HasNoBytes, HasNoFault, IsFaultPut, IsFront, IsBytesStatus, IsPut, IsTooLong, done, failed, too_small, same, bad_argument, out_of_memory};
 ghost use Rattle.wc_dedupe.specs.Fault.{dedupe_fault_number};
 ghost use Rattle.wc_calls.specs.MemoryFaults.{dedupe_is_memory};
+ghost use Rattle.wc_calls.specs.Places.{place_text};
 ghost use Rattle.wc_calls.specs.Renaming.{IsRenamed, IsRenamingFault};
 
-use crate::answers::{Answer, MEMORY, SAME, answer_without_bytes, fault_answer, put};
+use crate::answers::{Answer, MEMORY, SAME, answer_without_bytes, put, put_refusal};
 use crate::memory_faults::dedupe_is_memory;
+use crate::places::read_place_text;
 use crate::renames::renames_text;
 use std::alloc::Global;
 use std::borrow::CowSlice;
 use wc_dedupe::{DedupeFault, ModuleImportMap, Rename};
+use wc_read::ReadPlace;
+use wc_texts::Refused;
 
 /// Renames the imports of a module so that no two share a module and a name, as `ModuleImportMap::new` does.
 ///
@@ -27,46 +32,56 @@ use wc_dedupe::{DedupeFault, ModuleImportMap, Rename};
 /// - `TOO_SMALL`: the same would have `length` bytes, and `out` has fewer.
 /// - `SAME`: no import repeats, or the bytes are a component's. So it is for every component.
 /// - `FAULT`: the fault of `ModuleImportMap::new`, by its number (`DedupeFault::number`). It neither is nor
-///   carries a `Memory`.
+///   carries a `Memory`. `length` is how many bytes the JSON object has that says where the module stops to be right, as
+///   that of `world`; it is in the front of `out`, if `out` has so many. It is 0 where there is none.
 /// - `MEMORY`: an allocation failed.
 ///
-/// It is never `BAD_ARGUMENT`. `out` is as it was but for `DONE`, and then after the first `length` bytes. Numbers of the
-/// answer that nothing is said of are 0.
+/// It is never `BAD_ARGUMENT`. `out` is as it was but for `DONE` and `FAULT`, and then after the first `length` bytes.
+/// Numbers of the answer that nothing is said of are 0.
 pub fn dedupe(alloc: Global, wasm: &[u8], out: &mut [u8]) -> Answer
     ensures done { result.status ≡ done
         → IsPut (IsRenamed wasm.now result.module_length) result.length out.old out.new }
     ensures too_small { result.status ≡ too_small
         → IsTooLong (IsRenamed wasm.now result.module_length) result.length out.old }
     ensures same { result.status ≡ same → IsDeduped wasm.now wasm.now [] }
-    ensures fault { result.status ≡ failed → IsRenamingFault wasm.now result.fault }
+    ensures fault { result.status ≡ failed → IsRenamingFault wasm.now result out.old out.new }
     ensures component { IsComponent wasm.now → result.status ≡ same }
-    ensures unchanged { result.status ≢ done → out.new ≡ out.old }
+    ensures unchanged { result.status ≢ done → result.status ≢ failed → out.new ≡ out.old }
     ensures statuses { (result.status ≤ 5) × (result.status ≢ bad_argument) }
     ensures position { result.position ≡ 0 }
-    ensures others { AreOthersZero result }
+    ensures others { AreOthersOfTextZero result }
 {
-    match ModuleImportMap::new(alloc, CowSlice::Borrowed(wasm)) {
+    match ModuleImportMap::new_explained(alloc, CowSlice::Borrowed(wasm)) {
         Ok((module, map)) => match map {
             Some(map) => put_renamed(alloc, module.as_slice(), map.renames(), out),
             None => answer_without_bytes(SAME),
         },
-        Err(fault) => answer_dedupe_fault(fault),
+        Err(refused) => answer_refused_module(alloc, &refused, out),
     }
 }
 
-/// Answers a fault of renaming; one that is or carries a `Memory` as that an allocation failed.
-fn answer_dedupe_fault(fault: DedupeFault) -> Answer
-    ensures memory { result.status ≡ failed → dedupe_is_memory fault ≡ false }
-    ensures number { result.status ≡ failed → result.fault ≡ dedupe_fault_number fault }
+/// Answers a fault of renaming with what it is about; one that is or carries a `Memory` as that an allocation failed.
+fn answer_refused_module(
+    alloc: Global,
+    refused: &Refused<DedupeFault, ReadPlace>,
+    out: &mut [u8],
+) -> Answer
+    ensures memory { result.status ≡ failed → dedupe_is_memory refused.now.fault ≡ false }
+    ensures fault { result.status ≡ failed
+        → IsFaultPut (dedupe_fault_number refused.now.fault) 0
+        (place_text (bytes_json None) refused.now.place) result out.old out.new }
+    ensures unchanged { result.status ≢ failed → out.new ≡ out.old }
     ensures statuses { (result.status ≡ failed) ⊎ (result.status ≡ out_of_memory) }
     ensures position { result.position ≡ 0 }
-    ensures no_fault { result.status ≢ failed → HasNoFault result }
-    ensures no_bytes { HasNoBytes result }
+    ensures others { AreOthersOfTextZero result }
 {
-    if dedupe_is_memory(fault) {
+    if dedupe_is_memory(refused.fault) {
         return answer_without_bytes(MEMORY);
     }
-    fault_answer(fault.number(), 0)
+    match read_place_text(alloc, refused.place) {
+        Ok(place) => put_refusal(refused.fault.number(), 0, &place, out),
+        Err(_) => answer_without_bytes(MEMORY),
+    }
 }
 
 /// Writes a renamed module, and then its renames.

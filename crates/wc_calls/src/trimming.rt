@@ -3,23 +3,23 @@
 ghost use Rattle.std.specs.Prelude.{◌≡◌, ◌≢◌, ◌<◌, ◌≤◌, ◌⊎◌, [], false, length, IfOk, IfErr};
 ghost use Rattle.std.specs.List.{All};
 ghost use Rattle.std.specs.Str.{IsUtf8};
-ghost use Rattle.wc_gc.specs.LiveItems.{trim_input, trim_input_for_names};
+ghost use Rattle.wc_gc.specs.LiveItems.{trim_input_for_names};
 ghost use Rattle.wc_gc.specs.Parts.{settings};
 ghost use Rattle.wc_gc.specs.TrimmedText.{IsTrimmed};
 ghost use Rattle.wc_calls.specs.Answers.{AreOthersOfTextZero, IsBytesStatus, IsFront, IsPut, IsTooLong, done, failed, too_small, same, bad_argument, out_of_memory};
 ghost use Rattle.wc_calls.specs.ExportNames.{texts};
 ghost use Rattle.wc_calls.specs.MemoryFaults.{gc_is_memory};
-ghost use Rattle.wc_calls.specs.Places.{IsTrimPlaceText};
-ghost use Rattle.wc_calls.specs.Private.TrimArguments.{IsRefusedFor, passed_input};
-ghost use Rattle.wc_calls.specs.Trimming.{AreArguments, IsTrimFaultAnswer, IsTrimmingFault, position_in};
+ghost use Rattle.wc_calls.specs.Private.TrimArguments.{IsTrimAnswered, passed_input};
+ghost use Rattle.wc_calls.specs.Trimming.{AreArguments, IsTrimmingFault, position_in};
 
-use crate::answers::{Answer, BAD_ARGUMENT, FAULT, MEMORY, answer_without_bytes, put};
+use crate::answers::{Answer, BAD_ARGUMENT, MEMORY, answer_without_bytes, put, put_refusal};
 use crate::export_names::{are_texts, name_set, optional_text, position_of};
 use crate::memory_faults::gc_is_memory;
 use crate::places::trim_place_text;
-use std::alloc::{AllocError, Global};
-use wc_gc::{GcFault, explain, run};
-use wc_maps::{Seed, Set};
+use std::alloc::Global;
+use wc_gc::{GcFault, TrimPlace, run_explained};
+use wc_maps::Seed;
+use wc_texts::Refused;
 
 /// The largest exponent of a page size: a page has 2^16 bytes at most.
 const MAX_PAGE_SIZE_LOG2: u32 = 16;
@@ -33,7 +33,7 @@ const MAX_PAGE_SIZE_LOG2: u32 = 16;
 /// - `BAD_ARGUMENT`: exactly where `required` is empty, a name is no text (UTF-8), or `page_size_log2` is more than 16.
 /// - `FAULT`: the fault of `run`, by its number (`GcFault::number`). It neither is nor carries a `Memory`. Of a missing
 ///   export `position` is where its name is first in `required`. `length` is how many bytes the JSON object has that says
-///   what the fault is about (`wc_gc::explain`), as that of `world` without an adapter; it is in the front of `out`, if
+///   what the fault is about (`wc_gc::TrimPlace`), as that of `world` without an adapter; it is in the front of `out`, if
 ///   `out` has so many. It is 0 where there is none.
 /// - `MEMORY`: an allocation failed.
 ///
@@ -84,11 +84,11 @@ pub fn trim(
 
 /// The arguments by which an adapter is trimmed.
 #[derive(Clone, Copy)]
-pub(crate) struct Arguments<'a> {
-    pub wasm: &'a [u8],
-    pub required: &'a [&'a [u8]],
-    pub realloc: Option<&'a str>,
-    pub page_size_log2: u32,
+struct Arguments<'a> {
+    wasm: &'a [u8],
+    required: &'a [&'a [u8]],
+    realloc: Option<&'a str>,
+    page_size_log2: u32,
 }
 
 /// Trims an adapter by arguments that `run` takes.
@@ -114,36 +114,21 @@ fn trim_for_names(alloc: Global, seed: Seed, passed: Arguments<'_>, out: &mut [u
     let Ok(names) = name_set(alloc, seed, passed.required) else {
         return answer_without_bytes(MEMORY);
     };
-    let trimmed = run(
+    let trimmed = run_explained(
         alloc,
         passed.wasm,
         &names,
         passed.realloc,
         passed.page_size_log2,
     );
-    put_trimmed(alloc, passed, &names, &trimmed, out)
-}
-
-/// The place of a fault of trimming, as JSON; no bytes where there is none.
-fn fault_place(
-    alloc: Global,
-    wasm: &[u8],
-    names: &Set<String>,
-    fault: &GcFault,
-) -> Result<Vec<u8>, AllocError>
-    ensures { IfOk result
-        (λ v. IsTrimPlaceText (trim_input wasm.now names.now.keys) fault.now v.items) }
-{
-    let place = explain(alloc, wasm, names, fault)?;
-    trim_place_text(alloc, place)
+    put_trimmed(alloc, passed.required, &trimmed, out)
 }
 
 /// Writes what trimming answered for an adapter and names; of a fault what it is about.
 fn put_trimmed(
     alloc: Global,
-    passed: Arguments<'_>,
-    names: &Set<String>,
-    trimmed: &Result<Vec<u8>, GcFault>,
+    required: &[&[u8]],
+    trimmed: &Result<Vec<u8>, Refused<GcFault, TrimPlace>>,
     out: &mut [u8],
 ) -> Answer
     ensures module_length { result.status ≢ failed → result.module_length ≡ result.length }
@@ -157,52 +142,45 @@ fn put_trimmed(
         × (result.status ≢ too_small)) }
     ensures fault_or_memory { IfErr trimmed.now (λ _. (result.status ≡ failed)
         ⊎ (result.status ≡ out_of_memory)) }
-    ensures memory { IfErr trimmed.now (λ f. result.status ≡ failed → gc_is_memory f ≡ false) }
-    ensures fault { IfErr trimmed.now (λ f. IsRefusedFor passed.entry names.now.keys f
-        result out.old out.new) }
+    ensures memory { IfErr trimmed.now (λ x. result.status ≡ failed
+        → gc_is_memory x.fault ≡ false) }
+    ensures fault { IfErr trimmed.now (λ x. result.status ≡ failed
+        → IsTrimAnswered (texts required.now) x result out.old out.new) }
     ensures unchanged { result.status ≢ done → result.status ≢ failed → out.new ≡ out.old }
     ensures others { AreOthersOfTextZero result }
 {
     match trimmed {
         Ok(bytes) => put(bytes.as_slice(), &[], out),
-        Err(fault) => answer_trim_fault(alloc, passed, names, fault, out),
+        Err(refused) => answer_refused_trim(alloc, required, refused, out),
     }
 }
 
 /// Answers a fault of trimming with what it is about; one that is or carries a `Memory` as that an allocation failed.
-pub(crate) fn answer_trim_fault(
+pub(crate) fn answer_refused_trim(
     alloc: Global,
-    passed: Arguments<'_>,
-    names: &Set<String>,
-    fault: &GcFault,
+    required: &[&[u8]],
+    refused: &Refused<GcFault, TrimPlace>,
     out: &mut [u8],
 ) -> Answer
-    ensures memory { result.status ≡ failed → gc_is_memory fault.now ≡ false }
-    ensures fault { IsRefusedFor passed.entry names.now.keys fault.now result out.old out.new }
+    ensures memory { result.status ≡ failed → gc_is_memory refused.now.fault ≡ false }
+    ensures fault { result.status ≡ failed
+        → IsTrimAnswered (texts required.now) refused.now result out.old out.new }
     ensures unchanged { result.status ≢ failed → out.new ≡ out.old }
     ensures statuses { (result.status ≡ failed) ⊎ (result.status ≡ out_of_memory) }
     ensures others { AreOthersOfTextZero result }
 {
+    let fault = &refused.fault;
     if gc_is_memory(fault) {
         return answer_without_bytes(MEMORY);
     }
-    match fault_place(alloc, passed.wasm, names, fault) {
-        Ok(place) => put_trim_fault(fault, &place, passed.required, out),
+    match trim_place_text(alloc, refused.place) {
+        Ok(place) => put_refusal(
+            fault.number(),
+            missing_position(fault, required),
+            &place,
+            out,
+        ),
         Err(_) => answer_without_bytes(MEMORY),
-    }
-}
-
-/// Answers a fault of trimming, and writes what it is about to the front of the buffer, if it has room for that.
-fn put_trim_fault(fault: &GcFault, place: &[u8], required: &[&[u8]], out: &mut [u8]) -> Answer
-    ensures { IsTrimFaultAnswer (texts required.now) fault.now place.now result out.old out.new }
-{
-    let answer = put(&[], place, out);
-    Answer {
-        status: FAULT,
-        fault: fault.number(),
-        length: answer.length,
-        module_length: 0,
-        position: missing_position(fault, required),
     }
 }
 

@@ -11,13 +11,13 @@ ghost use Rattle.wc_world.specs.World.{IsMainRecord};
 ghost use Rattle.wc_calls.specs.Answers.{AreOthersOfFaultZero, IsCheckStatus, IsModuleStatus, bad_argument, done, failed, same, too_small};
 ghost use Rattle.wc_calls.specs.FaultAnswers.{IsFaultAnswered};
 ghost use Rattle.wc_calls.specs.Private.ModuleAnswers.{IsInputFault, IsInputPlaceFor, IsInputRefusal, IsInputValid, IsMainCause, IsModuleFault, IsModulePlaceFor};
-ghost use Rattle.wc_calls.specs.Private.RefusedComponent.{IsPlacedFor};
+ghost use Rattle.wc_calls.specs.Private.Refusals.{IsPlacedFor};
 ghost use Rattle.wc_calls.specs.Validation.{IsModuleValid, IsNoModule, IsNoModuleOf, IsValidOf, IsValidationFaultOf};
 
 use crate::answers::{Answer, BAD_ARGUMENT, DONE, MEMORY, answer_without_bytes};
 use crate::encoders::world_input;
-use crate::explained::{answer_no_world, answer_refused};
-use crate::refused_component::RefusedComponent;
+use crate::explained::answer_refused;
+use crate::refusals::{RefusedMessage, world_refusal};
 use std::alloc::Global;
 use std::str;
 use wc_encoder::{Adapter, ComponentEncoder};
@@ -43,10 +43,7 @@ struct ValidMain<'a> {
 }
 
 /// What is recorded of the main module.
-fn main_record(
-    alloc: Global,
-    encoder: &ComponentEncoder,
-) -> Result<ValidatedModule, RefusedComponent>
+fn main_record(alloc: Global, encoder: &ComponentEncoder) -> Result<ValidatedModule, RefusedMessage>
     ensures recorded { IfOk result (λ v. IsMainRecord encoder.now (module_record v)) }
     ensures fault { IfErr result (λ x. IsMainCause encoder.now x.fault) }
     ensures place { IfErr result (λ x. IsPlacedFor encoder.now x.fault x.place) }
@@ -55,12 +52,12 @@ fn main_record(
     let import_map = encoder.module_import_map();
     match validate_module_explained(alloc, encoder, bytes, import_map) {
         Ok(module) => Ok(module),
-        Err(refused) => Err(RefusedComponent::from(main_refusal(refused))),
+        Err(refused) => Err(world_refusal(main_refusal(refused))),
     }
 }
 
 /// Validates an adapter or a library.
-fn check_input(alloc: Global, input: AdapterInput<'_>) -> Result<(), RefusedComponent>
+fn check_input(alloc: Global, input: AdapterInput<'_>) -> Result<(), RefusedMessage>
     ensures valid { OnOk result (IsInputValid input.entry) }
     ensures fault { IfErr result (IsInputRefusal input.entry) }
 {
@@ -74,7 +71,7 @@ fn check_input(alloc: Global, input: AdapterInput<'_>) -> Result<(), RefusedComp
         adapter.library_info.as_ref(),
     ) {
         Ok(_record) => Ok(()),
-        Err(refused) => Err(RefusedComponent::from(adapter_refusal(alloc, input.name, refused))),
+        Err(refused) => Err(world_refusal(adapter_refusal(alloc, input.name, refused))),
     }
 }
 
@@ -89,7 +86,7 @@ fn validate_input(alloc: Global, input: AdapterInput<'_>, out: &mut [u8]) -> Ans
 {
     match check_input(alloc, input) {
         Ok(()) => answer_without_bytes(DONE),
-        Err(refused) => answer_no_world(alloc, &refused, out),
+        Err(refused) => answer_refused(alloc, &refused, out),
     }
 }
 
@@ -235,7 +232,7 @@ fn validate_for(
             let validated = &module;
             validate_other(alloc, ValidMain { encoder, validated }, adapter, out)
         }
-        Err(refused) => answer_no_world(alloc, &refused, out),
+        Err(refused) => answer_refused(alloc, &refused, out),
     }
 }
 

@@ -14,14 +14,12 @@ use wc_fixtures::words::Words;
 use wc_gc::GcFault;
 use wc_lines::lines::Lines;
 use wc_lines::rows::Row;
-use wc_module_rows::validation::answers::{PutAbout, put_last_about, put_last_line};
+use wc_module_rows::validation::answers::{PutAbout, put_last_about, put_last_fault};
 use wc_module_rows::validation::described_modules::described_of;
 use wc_resolve::Resolve;
+use wc_texts::Refused;
 use wc_validate::ValidateFault;
-use wc_world::{
-    ComponentWorld, ImportOptions, ModulePlace, PlainOptions, RefusedWorld, WorldFault, WorldPlace,
-    explain,
-};
+use wc_world::{ComponentWorld, ImportOptions, ModulePlace, PlainOptions, WorldFault, WorldPlace};
 
 /// A fault; and after PageSize the adapter, and the bytes in its pages and in the main module's.
 fn put_fault(fault: &WorldFault, out: &mut Lines) {
@@ -50,79 +48,72 @@ fn put_world_place(place: &WorldPlace, out: &mut Lines) {
     match &place.place {
         ModulePlace::Validation(place) => writeln!(out, "{place}"),
         ModulePlace::Trim(place) => writeln!(out, "{place}"),
+        ModulePlace::PageSizes { own, main } => writeln!(out, "pages {own} {main}"),
     }
 }
 
-/// That the lines of a fault are asked for, and of what it is about.
-#[derive(Clone, Copy)]
-struct OfFault<'a> {
-    fault: &'a WorldFault,
-}
-
-impl<'a> PutAbout<OfFault<'a>> for Result<Option<WorldPlace>, AllocError> {
-    /// Puts the fault, and the place.
-    fn put_about(&self, _alloc: Global, about: &OfFault<'a>, out: &mut Lines) {
-        put_fault(about.fault, out);
-        match self {
-            Ok(Some(place)) => put_world_place(place, out),
-            Ok(None) => out.push_str("none\n"),
-            Err(_) => out.lack_memory(),
-        }
+/// Puts why a world is refused, and what that is about.
+fn put_refusal(refused: &Refused<WorldFault, WorldPlace>, out: &mut Lines) {
+    put_fault(&refused.fault, out);
+    match &refused.place {
+        Some(place) => put_world_place(place, out),
+        None => out.push_str("none\n"),
     }
 }
 
-/// The lines of a refused world that another call answered.
+/// The lines of the fault that another call answered.
 #[derive(Clone, Copy)]
-struct OtherLines<'a> {
+struct OtherFault<'a> {
     lines: &'a Lines,
 }
 
-impl<'a, 'b> PutAbout<OtherLines<'a>> for Result<ComponentWorld<'b>, RefusedWorld> {
-    /// Puts why a world is refused, and what that is about, unless that is as another call answered it.
-    fn put_about(&self, alloc: Global, other: &OtherLines<'a>, out: &mut Lines) {
+impl<'a, 'b> PutAbout<OtherFault<'a>>
+    for Result<ComponentWorld<'b>, Refused<WorldFault, WorldPlace>> {
+    /// Puts why a world is refused, and what that is about; before it the fault of another call, where that is another one.
+    fn put_about(&self, alloc: Global, other: &OtherFault<'a>, out: &mut Lines) {
         match self {
-            Ok(_) => out.push_str("ok\n"),
-            Err(refused) => put_unlike(alloc, refused, other.lines, out),
+            Ok(_) => {
+                out.push_lines(other.lines);
+                out.push_str("ok\n");
+            }
+            Err(refused) => {
+                let mut fault = Lines::new(alloc);
+                put_fault(&refused.fault, &mut fault);
+                if fault.text() != other.lines.text() {
+                    out.push_lines(other.lines);
+                }
+                put_refusal(refused, out);
+            }
         }
     }
 }
 
-/// Puts the lines of a refused world, unless they are those that another call answered.
-fn put_unlike(alloc: Global, refused: &RefusedWorld, others: &Lines, out: &mut Lines) {
-    let about = OfFault {
-        fault: &refused.fault,
-    };
-    let mut lines = Lines::new(alloc);
-    refused.place.put_about(alloc, &about, &mut lines);
-    if lines.text() != others.text() {
-        out.push_lines(&lines);
+/// That the fault of a world is put, if it has one.
+#[derive(Clone, Copy)]
+struct FaultAlone;
+
+impl<'b> PutAbout<FaultAlone> for Result<ComponentWorld<'b>, WorldFault> {
+    fn put_about(&self, _alloc: Global, _about: &FaultAlone, out: &mut Lines) {
+        match self {
+            Ok(_) => {}
+            Err(fault) => put_fault(fault, out),
+        }
     }
 }
 
-/// Puts a fault and what it is about, as two calls answer both; once, where they agree.
-fn put_explained(alloc: Global, encoder: &ComponentEncoder, fault: &WorldFault, out: &mut Lines) {
+/// `component_world explain`: why there is no world, and what that is about; `ok` where there is one.
+fn explain_world(alloc: Global, encoder: &ComponentEncoder, out: &mut Lines) {
     let mut lines = Lines::new(alloc);
-    let place = explain(alloc, encoder, fault);
-    put_last_about(alloc, &OfFault { fault }, place, &mut lines);
-    out.push_lines(&lines);
-    let world = ComponentWorld::new_explained(alloc, encoder, &PlainOptions);
-    put_last_about(alloc, &OtherLines { lines: &lines }, world, out);
+    let world = ComponentWorld::new(alloc, encoder, &PlainOptions);
+    put_last_about(alloc, &FaultAlone, world, &mut lines);
+    let explained = ComponentWorld::new_explained(alloc, encoder, &PlainOptions);
+    put_last_about(alloc, &OtherFault { lines: &lines }, explained, out);
 }
 
-/// The parts that are asked for of the world of an encoder.
+/// The parts that are asked for of a world.
 #[derive(Clone, Copy)]
 struct AskedParts<'a> {
-    encoder: &'a ComponentEncoder,
     parts: &'a [&'a str],
-}
-
-/// Puts a fault; and what it is about, where the first part that is asked for is `explain`.
-fn put_refused(alloc: Global, asked: &AskedParts<'_>, fault: &WorldFault, out: &mut Lines) {
-    if asked.parts.first() == Some(&"explain") {
-        put_explained(alloc, asked.encoder, fault, out);
-    } else {
-        put_fault(fault, out);
-    }
 }
 
 impl<'a, 'b> PutAbout<AskedParts<'a>> for Result<ComponentWorld<'b>, WorldFault> {
@@ -130,16 +121,18 @@ impl<'a, 'b> PutAbout<AskedParts<'a>> for Result<ComponentWorld<'b>, WorldFault>
     fn put_about(&self, alloc: Global, asked: &AskedParts<'a>, out: &mut Lines) {
         match self {
             Ok(world) => put_parts(alloc, world, asked.parts, out),
-            Err(fault) => put_refused(alloc, asked, fault, out),
+            Err(fault) => put_fault(fault, out),
         }
     }
 }
 
-/// `component_world PART..`, by plain options. `component_world explain`: why there is none, and what that is about.
+/// `component_world PART..`, by plain options, or `component_world explain`.
 fn component_world(alloc: Global, encoder: &ComponentEncoder, parts: &[&str], out: &mut Lines) {
-    let asked = AskedParts { encoder, parts };
+    if parts.first() == Some(&"explain") {
+        return explain_world(alloc, encoder, out);
+    }
     let world = ComponentWorld::new(alloc, encoder, &PlainOptions);
-    put_last_about(alloc, &asked, world, out);
+    put_last_about(alloc, &AskedParts { parts }, world, out);
 }
 
 /// Where the input has a script, the main module is the one that its lines describe.
@@ -191,10 +184,10 @@ fn adapter_fault(alloc: Global, number: u32) -> Result<WorldFault, AllocError> {
 
 /// The text of each fault, in the order of `WorldFault`.
 fn put_faults(alloc: Global, out: &mut Lines) -> Result<(), AllocError> {
-    put_last_line(out, WorldFault::Memory);
-    put_last_line(out, WorldFault::Main(ValidateFault::NotAModule));
+    put_last_fault(alloc, WorldFault::Memory, out);
+    put_last_fault(alloc, WorldFault::Main(ValidateFault::NotAModule), out);
     for number in 0..4 {
-        put_last_line(out, adapter_fault(alloc, number)?);
+        put_last_fault(alloc, adapter_fault(alloc, number)?, out);
     }
     Ok(())
 }

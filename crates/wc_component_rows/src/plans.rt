@@ -10,10 +10,12 @@ use wc_lines::lines::Lines;
 use wc_lines::rows::Row;
 use wc_lines::seeds::row_seed;
 use wc_maps::Map;
-use wc_module_rows::validation::answers::{PutAbout, put_last_about, put_last_line};
+use wc_module_rows::validation::answers::{PutAbout, put_last_about, put_last_fault};
 use wc_plan::laws::worlds_nameable;
-use wc_plan::{Plan, PlanFault, plan, plan_encoder, write_plan};
+use wc_plan::{Plan, PlanFault, PlanPlace, plan, plan_encoder, plan_explained, write_plan};
 use wc_record::plan_to_json;
+use wc_resolve::AbiVariant;
+use wc_texts::Refused;
 use wc_validate::ValidateFault;
 use wc_world::{ComponentWorld, PlainOptions, WorldFault};
 use wc_write::{PutFailed, Sink};
@@ -60,6 +62,61 @@ fn put_fault(fault: &PlanFault, out: &mut Lines) {
         PlanFault::NoRealloc(name) => writeln!(out, "of {name}"),
         PlanFault::NoLowering(name) => writeln!(out, "of {name}"),
         _ => {}
+    }
+}
+
+/// The function that a fault of a plan is about, as a line of the plan begins.
+fn put_plan_place(place: &PlanPlace, out: &mut Lines) {
+    match &place.adapter {
+        Some(name) => write!(out, "adapter {name}"),
+        None => out.push_str("main"),
+    }
+    let interface = match &place.interface {
+        Some(interface) => interface.as_str(),
+        None => "$root",
+    };
+    let name = &place.name;
+    let abi = match place.abi {
+        AbiVariant::GuestImportAsync => "async",
+        _ => "sync",
+    };
+    writeln!(out, " {interface} {name} {abi}");
+}
+
+/// Why there is no plan, and the function that this is about; `ok` where there is one.
+fn put_plan_refusal(refused: &Refused<PlanFault, PlanPlace>, out: &mut Lines) {
+    let fault = &refused.fault;
+    writeln!(out, "fault {fault}");
+    match &refused.place {
+        Some(place) => put_plan_place(place, out),
+        None => out.push_str("none\n"),
+    }
+}
+
+/// That it is asked why there is no plan.
+#[derive(Clone, Copy)]
+struct WhyRefused;
+
+impl PutAbout<WhyRefused> for Result<Plan, Refused<PlanFault, PlanPlace>> {
+    fn put_about(&self, _alloc: Global, _about: &WhyRefused, out: &mut Lines) {
+        match self {
+            Ok(_) => out.push_str("ok\n"),
+            Err(refused) => put_plan_refusal(refused, out),
+        }
+    }
+}
+
+/// The plan of the encoder's world, or why there is none, and the function that this is about. Of a world that there is not
+/// no function is.
+fn explained_plan(
+    alloc: Global,
+    encoder: &ComponentEncoder,
+) -> Result<Plan, Refused<PlanFault, PlanPlace>> {
+    // So what is imported can be named.
+    worlds_nameable(encoder);
+    match ComponentWorld::new(alloc, encoder, &PlainOptions) {
+        Ok(world) => plan_explained(alloc, &world),
+        Err(fault) => Err(Refused::without_place(PlanFault::from(fault))),
     }
 }
 
@@ -133,13 +190,13 @@ fn function_fault(alloc: Global, number: u32) -> Result<PlanFault, AllocError> {
 
 /// The text of each fault, in the order of `PlanFault`.
 fn put_faults(alloc: Global, out: &mut Lines) -> Result<(), AllocError> {
-    put_last_line(out, PlanFault::Memory);
+    put_last_fault(alloc, PlanFault::Memory, out);
     for number in 0..3 {
-        put_last_line(out, function_fault(alloc, number)?);
+        put_last_fault(alloc, function_fault(alloc, number)?, out);
     }
     let main = WorldFault::Main(ValidateFault::NotAModule);
-    put_last_line(out, PlanFault::World(main));
-    put_last_line(out, PlanFault::Output);
+    put_last_fault(alloc, PlanFault::World(main), out);
+    put_last_fault(alloc, PlanFault::Output, out);
     Ok(())
 }
 
@@ -149,6 +206,8 @@ pub enum Call {
     Plan,
     /// The plan as JSON.
     Json,
+    /// Why there is no plan, and the function that this is about.
+    Explain,
     /// `plan_failing PUTS`: the lines, over a sink that fails after so many puts.
     Failing,
     /// The plan of the world, all of whose lowerings are taken away.
@@ -210,7 +269,9 @@ impl PutAbout<Asked> for Result<Plan, PlanFault> {
 /// Puts the answer to a call on the plan of an encoder's world.
 fn put_planned(alloc: Global, call: Call, encoder: &ComponentEncoder, puts: u32, out: &mut Lines) {
     let asked = Asked { call, puts };
-    if matches!(call, Call::WithoutLowerings) {
+    if matches!(call, Call::Explain) {
+        put_last_about(alloc, &WhyRefused, explained_plan(alloc, encoder), out);
+    } else if matches!(call, Call::WithoutLowerings) {
         put_last_about(alloc, &asked, plan_without_lowerings(alloc, encoder), out);
     } else {
         let plan = plan_encoder(alloc, encoder, &PlainOptions);

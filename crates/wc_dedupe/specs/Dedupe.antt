@@ -1,7 +1,9 @@
 -- What dedupe makes of a module's bytes, and the causes of its faults.
 use Rattle.std.specs.Prelude.{◌≡◌, ◌≢◌, ℕ, List, [], ◌⊎◌, All, Any, Option, None, Some}
+use Rattle.wc_read.specs.Place.{IsPlaceIn}
 use Rattle.wc_read.specs.Sections.{IsComponent}
 use Rattle.wc_read.specs.declared.fault.ReadFault.TheVariants.{Memory as read_memory, Component}
+use Rattle.wc_read.specs.declared.place.ReadPlace.{ReadPlace}
 use Rattle.wc_dedupe.specs.Renaming.{RenameView, Renamed, originals, renames_of}
 use Rattle.wc_dedupe.specs.ParsedSections.{ParsedSectionValue, SpellsParsedSections, imports_of, KeepAllButNames, parsed_module_text, Fits, IsTooLarge}
 use Rattle.wc_dedupe.specs.declared.fault.DedupeFault.{DedupeFault}
@@ -28,6 +30,12 @@ abbrev pub IsDedupeCause : List ℕ → DedupeFault → Type 0
 IsDedupeCause bytes Memory = Unit {0}
 IsDedupeCause bytes (Read f) = (f ≢ read_memory) × (f ≢ Component) × (¬ (IsComponent bytes)) × ((parts : List ParsedSectionValue) → ¬ (SpellsParsedSections bytes parts))
 IsDedupeCause bytes TooLarge = (renamed : List ParsedSectionValue) × (renames : List RenameView) × IsRenamedModule bytes renamed renames × (renames ≢ []) × Any IsTooLarge renamed
+
+-- the place of a fault: of bytes that can't be read, in them
+abbrev pub IsDedupePlace : List ℕ → DedupeFault → Option ReadPlace → Type 0
+IsDedupePlace bytes (Read f) place = (p : ReadPlace) × (place ≡ Some p) × IsPlaceIn bytes p
+IsDedupePlace bytes Memory place = place ≡ None
+IsDedupePlace bytes TooLarge place = place ≡ None
 
 -- the renames of a map, none where there is no map
 abbrev pub renames_in : Option (List RenameView) → List RenameView

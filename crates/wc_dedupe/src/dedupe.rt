@@ -3,7 +3,7 @@
 ghost use Rattle.std.specs.Prelude.{◌≡◌, ◌≢◌, [], IfOk, IfErr, IfSome, IsNone, Ok, None};
 ghost use Rattle.std.specs.Cow.{cow_slice_items};
 ghost use Rattle.wc_read.specs.Sections.{IsComponent};
-ghost use Rattle.wc_dedupe.specs.Dedupe.{IsDeduped, IsDedupeCause, renames_in};
+ghost use Rattle.wc_dedupe.specs.Dedupe.{IsDeduped, IsDedupeCause, IsDedupePlace, renames_in};
 ghost use Rattle.wc_dedupe.specs.ParsedSections.{imports_of, parsed_values};
 ghost use Rattle.wc_dedupe.specs.Renaming.{originals, IsRenaming};
 
@@ -12,7 +12,8 @@ use crate::parsed_sections::{ParsedSection, import_names, parse_module, write_se
 use crate::renaming::{ModuleImportMap, Renaming, rename_all};
 use std::alloc::{AllocError, Global};
 use std::borrow::CowSlice;
-use wc_read::ReadFault;
+use wc_read::{ReadFault, ReadPlace, imports_place};
+use wc_texts::Refused;
 
 impl ModuleImportMap {
     /// Renames the imports of a module so that no two share a module and a name.
@@ -54,6 +55,54 @@ impl ModuleImportMap {
             Some((bytes, map)) => Ok((CowSlice::Owned(bytes), Some(map))),
             None => Ok((wasm, None)),
         }
+    }
+
+    /// Renames imports as `new` does, and says where bytes that can't be read stop to be right.
+    ///
+    /// # Errors
+    ///
+    /// Those of `new`. A `Read` has a place, and no other fault has one. `Memory` comes too where there is no memory to
+    /// find it.
+    ///
+    /// `wasm` is dropped on an error.
+    pub fn new_explained<'a>(
+        alloc: Global,
+        wasm: CowSlice<'a, u8>,
+    ) -> Result<(CowSlice<'a, u8>, Option<ModuleImportMap>), Refused<DedupeFault, ReadPlace>>
+        ensures dedupe { IfOk result (λ r. IsDeduped
+            (cow_slice_items wasm.entry) (cow_slice_items r.0) (renames_in r.1)) }
+        ensures borrowed { IfOk result (λ r. IsNone r.1 → r.0 ≡ wasm.entry) }
+        ensures some { IfOk result (λ r. IfSome r.1 (λ map. map ≢ [])) }
+        ensures component { IsComponent (cow_slice_items wasm.entry)
+            → result ≡ Ok (wasm.entry, None) }
+        ensures refused { IfErr result (λ r. IsDedupeCause (cow_slice_items wasm.entry) r.fault) }
+        // The place is within the bytes, and in the section that it names.
+        ensures place { IfErr result (λ r.
+            IsDedupePlace (cow_slice_items wasm.entry) r.fault r.place) }
+    {
+        match dedupe(alloc, wasm.as_slice()) {
+            Ok(Some((renamed, map))) => Ok((CowSlice::Owned(renamed), Some(map))),
+            Ok(None) => Ok((wasm, None)),
+            Err(fault) => Err(explained(alloc, wasm.as_slice(), fault)),
+        }
+    }
+}
+
+/// A fault of dedupe, and its place.
+fn explained(alloc: Global, bytes: &[u8], fault: DedupeFault) -> Refused<DedupeFault, ReadPlace>
+    requires { IsDedupeCause bytes.now fault }
+    ensures cause { IsDedupeCause bytes.now result.fault }
+    ensures place { IsDedupePlace bytes.now result.fault result.place }
+{
+    match fault {
+        DedupeFault::Read(read) => match imports_place(alloc, bytes, read) {
+            Ok(place) => Refused {
+                fault,
+                place: Some(place),
+            },
+            Err(_) => Refused::without_place(DedupeFault::Memory),
+        },
+        _ => Refused::without_place(fault),
     }
 }
 

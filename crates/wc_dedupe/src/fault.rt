@@ -1,24 +1,26 @@
 //! Why dedupe refuses bytes.
 
-ghost use Rattle.std.specs.Prelude.{◌≡◌, ◌≤◌, Some};
+ghost use Rattle.std.specs.Prelude.{◌≡◌, ◌≤◌};
 ghost use Rattle.wc_dedupe.specs.declared.fault.DedupeFault.TheVariants.{Memory, TooLarge};
 ghost use Rattle.wc_dedupe.specs.Fault.{dedupe_fault_number, dedupe_fault_text};
 
 use std::alloc::{AllocError, AllocFailed};
-use std::error::Error as StdError;
-use std::fmt;
+use thiserror::Error;
 use wc_read::ReadFault;
-use wc_texts::{CARRIED, FaultText, OUT_OF_MEMORY, Pieces, PutFailed, put_carried, show};
+use wc_texts::{CARRIED, FaultText, OUT_OF_MEMORY, Pieces, PutFailed, put_carried};
 use wc_write::WriteFault;
 
 /// Why the imports of a module could not be renamed.
-#[derive(Clone, Copy, Debug, PartialEq, Eq)]
+#[derive(Clone, Copy, Debug, PartialEq, Eq, Error)]
 pub enum DedupeFault {
     /// An allocation failed.
+    #[error("out of memory")]
     Memory,
     /// The bytes are no component, and can't be cut into sections or have a malformed import section.
+    #[error("Read: {0}")]
     Read(ReadFault),
     /// A section of the renamed module has a content of 2^32 bytes or more.
+    #[error("TooLarge")]
     TooLarge,
 }
 
@@ -48,16 +50,6 @@ impl FaultText for DedupeFault {
         }
     }
 }
-
-impl fmt::Display for DedupeFault {
-    ghost output = { λ fault. Some (dedupe_fault_text fault) };
-
-    fn fmt<W: fmt::Write>(&self, f: &mut fmt::Formatter<W>) -> fmt::Result {
-        show(self, f)
-    }
-}
-
-impl StdError for DedupeFault {}
 
 impl From<AllocError> for DedupeFault {
     ghost from_gives = { λ _ e. e ≡ Memory };

@@ -1,33 +1,39 @@
 //! Why the parts of an encoder are refused.
 
-ghost use Rattle.std.specs.Prelude.{◌≡◌, ◌≤◌, Some};
+ghost use Rattle.std.specs.Prelude.{◌≡◌, ◌≤◌};
 ghost use Rattle.wc_encoder.specs.declared.fault.EncoderFault.TheVariants.{Memory};
 ghost use Rattle.wc_encoder.specs.Fault.{encoder_fault_number, encoder_fault_text};
 
 use std::alloc::{AllocError, AllocFailed};
-use std::error::Error as StdError;
-use std::fmt;
-use wc_texts::{FaultText, OUT_OF_MEMORY, Pieces, PutFailed, show};
+use thiserror::Error;
+use wc_texts::{FaultText, OUT_OF_MEMORY, Pieces, PutFailed};
 
 /// Why parts are refused. Of several causes, the first in the order from `UnknownWorld` to
 /// `ImportNameClash` is named; `Memory` may come in place of any.
-#[derive(Clone, Copy, Debug, PartialEq, Eq)]
+#[derive(Clone, Copy, Debug, PartialEq, Eq, Error)]
 pub enum EncoderFault {
     /// An allocation failed.
+    #[error("out of memory")]
     Memory,
     /// The `Resolve` has no world at the index.
+    #[error("UnknownWorld")]
     UnknownWorld,
     /// The world doesn't export a key of `main_module_exports`, or of an adapter's
     /// `required_exports`.
+    #[error("NotAnExport")]
     NotAnExport,
     /// The world exports a type.
+    #[error("TypeExported")]
     TypeExported,
     /// The world exports one interface under two keys.
+    #[error("InterfaceTwice")]
     InterfaceTwice,
     /// An interface that the world exports depends directly on one that is exported after it under
     /// its own id.
+    #[error("DependencyLater")]
     DependencyLater,
     /// Two imports of the world have one name.
+    #[error("ImportNameClash")]
     ImportNameClash,
 }
 
@@ -75,16 +81,6 @@ impl FaultText for EncoderFault {
         }
     }
 }
-
-impl fmt::Display for EncoderFault {
-    ghost output = { λ fault. Some (encoder_fault_text fault) };
-
-    fn fmt<W: fmt::Write>(&self, f: &mut fmt::Formatter<W>) -> fmt::Result {
-        show(self, f)
-    }
-}
-
-impl StdError for EncoderFault {}
 
 impl From<AllocError> for EncoderFault {
     ghost from_gives = { λ _ e. e ≡ Memory };

@@ -30,7 +30,7 @@ use wc_lines::values::{put_bytes_lines, put_fault};
 use wc_maps::Map;
 use wc_plan::PlanFault;
 use wc_resolve::{Parts, Resolve, ResolveFault, World, WorldId};
-use wctrim_command::ToolFault;
+use wctrim_command::CommandFault;
 
 /// Appends the answer of an example.
 pub fn answer(alloc: Global, row: &Row<'_>, out: &mut Lines) {
@@ -263,7 +263,7 @@ fn answer_printed_lines(alloc: Global, row: &Row<'_>, out: &mut Lines) -> Result
         Ok(Some(lines)) => put_lines(out, &lines),
         Ok(None) => out.push_str("usage\n"),
         // The lines are put into memory, which ran out.
-        Err(ToolFault::Output) => return Err(Stop::Memory),
+        Err(CommandFault::Output) => return Err(Stop::Memory),
         Err(fault) => put_fault(out, fault),
     }
     Ok(())

@@ -10,6 +10,7 @@ use std::alloc::Global;
 use wc_encoder::{ComponentEncoder, EncoderFault};
 use wc_lines::lines::Lines;
 use wc_lines::rows::Row;
+use wc_lines::values::put_fault_text;
 
 /// The calls on the encoder that the input describes, and from `Faults` on those that need none.
 #[derive(Clone, Copy)]
@@ -24,9 +25,9 @@ pub enum Call {
 }
 
 /// The text of each fault, in the order of `EncoderFault`.
-fn put_faults(out: &mut Lines) {
+fn put_faults(alloc: Global, out: &mut Lines) {
     for fault in EncoderFault::ALL {
-        writeln!(out, "{fault}");
+        put_fault_text(alloc, &fault, out);
     }
 }
 
@@ -101,7 +102,7 @@ fn answer_on_words<'a>(
 ) -> Result<(), Stop<'a>> {
     match call {
         Call::Faults => {
-            put_faults(out);
+            put_faults(words.alloc, out);
             Ok(())
         }
         Call::ItemClone => item_clone(words, out),

@@ -11,6 +11,7 @@ use std::alloc::Global;
 use std::hash::{DefaultHasher, Hash, Hasher};
 use wc_lines::lines::Lines;
 use wc_lines::rows::Row;
+use wc_lines::values::put_fault_text;
 use wc_resolve::laws::keys_hash_alike;
 use wc_resolve::{Function, PackageName, ResolveFault, WorldKey};
 
@@ -127,9 +128,9 @@ fn function_clone<'a>(words: &mut Words, out: &mut Lines) -> Result<(), Stop<'a>
 }
 
 /// The text of each fault, in the order of `ResolveFault`.
-fn put_faults(out: &mut Lines) {
+fn put_faults(alloc: Global, out: &mut Lines) {
     for fault in ResolveFault::ALL {
-        writeln!(out, "{fault}");
+        put_fault_text(alloc, &fault, out);
     }
 }
 
@@ -144,7 +145,7 @@ fn answer_on_words<'a>(call: Call, words: &mut Words, out: &mut Lines) -> Result
         Call::HandleResource => handle_resource(words, out),
         Call::FunctionClone => function_clone(words, out),
         Call::Faults => {
-            put_faults(out);
+            put_faults(words.alloc, out);
             Ok(())
         }
     }

@@ -148,7 +148,7 @@ module _ (w : TrimInput) (m : ModuleValue) (s : SpellsModule w.bytes m) where
 
 -- bytes that are no module
 
-not_read : (w : TrimInput) (g : GcFault) → order_of g < 1 → ¬ (IsLivenessCause w g)
+pub not_read : (w : TrimInput) (g : GcFault) → order_of g < 1 → ¬ (IsLivenessCause w g)
 not_read w Memory h c = c.2
 not_read w (Read r) h c = absurd (omega arith)
 not_read w (MissingExport name) h c = absurd (omega arith)

@@ -13,6 +13,7 @@ use Rattle.wc_read.specs.Fault.{SpellsNothing}
 use Rattle.wc_read.specs.Items.{def_value, func_value}
 use Rattle.wc_read.specs.Modules.{ModuleValue, SpellsModule, module_value}
 use Rattle.wc_read.specs.Operators.{instr_value, instr_values}
+use Rattle.wc_read.specs.Place.{IsPlaced}
 use Rattle.wc_read.specs.Sections.{start_id}
 use Rattle.wc_read.specs.Types.{FuncTypeValue}
 use Rattle.wc_read.specs.Items.{TableValue, MemoryValue}
@@ -20,8 +21,10 @@ use Rattle.wc_read.specs.declared.core_module.Module.{Module}
 use Rattle.wc_read.specs.declared.items.Def.{Def}
 use Rattle.wc_read.specs.declared.items.Def.TheVariants.{Import, Local}
 use Rattle.wc_read.specs.declared.items.Item.{Item}
+use Rattle.wc_read.specs.declared.fault.ReadFault.{ReadFault}
 use Rattle.wc_read.specs.declared.operators.Instr.{Instr}
 use Rattle.wc_read.specs.declared.operators.Space.{Space}
+use Rattle.wc_read.specs.declared.place.ReadPlace.{ReadPlace}
 use Rattle.wc_read.specs.declared.operators.Space.TheVariants.{Types, Funcs, Tables, Memories, Globals}
 use Rattle.wc_read.proofs.ModulesLemmas.{modules_one}
 use Rattle.wc_write.specs.BuiltValues.{def_seen, item_seen}
@@ -29,16 +32,18 @@ use Rattle.wc_gc.specs.Decoded.{DecodedModule, FuncCode, GlobalCode, ItemIndex, 
 use Rattle.wc_gc.specs.Entries.{no_entry, type_entry, table_entry, memory_entry, global_entry, refs_in}
 use Rattle.wc_gc.specs.InRange.{is_code_in_range, is_entry_in_range, is_item_in_range, is_operator_in_range}
 use Rattle.wc_gc.specs.Exports.{kept_exports}
-use Rattle.wc_gc.specs.LiveItems.{HasUnsupported, IsFault, IsFaultOf, IsSupported, TrimInput}
-use Rattle.wc_gc.specs.Private.TrimPlace.{IsRefusedFrom}
+use Rattle.wc_gc.specs.LiveItems.{HasUnsupported, IsFault, IsFaultOf, IsSupported, IsUnread, TrimInput}
+use Rattle.wc_gc.specs.Parts.{SettingsView}
+use Rattle.wc_gc.specs.Private.TrimPlace.{IsNoRead, IsRefusedFrom, IsUnreadAt, IsUnreadWith}
 use Rattle.wc_gc.specs.Private.Search.{HasGrown, IsGrown, IsTied}
 use Rattle.wc_gc.specs.Reached.{IsReachedFrom}
-use Rattle.wc_gc.specs.TrimPlace.{IsBodyPlace, IsExplained, IsExplainedIn, IsFirstOutside, IsLiveBodyPlace, IsOperatorPlace, IsPlace, IsPlaceIn, IsSectionPlace, body_at, def_body, unsupported_ids}
+use Rattle.wc_gc.specs.TrimPlace.{IsBodyPlace, IsExplained, IsExplainedIn, IsFirstOutside, IsLiveBodyPlace, IsOperatorPlace, IsPlace, IsPlaceIn, IsSectionPlace, IsUnreadPlace, body_at, def_body, unsupported_ids}
 use Rattle.wc_gc.specs.declared.fault.GcFault.{GcFault}
-use Rattle.wc_gc.specs.declared.fault.GcFault.TheVariants.{LiveBody, UnsupportedSection}
+use Rattle.wc_gc.specs.declared.fault.GcFault.TheVariants.{LiveBody, Memory, Read, UnsupportedSection}
 use Rattle.wc_gc.specs.declared.trim_place.TrimPlace.{TrimPlace}
-use Rattle.wc_gc.specs.declared.trim_place.TrimPlace.TheVariants.{Section, Body}
-use Rattle.wc_gc.proofs.LivenessLemmas.{fault_of}
+use Rattle.wc_gc.specs.declared.trim_place.TrimPlace.TheVariants.{Bytes, Section, Body}
+use Rattle.wc_gc.specs.Trim.{IsTrimFault}
+use Rattle.wc_gc.proofs.LivenessLemmas.{fault_of, not_read}
 use Rattle.wc_gc.proofs.ReachLemmas.{IsAt, bad_at}
 use Rattle.wc_gc.proofs.SearchLemmas.{grown_more, grown_none, search_start}
 
@@ -178,19 +183,60 @@ module _ (a : Module) (required : List (List ℕ)) (roots : List ItemIndex) wher
       → (p : TrimPlace) → ¬ (IsPlaceIn required (module_value a) LiveBody p)
   unfolding decoded_module
   no_live_body e in_range (Section id) h = h
+  no_live_body e in_range (Bytes p) h = h
   no_live_body e in_range (Body n k) h =
       both_ways _ h.refused (in_range (Funcs, n)
       (subst (λ (z : List ItemIndex). IsReachedFrom (refs_in (decode (module_value a))) z (Funcs, n)) (sym e) h.reached))
 
 -- places of the module that bytes spell
 
+not_unread : (bytes : List ℕ) (m : ModuleValue) → SpellsModule bytes m → (r : ReadFault) (p : TrimPlace) → ¬ (IsUnreadPlace bytes r p)
+not_unread bytes m s r (Bytes q) h = h.0.0 m s
+not_unread bytes m s r (Section id) h = h
+not_unread bytes m s r (Body n k) h = h
+
 pub explained : (w : TrimInput) (m : ModuleValue) → SpellsModule w.bytes m → (f : GcFault) (answer : Option TrimPlace) → IsExplainedIn w.required m f answer
     → IsExplained w f answer
+explained w m s (Read r) None none = λ p h. not_unread w.bytes m s r p h
+explained w m s (Read r) (Some p) place = absurd place
 explained w m s f None none = λ p h. none p (subst (λ (z : ModuleValue). IsPlaceIn w.required z f p) (modules_one w.bytes h.0 m h.1 s) h.2)
 explained w m s f (Some p) place = (m, s, place)
 
-pub not_explained : (w : TrimInput) (f : GcFault) → SpellsNothing SpellsModule w.bytes → IsExplained w f None
-not_explained w f nothing = λ p h. nothing h.0 h.1
+pub not_explained : (w : TrimInput) (f : GcFault) → IsNoRead f → SpellsNothing SpellsModule w.bytes → IsExplained w f None
+not_explained w (Read r) none nothing = absurd none
+not_explained w f none nothing = λ p h. nothing h.0 h.1
+
+-- places of bytes that are no module
+
+pub unread_explained : (w : TrimInput) (r : ReadFault) (answer : Option TrimPlace) → IsUnread w.bytes r → IsUnreadAt w.bytes answer
+    → IsExplained w (Read r) answer
+unread_explained w r None u a = absurd (a u.0)
+unread_explained w r (Some (Bytes p)) u a = (u, a)
+unread_explained w r (Some (Section id)) u a = absurd a
+unread_explained w r (Some (Body n k)) u a = absurd a
+
+pub no_place_of_memory : (w : TrimInput) → IsExplained w Memory None
+no_place_of_memory w = λ p h. h.2
+
+pub placed_unread : (bytes : List ℕ) (f : ReadFault) (p : ReadPlace) → IsPlaced bytes f (Some p) → IsUnreadAt bytes (Some (Bytes p))
+placed_unread bytes f p h = h.1
+
+-- what a refused adapter is refused with
+
+pub unread_with : (w : TrimInput) (f : GcFault) → IsFault w f → IsUnreadWith w.bytes f
+unread_with w (Read r) (inl e) = absurd cc
+unread_with w (Read r) (inr h) = h.0
+unread_with w f h = tt
+
+pub trim_unread_with : (s : SettingsView) (w : TrimInput) (f : GcFault) → IsTrimFault s w f → IsUnreadWith w.bytes f
+trim_unread_with s w (Read r) (inl e) = absurd cc
+trim_unread_with s w (Read r) (inr (inl c, before)) = c
+trim_unread_with s w (Read r) (inr (inr c, before)) = absurd c.4
+trim_unread_with s w f h = tt
+
+pub fault_or_memory : (P : GcFault → Type 0) (f g : GcFault) → P Memory → P f → (g ≡ f) ⊎ (g ≡ Memory) → P g
+fault_or_memory P f g m h (inl e) = subst P (sym e) h
+fault_or_memory P f g m h (inr e) = subst P (sym e) m
 
 -- a place is one in a module that is refused with this fault
 
@@ -198,15 +244,23 @@ module _ (required : List (List ℕ)) (m : ModuleValue) where
   section_fault : (p : TrimPlace) → IsSectionPlace required m p → IsFaultOf required m UnsupportedSection
   section_fault (Section id) h = (h.0, first_there m.start m.ids id h.1)
   section_fault (Body n k) h = absurd h
+  section_fault (Bytes p) h = absurd h
 
   body_fault : (p : TrimPlace) → IsBodyPlace required m p → IsFaultOf required m LiveBody
   body_fault (Body n k) h = (h.supported, ((Funcs, n), h.reached, h.refused))
   body_fault (Section id) h = absurd h
+  body_fault (Bytes p) h = absurd h
 
   place_in_refused : (f : GcFault) (p : TrimPlace) → IsPlaceIn required m f p → IsFaultOf required m f
   place_in_refused UnsupportedSection p h = section_fault p h
   place_in_refused LiveBody p h = body_fault p h
   place_in_refused f p h = absurd h
 
+unread_of_place : (bytes : List ℕ) (r : ReadFault) (p : TrimPlace) → IsUnreadPlace bytes r p → IsUnread bytes r
+unread_of_place bytes r (Bytes q) h = h.0
+unread_of_place bytes r (Section id) h = absurd h
+unread_of_place bytes r (Body n k) h = absurd h
+
 pub place_of_fault : (w : TrimInput) (f : GcFault) (p : TrimPlace) → IsPlace w f p → IsFault w f
+place_of_fault w (Read r) p h = inr (unread_of_place w.bytes r p h, not_read w)
 place_of_fault w f p h = fault_of w h.0 h.1 f (place_in_refused w.required h.0 f p h.2)

@@ -1,20 +1,22 @@
--- What a fault of trimming is about: a section, or the body of a function.
+-- What a fault of trimming is about: a byte, a section, or the body of a function.
 use Rattle.std.specs.Prelude.{◌≡◌, ℕ, List, ◌∷◌, ◌++◌, ◌==◌, if◌then◌else◌, cond, take, slice_get, is_some, codes, decimal, true, false, MatchOption, Option, Some, None}
 use Rattle.std.specs.Option.{option_map_or}
 use Rattle.wc_read.specs.Bodies.{BodyValue}
 use Rattle.wc_read.specs.Items.{DefValue, imported, local}
 use Rattle.wc_read.specs.Modules.{ModuleValue, SpellsModule}
 use Rattle.wc_read.specs.Operators.{InstrValue}
+use Rattle.wc_read.specs.Place.{IsPlaceIn as is_place_in_bytes, read_place_text}
 use Rattle.wc_read.specs.Sections.{data_count_id, data_id, element_id, start_id}
+use Rattle.wc_read.specs.declared.fault.ReadFault.{ReadFault}
 use Rattle.wc_read.specs.declared.operators.Space.TheVariants.{Funcs}
 use Rattle.wc_gc.specs.Decoded.{DecodedModule, FuncCode, decode}
 use Rattle.wc_gc.specs.InRange.{is_code_in_range, is_item_in_range, is_operator_in_range}
 use Rattle.wc_gc.specs.Exports.{missing_name}
-use Rattle.wc_gc.specs.LiveItems.{IsLive, IsSupported, TrimInput}
+use Rattle.wc_gc.specs.LiveItems.{IsLive, IsSupported, IsUnread, TrimInput}
 use Rattle.wc_gc.specs.declared.trim_place.TrimPlace.{TrimPlace}
-use Rattle.wc_gc.specs.declared.trim_place.TrimPlace.TheVariants.{Section, Body}
+use Rattle.wc_gc.specs.declared.trim_place.TrimPlace.TheVariants.{Bytes, Section, Body}
 use Rattle.wc_gc.specs.declared.fault.GcFault.{GcFault}
-use Rattle.wc_gc.specs.declared.fault.GcFault.TheVariants.{LiveBody, UnsupportedSection}
+use Rattle.wc_gc.specs.declared.fault.GcFault.TheVariants.{LiveBody, Read, UnsupportedSection}
 
 -- the ids of the sections that are not supported, in the order of the bytes: that of the start function comes before
 -- those of segments
@@ -26,6 +28,7 @@ abbrev pub IsSectionPlace : List (List ℕ) → ModuleValue → TrimPlace → Ty
 IsSectionPlace required m (Section id) =
     (missing_name m.exports required ≡ None) × (slice_get (unsupported_ids m) 0 ≡ Some id)
 IsSectionPlace required m (Body n k) = ⊥
+IsSectionPlace required m (Bytes p) = ⊥
 
 -- the first operator that names a segment, or an item that is not there, has this number
 pub record IsFirstOutside (m : DecodedModule) (is : List InstrValue) (k : ℕ) : Type 0 where
@@ -58,6 +61,7 @@ pub record IsLiveBodyPlace (required : List (List ℕ)) (m : ModuleValue) (n : �
 abbrev pub IsBodyPlace : List (List ℕ) → ModuleValue → TrimPlace → Type 0
 IsBodyPlace required m (Body n k) = IsLiveBodyPlace required m n k
 IsBodyPlace required m (Section id) = ⊥
+IsBodyPlace required m (Bytes p) = ⊥
 
 -- where the cause of a fault is in a module that is refused with it; other faults have no place
 abbrev pub IsPlaceIn : List (List ℕ) → ModuleValue → GcFault → TrimPlace → Type 0
@@ -69,8 +73,15 @@ IsPlaceIn required m f p = ⊥
 abbrev pub IsExplainedIn : List (List ℕ) → ModuleValue → GcFault → Option TrimPlace → Type 0
 IsExplainedIn required m f answer = MatchOption answer ((p : TrimPlace) → ¬ (IsPlaceIn required m f p)) (IsPlaceIn required m f)
 
--- the same of the module that the bytes spell
+-- where bytes stop to be a module, which are refused with this fault
+abbrev pub IsUnreadPlace : List ℕ → ReadFault → TrimPlace → Type 0
+IsUnreadPlace bytes f (Bytes p) = IsUnread bytes f × is_place_in_bytes bytes p
+IsUnreadPlace bytes f (Section id) = ⊥
+IsUnreadPlace bytes f (Body n k) = ⊥
+
+-- the same of the module that the bytes spell, or of bytes that spell none
 abbrev pub IsPlace : TrimInput → GcFault → TrimPlace → Type 0
+IsPlace w (Read f) p = IsUnreadPlace w.bytes f p
 IsPlace w f p = (m : ModuleValue) × SpellsModule w.bytes m × IsPlaceIn w.required m f p
 
 abbrev pub IsExplained : TrimInput → GcFault → Option TrimPlace → Type 0
@@ -93,3 +104,4 @@ body_text n (Some k) = codes "operator " ++ (decimal k ++ (codes " of the body o
 abbrev pub place_text : TrimPlace → List ℕ
 place_text (Section id) = section_text id
 place_text (Body n k) = body_text n k
+place_text (Bytes p) = read_place_text p

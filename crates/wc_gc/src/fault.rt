@@ -1,45 +1,54 @@
 //! Why an adapter is not trimmed.
 
-ghost use Rattle.std.specs.Prelude.{◌≡◌, ◌≤◌, Some};
+ghost use Rattle.std.specs.Prelude.{◌≡◌, ◌≤◌};
 ghost use Rattle.wc_gc.specs.declared.fault.GcFault.TheVariants.{Memory};
 ghost use Rattle.wc_gc.specs.Fault.{gc_fault_number, gc_fault_text};
 
 use std::alloc::{AllocError, AllocFailed};
-use std::error::Error as StdError;
-use std::fmt;
+use thiserror::Error;
 use wc_read::ReadFault;
-use wc_texts::{
-    CARRIED, FaultText, OUT_OF_MEMORY, Pieces, PutFailed, put_carried, put_quoted, show,
-};
+use wc_texts::{CARRIED, FaultText, OUT_OF_MEMORY, Pieces, PutFailed, put_carried, put_quoted};
 use wc_write::WriteFault;
 
 /// Why an adapter is not trimmed. Of several causes the first in this order is named; `Memory` may come in place of
 /// any.
-#[derive(Debug, Drop)]
+#[derive(Debug, Drop, Error)]
 pub enum GcFault {
     /// An allocation failed.
+    #[error("out of memory")]
     Memory,
     /// The bytes are no module.
+    #[error("Read: {0}")]
     Read(ReadFault),
     /// The first of the required names that the adapter does not export.
+    #[error("adapter module does not have export `{0}`")]
     MissingExport(String),
     /// The adapter has a start function, or a section of elements, data or a data count.
+    #[error("UnsupportedSection")]
     UnsupportedSection,
     /// A body that is reached is no code, or names a segment or an index that is out of range.
+    #[error("LiveBody")]
     LiveBody,
     /// Two live globals are named as the stack pointer, or two as the state of its allocation.
+    #[error("SeveralNamed")]
     SeveralNamed,
     /// A table is live.
+    #[error("LiveTable")]
     LiveTable,
     /// Two memories are live.
+    #[error("SeveralMemories")]
     SeveralMemories,
     /// A live memory is the adapter's own.
+    #[error("LocalMemory")]
     LocalMemory,
     /// An imported realloc that becomes a growing realloc, or that lazy code calls, is of another type.
+    #[error("ReallocType")]
     ReallocType,
     /// A realloc grows memory, and no live memory is of 32 bits and has pages of the required size.
+    #[error("ReallocMemory")]
     ReallocMemory,
     /// A count or a size of the trimmed module is no number of 32 bits.
+    #[error("TooLarge")]
     TooLarge,
 }
 
@@ -91,16 +100,6 @@ impl FaultText for GcFault {
         }
     }
 }
-
-impl fmt::Display for GcFault {
-    ghost output = { λ fault. Some (gc_fault_text fault) };
-
-    fn fmt<W: fmt::Write>(&self, f: &mut fmt::Formatter<W>) -> fmt::Result {
-        show(self, f)
-    }
-}
-
-impl StdError for GcFault {}
 
 impl From<AllocError> for GcFault {
     ghost from_gives = { λ _ e. e ≡ Memory };

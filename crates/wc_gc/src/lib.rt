@@ -1,7 +1,7 @@
 //! Trimming of adapter modules: an adapter cut to what its required exports reach, under new indices, with imported
 //! reallocs replaced and code added that allocates a stack (`run`); that code alone (`realloc_via_memory_grow`,
 //! `allocate_stack_via_realloc`); the items that exports reach (`liveness_counted`), and the sets that these are in
-//! (`LiveSet`, `LiveSets`, `RangeSet`, `BitVec`, `Ranks`); and what a fault is about (`explain`).
+//! (`LiveSet`, `LiveSets`, `RangeSet`, `BitVec`, `Ranks`); and what a fault is about (`run_explained`).
 //!
 //! An item is a type, function, table, memory or global. An export names an item, a function its type and what the
 //! operators of its body name, a global what its initialiser names. What is reached is the end of a list of items that
@@ -72,4 +72,4 @@ pub use live_items::{Liveness, liveness_counted};
 pub use range_set::RangeSet;
 pub use ranks::Ranks;
 pub use trim::run;
-pub use trim_place::{TrimPlace, explain};
+pub use trim_place::{TrimPlace, run_explained, why_imports_explained};

@@ -325,6 +325,7 @@ impl<L: LiveSet> Search<L> {
     }
 
     /// Finds the items that a body names, and cuts it.
+    #[inline(always)]
     fn reach_body<'a>(
         &mut self,
         alloc: Global,
@@ -371,6 +372,7 @@ impl<L: LiveSet> Search<L> {
 
 impl<L: LiveSet> Search<L> {
     /// Finds the items that a function names, and cuts its body.
+    #[inline(always)]
     fn reach_func<'a>(
         &mut self,
         alloc: Global,
@@ -394,6 +396,7 @@ impl<L: LiveSet> Search<L> {
     }
 
     /// Finds the items that the function of an index names, and keeps its body as it was cut.
+    #[inline(always)]
     fn reach_func_at<'a>(
         &mut self,
         alloc: Global,
@@ -459,6 +462,7 @@ impl<L: LiveSet> Search<L> {
     }
 
     /// Finds the items that an item names, and keeps the body of a function as it was cut.
+    #[inline(always)]
     fn reach_and_cut<'a>(
         &mut self,
         alloc: Global,

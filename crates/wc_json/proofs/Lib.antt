@@ -15,3 +15,7 @@ pub mod PackageRoundTripLemmas
 pub mod DocumentRoundTripLemmas
 pub mod WritableLemmas
 pub mod TextRoundTripLemmas
+mod JsonPlaceLemmas
+mod RepeatedMemberLemmas
+mod RepeatsLawLemmas
+mod LikenessLemmas

@@ -11,8 +11,9 @@ use Rattle.std.proofs.lemmas.Option.{cond_some}
 use Rattle.std.proofs.lemmas.Slice.Eq.{bytes_eq-Decides}
 use Rattle.wc_resolve.specs.Views.{KeyView, plain_key, interface_key, ItemView, interface_item, function_item, type_item, WorldView}
 use Rattle.wc_resolve.proofs.KeyLemmas.{key_view_eq, nat_from, nat_to}
+use Rattle.wc_texts.specs.Prefixes.{rest_after}
 use Rattle.wc_json.specs.Fits.{HasDistinctTexts, InterfaceKeyFits, ItemFits, KeyFits, PlainKeyFits, WorldEntryFits, WorldFits}
-use Rattle.wc_json.specs.Keys.{is_id_key, is_id_rest, item_key, rest_after}
+use Rattle.wc_json.specs.Keys.{is_id_key, is_id_rest, item_key}
 use Rattle.wc_json.specs.ToJson.{item_json, key_text, world_items_json, world_json}
 use Rattle.wc_json.specs.Worlds.{item, items, world}
 use Rattle.wc_json.proofs.MapRoundTripLemmas.{IsDistinct-from_texts, entries_after-members_json}

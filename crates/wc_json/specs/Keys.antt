@@ -1,16 +1,13 @@
 -- What the keys of a world's items are.
-use Rattle.std.specs.Prelude.{ℕ, Bool, false, List, cond, if◌then◌else◌, codes, length, take, drop, Option, Some, None, Ok, Err, decimal}
+use Rattle.std.specs.Prelude.{ℕ, Bool, false, List, cond, if◌then◌else◌, codes, Option, Some, None, Ok, Err, decimal}
 use Rattle.std.specs.Str.{bytes_eq}
 use Rattle.std.specs.Str.Parse.{without_leading_plus}
 use Rattle.wc_resolve.specs.Views.{ItemView, interface_item, function_item, type_item, KeyView, plain_key, interface_key}
 use Rattle.json.specs.Json.{Json, string}
+use Rattle.wc_texts.specs.Prefixes.{rest_after}
 use Rattle.wc_json.specs.Fault.{Reading, refusal}
 use Rattle.wc_json.specs.Ids.{index_of_digits}
 use Rattle.wc_json.specs.declared.fault.Problem.TheVariants.{NotAText}
-
--- what comes after a prefix
-abbrev pub rest_after : List ℕ → List ℕ → Option (List ℕ)
-rest_after prefix text = cond (bytes_eq (take (length prefix) text) prefix) (Some (drop (length prefix) text)) None
 
 -- the index that is read, if this text is how it is written
 abbrev pub index_written_as : List ℕ → Reading ℕ → Option ℕ

@@ -1,6 +1,10 @@
 pub mod Escape
 pub mod Fault
 pub mod Paths
+pub mod JsonPlace
+pub mod RepeatedMembers
+pub mod Places
+pub mod Likeness
 pub mod FromJson
 pub mod Members
 pub mod Maps

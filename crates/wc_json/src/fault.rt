@@ -1,39 +1,49 @@
 //! Why a text is refused.
 
-ghost use Rattle.std.specs.Prelude.{◌≡◌, ◌≤◌, Some};
+ghost use Rattle.std.specs.Prelude.{◌≡◌, ◌≤◌};
 ghost use Rattle.wc_json.specs.Fault.{json_fault_number, json_fault_text, problem_number, problem_text};
 ghost use Rattle.wc_json.specs.declared.fault.JsonFault.TheVariants.{Memory};
 
 use std::alloc::{AllocError, AllocFailed};
-use std::error::Error as StdError;
-use std::fmt;
-use wc_texts::{CARRIED, FaultText, OUT_OF_MEMORY, Pieces, PutFailed, put_carried, show};
+use thiserror::Error;
+use wc_texts::{CARRIED, FaultText, OUT_OF_MEMORY, Pieces, PutFailed, put_carried};
 
 /// The problem with a JSON value, or with a member that isn't there.
-#[derive(Clone, Copy, Debug, PartialEq, Eq)]
+#[derive(Clone, Copy, Debug, PartialEq, Eq, Error)]
 pub enum Problem {
     /// An object has no member of a name that has to be there.
+    #[error("missing")]
     Missing,
     /// The value is not an object.
+    #[error("not an object")]
     NotAnObject,
     /// The value is an object that should have exactly one member, and has none or several.
+    #[error("not an object of one member")]
     NotOneMember,
     /// The value is not a list.
+    #[error("not a list")]
     NotAList,
     /// The value is not a text.
+    #[error("not a text")]
     NotAText,
     /// The value is not a number of decimal digits alone, below 2^32.
+    #[error("not an index")]
     NotAnIndex,
     /// The text, or the name of an object's only member, is none that the format has here.
+    #[error("unknown")]
     Unknown,
     /// A kind of type that the format has and this layer leaves out: `fixed-length-list`,
     /// `fixed-size-list`, `map` or `unknown`.
+    #[error("kind of type that is left out")]
     LeftOut,
     /// A member of an older form of the format, which means something that would be lost: `results`.
+    #[error("member of an older form")]
     Outdated,
     /// The text is neither `namespace:name` nor `namespace:name@version`.
+    #[error("not a package name")]
     NotAPackageName,
     /// The value is neither true nor false.
+    #[error("not a truth value")]
     NotABool,
 }
 
@@ -79,28 +89,29 @@ impl FaultText for Problem {
     }
 }
 
-impl fmt::Display for Problem {
-    ghost output = { λ problem. Some (problem_text problem) };
-
-    fn fmt<W: fmt::Write>(&self, f: &mut fmt::Formatter<W>) -> fmt::Result {
-        show(self, f)
-    }
-}
-
 /// Why a text is refused. `Memory` may come in place of any other. Before a value is looked at, the
 /// text has to be JSON, and then no object may have a member twice.
-#[derive(Debug, Drop)]
+#[derive(Debug, Drop, Error)]
 pub enum JsonFault {
     /// An allocation failed.
+    #[error("out of memory")]
     Memory,
     /// The text is not JSON, or it nests deeper than 128 arrays and objects.
+    #[error("not JSON")]
     NotJson,
     /// An object has two members of one name.
+    #[error("repeated member")]
     RepeatedMember,
     /// A value isn't what it has to be. The path leads to it from the whole text: members by their
     /// names after a dot, items of lists by their indices, entries of maps by their keys, as
     /// `interfaces[0].functions["f"].kind`. Of the whole text the path is empty.
+    #[error("{path}{separator}{problem}", separator = separator(.path))]
     Wrong { path: String, problem: Problem },
+}
+
+/// What is between a path and a problem.
+fn separator(path: &String) -> &'static str {
+    if path.is_empty() { "" } else { ": " }
 }
 
 impl JsonFault {
@@ -137,16 +148,6 @@ impl FaultText for JsonFault {
         }
     }
 }
-
-impl fmt::Display for JsonFault {
-    ghost output = { λ fault. Some (json_fault_text fault) };
-
-    fn fmt<W: fmt::Write>(&self, f: &mut fmt::Formatter<W>) -> fmt::Result {
-        show(self, f)
-    }
-}
-
-impl StdError for JsonFault {}
 
 impl From<AllocError> for JsonFault {
     ghost from_gives = { λ _ e. e ≡ Memory };

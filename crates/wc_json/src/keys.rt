@@ -1,9 +1,8 @@
 //! The keys of a world's imports and exports.
 
 ghost use Rattle.std.specs.Prelude.{◌≡◌, IfOk};
-ghost use Rattle.std.specs.Option.{option_map};
 ghost use Rattle.wc_resolve.specs.Views.{item_view, key_view};
-ghost use Rattle.wc_json.specs.Keys.{canonical_index, is_id_key, item_key, rest_after, world_key};
+ghost use Rattle.wc_json.specs.Keys.{canonical_index, is_id_key, item_key, world_key};
 
 use crate::from_json::FromJson;
 use crate::paths::fault_here;
@@ -12,13 +11,7 @@ use json::Value;
 use std::alloc::{AllocError, Global};
 use wc_maps::Seed;
 use wc_resolve::{InterfaceId, WorldItem, WorldKey};
-
-/// The rest of a text after a prefix; `None` where it doesn't begin so.
-fn rest_after<'a>(text: &'a str, prefix: &str) -> Option<&'a str>
-    ensures { option_map (λ rest. rest.now) result ≡ rest_after prefix.now text.now }
-{
-    text.strip_prefix(prefix)
-}
+use wc_texts::strip_prefix;
 
 /// The index below 2^32 whose decimal text this is, without leading zeros.
 fn canonical_index(text: &str) -> Option<u32>
@@ -41,7 +34,7 @@ fn canonical_index(text: &str) -> Option<u32>
 fn world_key(alloc: Global, text: &str) -> Result<WorldKey, AllocError>
     ensures { IfOk result (λ k. key_view k ≡ world_key text.now) }
 {
-    if let Some(digits) = rest_after(text, "interface-") {
+    if let Some(digits) = strip_prefix(text, "interface-") {
         if let Some(index) = canonical_index(digits) {
             return Ok(WorldKey::Interface(InterfaceId(index)));
         }
@@ -53,7 +46,7 @@ fn world_key(alloc: Global, text: &str) -> Result<WorldKey, AllocError>
 fn is_id_key(text: &str, index: u32) -> bool
     ensures { result ≡ is_id_key text.now index }
 {
-    match rest_after(text, "interface-") {
+    match strip_prefix(text, "interface-") {
         Some(digits) => itoa::Buffer::new().format(index) == digits,
         None => false,
     }

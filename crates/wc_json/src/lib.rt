@@ -17,6 +17,9 @@
 //! `message_from_json` reads what a component is encoded from: a resolved world, one of its worlds, keys
 //! of its exports and options, but not the bytes of modules.
 //!
+//! `fault_place` says what a fault of a text is about: the byte at which it stops to be JSON, or the path of a member;
+//! `looks_like`, what a text that is not JSON looks like.
+//!
 //! Other texts that hold a resolved world are read in the same way: `FromJson` is what is read,
 //! `value_from_json` reads it from a text, and its members are read by `required_member` and
 //! `optional_member`.
@@ -29,15 +32,19 @@ mod from_json;
 mod functions;
 mod ids;
 mod interfaces;
+mod json_place;
 mod keys;
 mod kinds;
 pub mod laws;
 mod libraries;
+mod likeness;
 mod maps;
 mod members;
 mod messages;
 mod packages;
 mod paths;
+mod places;
+mod repeated_members;
 mod types;
 mod wit_types;
 mod worlds;
@@ -46,8 +53,12 @@ pub use document::{Document, document_from_json};
 pub use escape::{escaped, quoted};
 pub use fault::{JsonFault, Problem};
 pub use from_json::{FromJson, value_from_json};
+pub use json_place::json_end;
+pub use likeness::{Likeness, looks_like};
 pub use members::{optional_member, required_member};
 pub use messages::{
     AdapterMessage, KeyMessage, Message, OptionsMessage, WorldName, message_from_json,
 };
 pub use paths::{at_member, fault_here};
+pub use places::{JsonPlace, fault_place};
+pub use repeated_members::repeated_member;

@@ -101,7 +101,7 @@ fn are_word_chars(name: &[u8]) -> bool
 
 /// Whether a name has letters, digits, `-` and `_` of ASCII alone, at least one.
 #[tactic(auto, unfolding(crate::specs::Paths::is_word))]
-fn is_word(name: &str) -> bool
+pub(crate) fn is_word(name: &str) -> bool
     ensures { result ≡ is_word name.now }
 {
     !name.is_empty() && are_word_chars(name.as_bytes())

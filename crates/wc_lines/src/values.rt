@@ -1,12 +1,13 @@
 //! Lines for types, imports and the items of modules.
 
 use crate::lines::Lines;
-use std::alloc::AllocError;
+use std::alloc::Global;
 use std::fmt::Display;
 use wc_read::{
     Def, Export, ExportKind, FuncType, GlobalType, Import, ImportType, MemoryType, TableType,
     ValType,
 };
+use wc_texts::{FaultText, Refused, text_of};
 
 /// A fault's line.
 pub fn put_fault(out: &mut Lines, fault: impl Display + Drop) {
@@ -14,11 +15,38 @@ pub fn put_fault(out: &mut Lines, fault: impl Display + Drop) {
     writeln!(out, "{fault}");
 }
 
-/// Puts the place of a fault, or `none`.
-pub fn put_place<P: Display + Drop>(out: &mut Lines, place: Result<Option<P>, AllocError>) {
+/// Puts a fault, and what it is about or `none`.
+pub fn put_refused<F: Display, P: Display>(out: &mut Lines, refused: &Refused<F, P>) {
+    let fault = &refused.fault;
+    writeln!(out, "fault {fault}");
+    put_place(out, &refused.place);
+}
+
+/// Puts what a fault is about, or `none`.
+fn put_place<P: Display>(out: &mut Lines, place: &Option<P>) {
     match place {
-        Ok(Some(place)) => writeln!(out, "{place}"),
-        Ok(None) => out.push_str("none\n"),
+        Some(place) => writeln!(out, "{place}"),
+        None => out.push_str("none\n"),
+    }
+}
+
+/// Puts the text of a fault, on a line; after it what its `Display` shows, where that is another text.
+pub fn put_fault_text<F: FaultText + Display>(alloc: Global, fault: &F, out: &mut Lines) {
+    let mut shown = Lines::new(alloc);
+    write!(shown, "{fault}");
+    match text_of(alloc, fault) {
+        Ok(text) => put_both(out, &text, &shown),
+        Err(_) => out.lack_memory(),
+    }
+}
+
+/// Puts a text, and other lines where they differ from it.
+fn put_both(out: &mut Lines, text: &str, shown: &Lines) {
+    out.push_str(text);
+    out.end();
+    match shown.text() {
+        Ok(shown) if shown == text => {}
+        Ok(shown) => writeln!(out, "shown as {shown}"),
         Err(_) => out.lack_memory(),
     }
 }

@@ -6,7 +6,7 @@ ghost use Rattle.wc_names.specs.declared.async_values.Operation.{Operation};
 ghost use Rattle.wc_names.specs.AsyncValues.{bracketed_text, operation_row, operation_text, HasNoParts, HasParts};
 
 use crate::texts::split_at_first;
-use wc_texts::after;
+use wc_texts::strip_prefix;
 
 /// A future or a stream (component model, "Asynchronous Value Types").
 #[derive(Clone, Copy, Debug, PartialEq, Eq)]
@@ -62,28 +62,28 @@ fn operation_of(text: &str) -> Option<(Operation, &str)>
         → ¬ (text.now ≡ operation_text v op which))
         (λ found. (v : AsyncValue) → text.now ≡ operation_text v found.0 found.1.now) }
 {
-    if let Some(rest) = after(text, "new-") {
+    if let Some(rest) = strip_prefix(text, "new-") {
         return Some((Operation::New, rest));
     }
-    if let Some(rest) = after(text, "write-") {
+    if let Some(rest) = strip_prefix(text, "write-") {
         return Some((Operation::Write, rest));
     }
-    if let Some(rest) = after(text, "read-") {
+    if let Some(rest) = strip_prefix(text, "read-") {
         return Some((Operation::Read, rest));
     }
-    if let Some(rest) = after(text, "cancel-write-") {
+    if let Some(rest) = strip_prefix(text, "cancel-write-") {
         return Some((Operation::CancelWrite, rest));
     }
-    if let Some(rest) = after(text, "cancel-read-") {
+    if let Some(rest) = strip_prefix(text, "cancel-read-") {
         return Some((Operation::CancelRead, rest));
     }
-    if let Some(rest) = after(text, "forward-") {
+    if let Some(rest) = strip_prefix(text, "forward-") {
         return Some((Operation::Forward, rest));
     }
-    if let Some(rest) = after(text, "drop-writable-") {
+    if let Some(rest) = strip_prefix(text, "drop-writable-") {
         return Some((Operation::DropWritable, rest));
     }
-    if let Some(rest) = after(text, "drop-readable-") {
+    if let Some(rest) = strip_prefix(text, "drop-readable-") {
         return Some((Operation::DropReadable, rest));
     }
     None
@@ -96,13 +96,13 @@ fn bracketed(text: &str) -> Option<(AsyncValue, Operation, &str)>
         → ¬ (text.now ≡ bracketed_text v op which))
         (λ found. text.now ≡ bracketed_text found.0 found.1 found.2.now) }
 {
-    if let Some(rest) = after(text, "future-") {
+    if let Some(rest) = strip_prefix(text, "future-") {
         return match operation_of(rest) {
             Some((operation, which)) => Some((AsyncValue::Future, operation, which)),
             None => None,
         };
     }
-    if let Some(rest) = after(text, "stream-") {
+    if let Some(rest) = strip_prefix(text, "stream-") {
         return match operation_of(rest) {
             Some((operation, which)) => Some((AsyncValue::Stream, operation, which)),
             None => None,
@@ -116,7 +116,7 @@ pub(crate) fn name_parts(name: &str) -> Option<AsyncValueName<'_>>
     ensures { MatchOption result (HasNoParts name.now)
         (λ n. HasParts name.now n.value n.operation n.which.now n.function.now) }
 {
-    let Some(rest) = after(name, "[") else {
+    let Some(rest) = strip_prefix(name, "[") else {
         return None;
     };
     let Some((inside, function)) = split_at_first(rest, ']') else {

@@ -5,7 +5,7 @@ ghost use Rattle.wc_names.specs.ExportNames.{IsExportName, destructor_member, Is
 ghost use Rattle.wc_names.specs.Finds.{Finds};
 
 use crate::texts::{before, split_at_first};
-use wc_texts::after;
+use wc_texts::strip_prefix;
 
 /// How the name of a member of an interface, or of the world itself, is put together.
 #[derive(Clone, Copy, Debug, PartialEq, Eq)]
@@ -31,7 +31,7 @@ fn standard_parts(name: &str) -> Option<ExportParts<'_>>
         (λ parts. IsExportName ExportSyntax.Standard name.now (option_copied parts.interface)
         parts.member.now) }
 {
-    let Some(rest) = after(name, "|") else {
+    let Some(rest) = strip_prefix(name, "|") else {
         return None;
     };
     let Some((text, member)) = split_at_first(rest, '|') else {
@@ -86,6 +86,6 @@ pub(crate) fn destructed_resource(syntax: ExportSyntax, member: &str) -> Option<
 {
     match syntax {
         ExportSyntax::Standard => before(member, "_dtor"),
-        ExportSyntax::Legacy => after(member, "[dtor]"),
+        ExportSyntax::Legacy => strip_prefix(member, "[dtor]"),
     }
 }

@@ -19,7 +19,7 @@ use wc_read::{FuncType, ValType};
 use wc_resolve::{
     AbiVariant, Function, InterfaceId, Resolve, TypeId, WorldId, WorldItem, WorldKey,
 };
-use wc_texts::after;
+use wc_texts::strip_prefix;
 
 /// The scheme that is older than the standard one: `my:demo/host@1.2.3` is the module of an interface, and
 /// `[resource-drop]file` drops a resource `file`. `task_hook` is the name of the export that is called as tasks begin
@@ -33,7 +33,7 @@ pub struct Legacy<'a> {
 fn function_name(name: &str) -> (&str, AbiVariant)
     ensures { NamesFunctionAs (legacy []) result.0.now result.1 name.now }
 {
-    match after(name, "[async-lower]") {
+    match strip_prefix(name, "[async-lower]") {
         Some(rest) => (rest, AbiVariant::GuestImportAsync),
         None => (name, AbiVariant::GuestImport),
     }
@@ -77,19 +77,19 @@ impl<'h> NameMangling for Legacy<'h> {
     }
 
     fn resource_drop_name<'a>(&self, name: &'a str) -> Option<&'a str> {
-        after(name, "[resource-drop]")
+        strip_prefix(name, "[resource-drop]")
     }
 
     fn resource_new_name<'a>(&self, name: &'a str) -> Option<&'a str> {
-        after(name, "[resource-new]")
+        strip_prefix(name, "[resource-new]")
     }
 
     fn resource_rep_name<'a>(&self, name: &'a str) -> Option<&'a str> {
-        after(name, "[resource-rep]")
+        strip_prefix(name, "[resource-rep]")
     }
 
     fn task_return_name<'a>(&self, name: &'a str) -> Option<&'a str> {
-        after(name, "[task-return]")
+        strip_prefix(name, "[task-return]")
     }
 
     fn task_cancel(&self, name: &str) -> bool {
@@ -149,15 +149,15 @@ impl<'h> NameMangling for Legacy<'h> {
     }
 
     fn async_lift_callback_name<'a>(&self, name: &'a str) -> Option<&'a str> {
-        after(name, "[callback][async-lift]")
+        strip_prefix(name, "[callback][async-lift]")
     }
 
     fn async_lift_name<'a>(&self, name: &'a str) -> Option<&'a str> {
-        after(name, "[async-lift]")
+        strip_prefix(name, "[async-lift]")
     }
 
     fn async_lift_stackful_name<'a>(&self, name: &'a str) -> Option<&'a str> {
-        after(name, "[async-lift-stackful]")
+        strip_prefix(name, "[async-lift-stackful]")
     }
 
     fn error_context_new(&self, name: &str) -> Option<StringEncoding> {
@@ -265,7 +265,7 @@ impl<'h> NameMangling for Legacy<'h> {
     }
 
     fn strip_post_return<'a>(&self, name: &'a str) -> Option<&'a str> {
-        after(name, "cabi_post_")
+        strip_prefix(name, "cabi_post_")
     }
 
     fn match_wit_export<'a>(

@@ -28,7 +28,7 @@ use wc_maps::Map;
 use wc_resolve::{
     Function, FunctionPlace, InterfaceId, Resolve, TypeId, World, WorldId, WorldItem, WorldKey,
 };
-use wc_texts::after;
+use wc_texts::strip_prefix;
 
 /// Where the functions and resources that names refer to are looked up: in an interface, or among those that the world
 /// itself imports or exports. What is found is recorded under this key, or under its own name where there is none.
@@ -373,7 +373,7 @@ pub(crate) fn async_value_import(
     ensures { IfOk result (λ found. Finds (option_map import_view found)
         (NamesImportIn (legacy []) context.now name.now)) }
 {
-    match after(name, "[async-lower]") {
+    match strip_prefix(name, "[async-lower]") {
         Some(rest) => own_name_import(alloc, context, world_id, rest, true),
         None => own_name_import(alloc, context, world_id, name, false),
     }

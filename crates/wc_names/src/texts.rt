@@ -7,7 +7,7 @@ ghost use Rattle.wc_names.specs.Finds.{Finds};
 ghost use Rattle.wc_names.specs.Texts.{IsChoice, IsSlot, IsSplitAtFirst, Lacks, SpellsNumber, HasNoSlot, HasSlot};
 
 use wc_read::ValType;
-use wc_texts::after;
+use wc_texts::strip_prefix;
 
 /// What comes before an end.
 pub(crate) fn before<'a>(name: &'a str, last: &str) -> Option<&'a str>
@@ -21,7 +21,7 @@ pub(crate) fn between<'a>(name: &'a str, first: &str, last: &str) -> Option<&'a 
     ensures { Finds (option_copied result)
         (λ (rest : List ℕ). name.now ≡ first.now ++ (rest ++ last.now)) }
 {
-    match after(name, first) {
+    match strip_prefix(name, first) {
         Some(rest) => before(rest, last),
         None => None,
     }
@@ -70,7 +70,7 @@ fn number_after(text: &str, first: &str, ty: ValType) -> Option<(ValType, u32)>
     ensures { MatchOption result (HasNoSlot text.now first.now)
         (HasSlot ty text.now first.now) }
 {
-    match after(text, first) {
+    match strip_prefix(text, first) {
         Some(digits) => match number(digits) {
             Some(slot) => Some((ty, slot)),
             None => None,

@@ -15,12 +15,11 @@ use Rattle.wc_names.specs.Views.{ImportView}
 use Rattle.wc_validate.specs.Exports.Map.{ExportRecord}
 use Rattle.wc_world.specs.Views.{ComponentWorldView}
 use Rattle.wc_plan.specs.Calls.{Wanted, all_wanted, call_eq, call_of, owner_eq}
-use Rattle.wc_plan.specs.Fault.{HasNoFault, IsFaultNamed, IsFirstFault, IsServable, UseFault, fault_of}
+use Rattle.wc_plan.specs.Fault.{HasNoFault, IsPlanRefusal, IsServable, RefusedPlan}
 use Rattle.wc_plan.specs.Plans.{is_lowered_indirect, plan_of, use_of, uses_from}
-use Rattle.wc_plan.specs.Planner.{Call, IsCallFault, IsPlanFault, Progress, is_seen, left, owner_in, seen_view, wanted_call, wanted_import}
+use Rattle.wc_plan.specs.Planner.{Call, IsCallRefusal, Progress, is_seen, left, owner_in, seen_view, wanted_call, wanted_import}
 use Rattle.wc_uses.specs.PlanViews.{call_view, use_view}
 use Rattle.wc_uses.specs.Views.{CallView, UseView}
-use Rattle.wc_plan.specs.declared.fault.PlanFault.{PlanFault}
 use Rattle.wc_plan.specs.declared.planner.Importer.{Importer}
 use Rattle.wc_uses.specs.declared.uses.Use.{Use}
 use Rattle.wc_plan.proofs.FirstLemmas.{left_all, left_new, left_seen}
@@ -72,17 +71,21 @@ module _ (w : ComponentWorldView) where
           ∙ sym (append_assoc uses (use_of w slots x ∷ []) (uses_from w (slots + (if is_lowered_indirect w x then 1 else 0)) (left (seen ++ x.0 ∷ []) rest))));
     }
 
-    pub progress_fault : (f : PlanFault) (kind : UseFault) → is_seen seen x ≡ false → fault_of w x ≡ Some kind → IsFaultNamed kind x.0.name f → IsFirstFault w f
-    progress_fault f kind new stopped named = record {
-      front = p.front;
-      at = x;
-      back = left (seen ++ x.0 ∷ []) rest;
-      kind = kind;
-      cut = p.cut ∙ ap (λ z. p.front ++ z) (left_new x rest seen new);
-      servable = p.servable;
-      stopped = stopped;
-      named = named;
-    }
+    pub progress_fault : (r : RefusedPlan) → is_seen seen x ≡ false → IsCallRefusal w x r → IsPlanRefusal w r
+    progress_fault r new (inl memory) = inl memory
+    progress_fault r new (inr (kind, stopped, named, about)) = inr (
+      record {
+        front = p.front;
+        at = x;
+        back = left (seen ++ x.0 ∷ []) rest;
+        kind = kind;
+        cut = p.cut ∙ ap (λ z. p.front ++ z) (left_new x rest seen new);
+        servable = p.servable;
+        stopped = stopped;
+        named = named;
+      },
+      about,
+    )
 
 -- the set of what was found, by what is seen of it
 
@@ -158,11 +161,10 @@ module _ (w : ComponentWorldView) (x : Wanted) (rest : List Wanted) (keys new_ke
       (subst (Progress w rest (map seen_view keys ++ x.0 ∷ []) (map use_view uses ++ use_of w slots x ∷ [])) (sym next)
       (progress_new w x rest (map seen_view keys) (map use_view uses) slots p (sym is_there ∙ there) servable)))
 
-  pub planned_fault : (f : PlanFault) → is_new ≡ true → IsCallFault w x f → IsPlanFault w f
-  planned_fault f h (inl is) = inl is
-  planned_fault f h (inr (kind, stopped, named)) =
-      inr (progress_fault w x rest (map seen_view keys) (map use_view uses) slots p f kind
-      (sym is_there ∙ not_found is_new (list_any (seen_test k) keys) added h) stopped named)
+  pub planned_fault : (r : RefusedPlan) → is_new ≡ true → IsCallRefusal w x r → IsPlanRefusal w r
+  planned_fault r h refused =
+      progress_fault w x rest (map seen_view keys) (map use_view uses) slots p r
+      (sym is_there ∙ not_found is_new (list_any (seen_test k) keys) added h) refused
 
 -- an import that is a function
 

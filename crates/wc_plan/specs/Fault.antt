@@ -1,11 +1,15 @@
 -- Why a component's world has no plan; and the texts and the numbers of faults.
-use Rattle.std.specs.Prelude.{◌≡◌, ℕ, List, ◌∷◌, ◌++◌, not, ◌&&◌, All, Option, Some, None, is_none, cond, codes, string_bytes}
+use Rattle.std.specs.Prelude.{◌≡◌, ◌⊎◌, ℕ, List, ◌∷◌, ◌++◌, not, ◌&&◌, All, Option, Some, None, is_none, cond, codes, string_bytes}
+use Rattle.std.specs.Option.{option_map}
+use Rattle.wc_uses.specs.Views.{CallView, OwnerView, adapter_owner, main_owner}
+use Rattle.wc_texts.specs.declared.refused.Refused.{Refused}
 use Rattle.wc_world.specs.Options.{memory_flag, realloc_flag}
 use Rattle.wc_world.specs.Slots.{all_imports, imports_of}
 use Rattle.wc_world.specs.Views.{ComponentWorldView, LoweringView}
 use Rattle.wc_plan.specs.Calls.{IsNameable, Wanted, wanted}
 use Rattle.wc_plan.specs.Plans.{has_memory, import_realloc, lowering_of, needs}
 use Rattle.wc_plan.specs.declared.fault.PlanFault.{PlanFault}
+use Rattle.wc_plan.specs.declared.fault.PlanPlace.{PlanPlace}
 use Rattle.wc_texts.specs.FaultTexts.{carried_text, memory_text}
 use Rattle.wc_world.specs.Fault.{world_fault_text}
 use Rattle.wc_plan.specs.declared.fault.PlanFault.TheVariants.{Memory, NoMemory, NoRealloc, NoLowering, World, Output}
@@ -51,6 +55,32 @@ pub record IsFirstFault (w : ComponentWorldView) (f : PlanFault) : Type 0 where
   pub servable : All (IsServable w) front
   pub stopped : fault_of w at ≡ Some kind
   pub named : IsFaultNamed kind at.0.name f
+
+-- the adapter of a name, or the main module
+abbrev pub owner_named : Option (List ℕ) → OwnerView
+owner_named None = main_owner
+owner_named (Some name) = adapter_owner name
+
+-- the function that a fault is about
+abbrev pub place_view : PlanPlace → CallView
+place_view p = record {
+  owner = owner_named (option_map string_bytes p.adapter);
+  interface = option_map string_bytes p.interface;
+  name = string_bytes p.name;
+  abi = p.abi;
+}
+
+-- a fault of a plan, and its place
+abbrev pub RefusedPlan : Type 0
+RefusedPlan = Refused PlanFault PlanPlace
+
+-- an allocation failed, which is about no function
+abbrev pub IsMemoryRefusal : RefusedPlan → Type 0
+IsMemoryRefusal x = (x.fault ≡ Memory) × (x.place ≡ None)
+
+-- a fault is that of the first function that has one, and about this function; or an allocation failed
+abbrev pub IsPlanRefusal : ComponentWorldView → RefusedPlan → Type 0
+IsPlanRefusal w x = IsMemoryRefusal x ⊎ ((first : IsFirstFault w x.fault) × (option_map place_view x.place ≡ Some first.at.0))
 
 -- what is imported can be named
 abbrev pub AreNameable : ComponentWorldView → Type 0

@@ -1,5 +1,5 @@
 -- A plan that is made function by function.
-use Rattle.std.specs.Prelude.{◌≡◌, ◌⊎◌, ℕ, ◌≤◌, List, ◌++◌, map, length, filter, not, All, Bool, Option, Some, None, Result, IfErr, OnOk, String}
+use Rattle.std.specs.Prelude.{◌≡◌, ◌⊎◌, ℕ, ◌≤◌, List, ◌++◌, map, length, filter, not, All, Bool, Option, Some, Result, IfErr, OnOk, String}
 use Rattle.std.specs.Borrow.{Bor}
 use Rattle.std.specs.List.{flat_map, list_any}
 use Rattle.std.specs.Option.{option_copied, option_map}
@@ -13,10 +13,10 @@ use Rattle.wc_world.specs.Slots.{imports_of}
 use Rattle.wc_world.specs.Views.{ComponentWorldView, NamedWorldAdapter}
 use Rattle.wc_world.specs.WorldViews.{world_view}
 use Rattle.wc_plan.specs.Calls.{IsNameable, Wanted, call_eq, call_of, firsts, wanted, wanted_by}
-use Rattle.wc_plan.specs.Fault.{IsFaultNamed, IsFirstFault, IsServable, UseFault, fault_of}
+use Rattle.wc_plan.specs.Fault.{IsFaultNamed, IsFirstFault, IsMemoryRefusal, IsPlanRefusal, IsServable, RefusedPlan, UseFault, fault_of, owner_named, place_view}
 use Rattle.wc_plan.specs.Plans.{has_memory, uses_from}
 use Rattle.wc_uses.specs.PlanViews.{call_view, use_view}
-use Rattle.wc_uses.specs.Views.{CallView, OwnerView, UseView, adapter_owner, main_owner}
+use Rattle.wc_uses.specs.Views.{CallView, OwnerView, UseView, adapter_owner}
 use Rattle.wc_plan.specs.declared.fault.PlanFault.{PlanFault}
 use Rattle.wc_plan.specs.declared.fault.PlanFault.TheVariants.{Memory}
 use Rattle.wc_plan.specs.declared.planner.Context.{Context}
@@ -27,10 +27,6 @@ abbrev pub Call : Type 0
 Call = Option (String Global) × (String Global × AbiVariant)
 
 -- the adapter of a name, or the main module
-abbrev pub owner_named : Option (List ℕ) → OwnerView
-owner_named None = main_owner
-owner_named (Some name) = adapter_owner name
-
 abbrev pub owner_in : Option (Bor (List ℕ)) → OwnerView
 owner_in name = owner_named (option_copied name)
 
@@ -83,9 +79,11 @@ IsPlanned w rest p = Progress w rest (map seen_view p.seen.keys) (map use_view p
 abbrev pub IsCounted : Planner → Type 0
 IsCounted p = p.slots ≤ length p.uses.items
 
--- a function has the fault, or memory ran out
-abbrev pub IsCallFault : ComponentWorldView → Wanted → PlanFault → Type 0
-IsCallFault w x f = (f ≡ Memory) ⊎ ((kind : UseFault) × (fault_of w x ≡ Some kind) × IsFaultNamed kind x.0.name f)
+-- a function has the fault, which is about it; or memory ran out
+abbrev pub IsCallRefusal : ComponentWorldView → Wanted → RefusedPlan → Type 0
+IsCallRefusal w x r =
+    IsMemoryRefusal r
+    ⊎ ((kind : UseFault) × (fault_of w x ≡ Some kind) × IsFaultNamed kind x.0.name r.fault × (option_map place_view r.place ≡ Some x.0))
 
 -- the first function that has a fault has this one, or memory ran out
 abbrev pub IsPlanFault : ComponentWorldView → PlanFault → Type 0
@@ -93,8 +91,8 @@ IsPlanFault w f = (f ≡ Memory) ⊎ IsFirstFault w f
 
 -- The functions that come next are planned, once all before them are. Or else the first fault of all is answered.
 
-abbrev pub Plans : {X : Type 0} → ComponentWorldView → (List Wanted → List Wanted) → Planner → Planner → Result X PlanFault → Type 0
+abbrev pub Plans : {X : Type 0} → ComponentWorldView → (List Wanted → List Wanted) → Planner → Planner → Result X RefusedPlan → Type 0
 Plans w next old new result = (rest : List Wanted) → IsPlanned w (next rest) old → OnOk result (IsPlanned w rest new)
 
-abbrev pub RefusesPlan : {X : Type 0} → ComponentWorldView → (List Wanted → List Wanted) → Planner → Result X PlanFault → Type 0
-RefusesPlan w next old result = (rest : List Wanted) → IsPlanned w (next rest) old → IfErr result (IsPlanFault w)
+abbrev pub RefusesPlan : {X : Type 0} → ComponentWorldView → (List Wanted → List Wanted) → Planner → Result X RefusedPlan → Type 0
+RefusesPlan w next old result = (rest : List Wanted) → IsPlanned w (next rest) old → IfErr result (IsPlanRefusal w)

@@ -1,32 +1,51 @@
 //! Why a component's world has no plan.
 
-ghost use Rattle.std.specs.Prelude.{◌≡◌, ◌≤◌, Some};
+ghost use Rattle.std.specs.Prelude.{◌≡◌, ◌≤◌};
 ghost use Rattle.wc_plan.specs.declared.fault.PlanFault.TheVariants.{Memory, Output};
 ghost use Rattle.wc_plan.specs.Fault.{plan_fault_number, plan_fault_text};
 
 use std::alloc::{AllocError, AllocFailed};
-use std::error::Error as StdError;
-use std::fmt;
-use wc_texts::{FaultText, OUT_OF_MEMORY, Pieces, PutFailed, put_carried, show};
+use thiserror::Error;
+use wc_resolve::AbiVariant;
+use wc_texts::{FaultText, OUT_OF_MEMORY, Pieces, PutFailed, put_carried};
 use wc_world::WorldFault;
 
 /// Why an encoder or a component's world has no plan, or a plan can't be printed. Of an encoder `World` is before all
 /// others. Of a world that function counts which comes first in its plan; it has the first of the faults `NoLowering`,
 /// `NoMemory` and `NoRealloc`, in this order, and this fault carries its name. `Memory` may come in place of any.
-#[derive(Debug, Drop)]
+#[derive(Debug, Drop, Error)]
 pub enum PlanFault {
     /// An allocation failed.
+    #[error("out of memory")]
     Memory,
     /// The options of the function of this name have a memory, and the main module neither imports nor exports one.
+    #[error("NoMemory")]
     NoMemory(String),
     /// The options of the function of this name have a realloc, and its module exports none for the results of imports.
+    #[error("NoRealloc")]
     NoRealloc(String),
     /// The world has no lowering for the function of this name.
+    #[error("NoLowering")]
     NoLowering(String),
     /// The component of the encoder has no world. It carries why, never `Memory`.
+    #[error("World: {0}")]
     World(WorldFault),
     /// The lines could not be written.
+    #[error("Output")]
     Output,
+}
+
+/// The function that a fault of a plan is about: which module imports it, and how.
+#[derive(Debug, Drop)]
+pub struct PlanPlace {
+    /// The name of the adapter, or of the library, that imports it; `None` for the main module.
+    pub adapter: Option<String>,
+    /// The name of the interface (`Resolve::name_world_key`); `None` for a function of the world itself.
+    pub interface: Option<String>,
+    /// The function's name.
+    pub name: String,
+    /// How it is called.
+    pub abi: AbiVariant,
 }
 
 impl PlanFault {
@@ -60,16 +79,6 @@ impl FaultText for PlanFault {
         }
     }
 }
-
-impl fmt::Display for PlanFault {
-    ghost output = { λ fault. Some (plan_fault_text fault) };
-
-    fn fmt<W: fmt::Write>(&self, f: &mut fmt::Formatter<W>) -> fmt::Result {
-        show(self, f)
-    }
-}
-
-impl StdError for PlanFault {}
 
 impl From<AllocError> for PlanFault {
     ghost from_gives = { λ _ e. e ≡ Memory };

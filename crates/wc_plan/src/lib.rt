@@ -1,6 +1,7 @@
 //! The plan of a component: what each function that its modules import needs, in the order in which an encoder serves
 //! it. `plan` makes it of a component's world (`wc_world::ComponentWorld`), `plan_encoder` of an encoder
-//! (`wc_encoder::ComponentEncoder`), and `write_plan` prints it.
+//! (`wc_encoder::ComponentEncoder`), and `write_plan` prints it. `plan_explained` says which module's function a fault is
+//! about.
 #![tactic(auto)]
 
 mod calls;
@@ -12,7 +13,7 @@ mod lowerings;
 mod planner;
 
 pub use encoder::plan_encoder;
-pub use fault::PlanFault;
+pub use fault::{PlanFault, PlanPlace};
 pub use lines::write_plan;
-pub use planner::plan;
+pub use planner::{plan, plan_explained};
 pub use wc_uses::{Owner, Plan, Use};

@@ -1,8 +1,8 @@
 //! Plans, function by function.
 
-ghost use Rattle.std.specs.Prelude.{◌≡◌, ◌+◌, ◌++◌, ◌∷◌, [], All, IfErr, IfOk, None, OnOk, cond, if◌then◌else◌, is_some, string_bytes};
+ghost use Rattle.std.specs.Prelude.{◌≡◌, ◌+◌, ◌++◌, ◌∷◌, ◌⊎◌, [], All, IfErr, IfOk, None, OnOk, Some, cond, if◌then◌else◌, is_some, string_bytes};
 ghost use Rattle.std.specs.List.{cons_option};
-ghost use Rattle.std.specs.Option.{option_map};
+ghost use Rattle.std.specs.Option.{option_copied, option_map};
 ghost use Rattle.wc_names.specs.Views.{import_view};
 ghost use Rattle.wc_validate.specs.Validate.{module_record};
 ghost use Rattle.wc_world.specs.Options.{realloc_flag};
@@ -10,16 +10,17 @@ ghost use Rattle.wc_world.specs.WorldViews.{lowering_view, world_view};
 ghost use Rattle.wc_plan.specs.Calls.{IsNameable, all_wanted, wanted_by};
 ghost use Rattle.wc_plan.specs.Plans.{has_memory, import_realloc, needs, plan_of, use_of};
 ghost use Rattle.wc_uses.specs.PlanViews.{call_view, owner_view, plan_view, use_view};
-ghost use Rattle.wc_plan.specs.Fault.{AreNameable, HasNoFault, IsServable};
+ghost use Rattle.wc_plan.specs.Fault.{AreNameable, HasNoFault, IsMemoryRefusal, IsPlanRefusal, IsServable, place_view};
 ghost use Rattle.wc_uses.specs.Views.{OwnerView};
-ghost use Rattle.wc_plan.specs.Planner.{AreModuleNameable, IsCallFault, IsContext, IsCounted, IsPlanFault, IsPlanned, Plans, RefusesPlan, owner_in, wanted_by_adapters, wanted_call, wanted_import, world_in};
+ghost use Rattle.wc_plan.specs.Planner.{AreModuleNameable, IsCallRefusal, IsContext, IsCounted, IsPlanFault, IsPlanned, Plans, RefusesPlan, owner_in, wanted_by_adapters, wanted_call, wanted_import, world_in};
 
 use crate::calls::{Call, call_of};
-use crate::fault::PlanFault;
+use crate::fault::{PlanFault, PlanPlace};
 use crate::lowerings::{has_memory_option, has_realloc_option, is_indirect, lowering_of};
 use std::alloc::{AllocError, AllocFailed, Global};
 use wc_maps::Set;
 use wc_names::Import;
+use wc_texts::Refused;
 use wc_uses::{Owner, Plan, Use};
 use wc_validate::{ExportMap, ValidatedModule};
 use wc_world::{ComponentWorld, Lowering};
@@ -86,7 +87,8 @@ fn realloc_for(
     lowering: &Lowering,
 ) -> Result<Option<String>, AllocError>
     ensures { IfOk result (λ r. option_map string_bytes r
-        ≡ cond (needs realloc_flag (lowering_view lowering.now)) (import_realloc exports.now) None) }
+        ≡ cond (needs realloc_flag (lowering_view lowering.now))
+        (import_realloc exports.now) None) }
 {
     if !has_realloc_option(lowering) {
         return Ok(None);
@@ -97,6 +99,41 @@ fn realloc_for(
     }
 }
 
+/// A copy of the name of an adapter, if there is one.
+fn name_of(alloc: Global, name: Option<&str>) -> Result<Option<String>, AllocError>
+    ensures { IfOk result (λ n. option_map string_bytes n ≡ option_copied name.entry) }
+{
+    match name {
+        Some(name) => Ok(Some(String::from_str(alloc, name)?)),
+        None => Ok(None),
+    }
+}
+
+/// The refusal of a function of a module for this fault.
+fn refusal(
+    alloc: Global,
+    importer: Importer<'_>,
+    call: Call,
+    fault: PlanFault,
+) -> Refused<PlanFault, PlanPlace>
+    ensures { IsMemoryRefusal result ⊎ ((result.fault ≡ fault) × (option_map place_view
+        result.place ≡ Some (wanted_call importer.entry call).0)) }
+{
+    let (interface, (name, abi)) = call;
+    match name_of(alloc, importer.owner) {
+        Ok(adapter) => Refused {
+            fault,
+            place: Some(PlanPlace {
+                adapter,
+                interface,
+                name,
+                abi,
+            }),
+        },
+        Err(e) => Refused::from(e),
+    }
+}
+
 /// The use of a function, after so many that others stand in for.
 fn use_of(
     alloc: Global,
@@ -104,26 +141,29 @@ fn use_of(
     importer: Importer<'_>,
     slots: u64,
     call: Call,
-) -> Result<Use, PlanFault>
+) -> Result<Use, Refused<PlanFault, PlanPlace>>
     requires { IsContext context }
     ensures made { IfOk result (λ u. use_view u
         ≡ use_of (world_in context.entry) slots (wanted_call importer.entry call)) }
     ensures servable { OnOk result (IsServable (world_in context.entry)
         (wanted_call importer.entry call)) }
-    ensures fault { IfErr result (IsCallFault (world_in context.entry)
+    ensures fault { IfErr result (IsCallRefusal (world_in context.entry)
         (wanted_call importer.entry call)) }
 {
     let Some(lowering) = lowering_of(&context.world.import_map, &call) else {
-        return Err(PlanFault::NoLowering(call.1.0));
+        let fault = PlanFault::NoLowering(String::from_str(alloc, &call.1.0)?);
+        return Err(refusal(alloc, importer, call, fault));
     };
-    let (interface, (name, abi)) = call;
     if has_memory_option(lowering) && !context.has_memory {
-        return Err(PlanFault::NoMemory(name));
+        let fault = PlanFault::NoMemory(String::from_str(alloc, &call.1.0)?);
+        return Err(refusal(alloc, importer, call, fault));
     }
     let realloc = realloc_for(alloc, importer.exports, lowering)?;
     if has_realloc_option(lowering) && realloc.is_none() {
-        return Err(PlanFault::NoRealloc(name));
+        let fault = PlanFault::NoRealloc(String::from_str(alloc, &call.1.0)?);
+        return Err(refusal(alloc, importer, call, fault));
     }
+    let (interface, (name, abi)) = call;
     let slot = if is_indirect(lowering) {
         Some(slots)
     } else {
@@ -162,7 +202,7 @@ fn add_call<'a>(
     importer: Importer<'a>,
     planner: &mut Planner<'a>,
     call: Call,
-) -> Result<(), PlanFault>
+) -> Result<(), Refused<PlanFault, PlanPlace>>
     requires world { IsContext context }
     requires counted { IsCounted planner.old }
     ensures counted { OnOk result (IsCounted planner.new) }
@@ -188,7 +228,7 @@ fn add_import<'a>(
     importer: Importer<'a>,
     planner: &mut Planner<'a>,
     import: &Import,
-) -> Result<(), PlanFault>
+) -> Result<(), Refused<PlanFault, PlanPlace>>
     requires nameable { IsNameable (world_in context).encoder.resolve
         (import_view import.now) }
     requires world { IsContext context }
@@ -215,7 +255,7 @@ fn add_module<'a>(
     owner: Option<&'a str>,
     info: &'a ValidatedModule,
     planner: &mut Planner<'a>,
-) -> Result<(), PlanFault>
+) -> Result<(), Refused<PlanFault, PlanPlace>>
     requires nameable { AreModuleNameable (world_in context).encoder.resolve
         (module_record info.now) }
     requires world { IsContext context }
@@ -243,7 +283,7 @@ fn add_adapters<'a>(
     alloc: Global,
     context: Context<'a, '_>,
     planner: &mut Planner<'a>,
-) -> Result<(), PlanFault>
+) -> Result<(), Refused<PlanFault, PlanPlace>>
     requires nameable { All (λ a. AreModuleNameable (world_in context).encoder.resolve
         a.1.info) (world_in context).adapters }
     requires world { IsContext context }
@@ -264,14 +304,14 @@ fn add_modules<'a>(
     alloc: Global,
     context: Context<'a, '_>,
     planner: &mut Planner<'a>,
-) -> Result<(), PlanFault>
+) -> Result<(), Refused<PlanFault, PlanPlace>>
     requires nameable { AreNameable (world_in context) }
     requires world { IsContext context }
     requires counted { IsCounted planner.old }
     ensures made { IsPlanned (world_in context.entry) (all_wanted (world_in context.entry))
         planner.old → OnOk result (IsPlanned (world_in context.entry) [] planner.new) }
     ensures fault { IsPlanned (world_in context.entry) (all_wanted (world_in context.entry))
-        planner.old → IfErr result (IsPlanFault (world_in context.entry)) }
+        planner.old → IfErr result (IsPlanRefusal (world_in context.entry)) }
 {
     add_module(alloc, context, None, &context.world.info, planner)?;
     add_adapters(alloc, context, planner)
@@ -297,6 +337,29 @@ pub fn plan(alloc: Global, world: &ComponentWorld<'_>) -> Result<Plan, PlanFault
     ensures plan { IfOk result (λ p. plan_view p ≡ plan_of (world_view world.now)) }
     ensures servable { OnOk result (HasNoFault (world_view world.now)) }
     ensures fault { IfErr result (IsPlanFault (world_view world.now)) }
+{
+    match plan_explained(alloc, world) {
+        Ok(plan) => Ok(plan),
+        Err(refused) => Err(refused.fault),
+    }
+}
+
+/// As [`plan`]; but a call that fails says which function of which module its fault is about. It requires what `plan`
+/// does.
+///
+/// # Errors
+///
+/// As those of `plan`. `Memory`, and no other fault, is about no function. Where there is no memory for what a fault is
+/// about, it is `Memory`.
+pub fn plan_explained(
+    alloc: Global,
+    world: &ComponentWorld<'_>,
+) -> Result<Plan, Refused<PlanFault, PlanPlace>>
+    requires { AreNameable (world_view world.now) }
+    ensures plan { IfOk result (λ p. plan_view p ≡ plan_of (world_view world.now)) }
+    ensures servable { OnOk result (HasNoFault (world_view world.now)) }
+    ensures fault { IfErr result (λ x. IsPlanFault (world_view world.now) x.fault) }
+    ensures place { IfErr result (IsPlanRefusal (world_view world.now)) }
 {
     let mut planner = Planner {
         seen: Set::with_hasher(alloc, *world.import_map.hasher()),

@@ -3,11 +3,10 @@
 ghost use Rattle.std.specs.Prelude.{◌≡◌, ⊤, ℕ, List, Option, IfErr, IfOk, OnOk, OnErr};
 ghost use Rattle.std.specs.IoError.{error_kind};
 ghost use Rattle.std.specs.declared.io.ErrorKind.{ErrorKind};
-ghost use Rattle.wc_program.specs.Files.{Holds, IsProblemOf, IsUnread, KeepsOthers, Writes, problem_text};
+ghost use Rattle.wc_program.specs.Files.{FailsBy, Holds, IsProblemOf, KeepsOthers, Writes, problem_text};
 
-use crate::printable::Printable;
 use std::io::{self, ErrorKind};
-use wc_texts::{PutFailed, Sink};
+use wc_texts::{FaultText, Pieces, PutFailed};
 
 /// Files by their paths.
 pub trait FileStore {
@@ -17,9 +16,9 @@ pub trait FileStore {
     // Known of a read that failed: of the files, the path, and the kind of the error.
     ghost read_fails: { Self → List ℕ → ErrorKind → Type 0 } = { λ _ _ _. ⊤ };
 
-    // Known of a write that failed: of the files before it and after it, the path, and the
-    // bytes.
-    ghost write_fails: { Self → Self → List ℕ → List ℕ → Type 0 } = { λ _ _ _ _. ⊤ };
+    // Known of a write that failed: of the files before it and after it, the path, the bytes,
+    // and the kind of the error.
+    ghost write_fails: { Self → Self → List ℕ → List ℕ → ErrorKind → Type 0 } = { λ _ _ _ _ _. ⊤ };
 
     /// All bytes of the file of this path.
     ///
@@ -40,7 +39,8 @@ pub trait FileStore {
     fn write(&mut self, path: &str, bytes: &[u8]) -> io::Result<()>
         ensures written { OnOk result (Writes (held self.old) (held self.new) path.now bytes.now) }
         ensures others { OnErr result (KeepsOthers (held self.old) (held self.new) path.now) }
-        ensures cause { OnErr result (write_fails self.old self.new path.now bytes.now) };
+        ensures cause { IfErr result (λ e.
+            write_fails self.old self.new path.now bytes.now (error_kind e)) };
 }
 
 /// Files by their paths, in directories.
@@ -48,8 +48,9 @@ pub trait DirectoryStore: FileStore {
     // The directory of this path could be made in a store.
     ghost makes: { Self → List ℕ → Type 0 };
 
-    // Known of a directory that could not be made: of the store before and after, and the path.
-    ghost make_fails: { Self → Self → List ℕ → Type 0 } = { λ _ _ _. ⊤ };
+    // Known of a directory that could not be made: of the store before and after, the path, and
+    // the kind of the error.
+    ghost make_fails: { Self → Self → List ℕ → ErrorKind → Type 0 } = { λ _ _ _ _. ⊤ };
 
     /// Makes the directory of this path, and those that it is in, where they are not there. All files stay the same.
     ///
@@ -60,7 +61,8 @@ pub trait DirectoryStore: FileStore {
     fn make_directory(&mut self, path: &str) -> io::Result<()>
         ensures made { OnOk result (makes self.old path.now) }
         ensures files { Self.held self.new ≡ Self.held self.old }
-        ensures cause { OnErr result (make_fails self.old self.new path.now) };
+        ensures cause { IfErr result (λ e.
+            make_fails self.old self.new path.now (error_kind e)) };
 
     /// Replaces the file of this path by one that has these bytes, or creates it. Every other file stays the same. If the
     /// path is that of a link, the link is replaced. Who reads the file meanwhile reads the old one or the new one, as a
@@ -73,12 +75,13 @@ pub trait DirectoryStore: FileStore {
         ensures written { OnOk result (Writes
             (Self.held self.old) (Self.held self.new) path.now bytes.now) }
         ensures kept { OnErr result (Self.held self.new ≡ Self.held self.old) }
-        ensures cause { OnErr result (Self.write_fails self.old self.new path.now bytes.now) };
+        ensures cause { IfErr result (λ e.
+            Self.write_fails self.old self.new path.now bytes.now (error_kind e)) };
 }
 
-/// Why a file could not be read.
+/// Why a file could not be read or written, or a directory not be made.
 #[derive(Clone, Copy, Debug, PartialEq, Eq)]
-pub enum ReadProblem {
+pub enum FileProblem {
     /// An allocation failed: the file is too large for memory.
     Memory,
     /// It is not there, or a directory above it is not.
@@ -87,32 +90,41 @@ pub enum ReadProblem {
     IsADirectory,
     /// A directory above it is a file.
     NotADirectory,
-    /// It may not be read.
+    /// It may not be read, written or made.
     PermissionDenied,
+    /// It is there already, and is no directory.
+    AlreadyExists,
+    /// There is no space left for it.
+    StorageFull,
+    /// It is in a file system that can only be read.
+    ReadOnlyFilesystem,
     /// Another one.
     Other,
 }
 
-/// The text after the path of the file: `: `, and why it could not be read; nothing for `Other`.
-impl Printable for ReadProblem {
+/// The text after the path of the file or directory: `: `, and what the problem is; nothing for `Other`.
+impl FaultText for FileProblem {
     ghost text = { problem_text };
 
-    fn put_text<S: Sink>(&self, out: &mut S) -> Result<(), PutFailed> {
-        out.put(problem_text(*self).as_bytes())
+    fn put_pieces<P: Pieces>(&self, out: &mut P) -> Result<(), PutFailed> {
+        out.put_piece(problem_text(*self))
     }
 }
 
-/// The text of a problem, which `put_text` puts.
-pub fn problem_text(problem: ReadProblem) -> &'static str
+/// The text of a problem, which `put_pieces` puts.
+pub fn problem_text(problem: FileProblem) -> &'static str
     ensures { result.now ≡ problem_text problem }
 {
     match problem {
-        ReadProblem::Memory => ": out of memory",
-        ReadProblem::NotFound => ": not found",
-        ReadProblem::IsADirectory => ": is a directory",
-        ReadProblem::NotADirectory => ": not a directory",
-        ReadProblem::PermissionDenied => ": permission denied",
-        ReadProblem::Other => "",
+        FileProblem::Memory => ": out of memory",
+        FileProblem::NotFound => ": not found",
+        FileProblem::IsADirectory => ": is a directory",
+        FileProblem::NotADirectory => ": not a directory",
+        FileProblem::PermissionDenied => ": permission denied",
+        FileProblem::AlreadyExists => ": file exists",
+        FileProblem::StorageFull => ": no space left on device",
+        FileProblem::ReadOnlyFilesystem => ": read-only file system",
+        FileProblem::Other => "",
     }
 }
 
@@ -121,9 +133,9 @@ pub fn problem_text(problem: ReadProblem) -> &'static str
 /// # Errors
 ///
 /// The store's read of this path failed, with an error of the kind that the problem stands for.
-pub fn read_file<F: FileStore>(files: &F, path: &str) -> Result<Vec<u8>, ReadProblem>
+pub fn read_file<F: FileStore>(files: &F, path: &str) -> Result<Vec<u8>, FileProblem>
     ensures read { IfOk result (λ v. Holds (F.held files.now) path.now v.items) }
-    ensures problem { IfErr result (IsUnread (F.read_fails files.now path.now)) }
+    ensures problem { IfErr result (FailsBy (F.read_fails files.now path.now)) }
 {
     match files.read(path) {
         Ok(bytes) => Ok(bytes),
@@ -131,22 +143,28 @@ pub fn read_file<F: FileStore>(files: &F, path: &str) -> Result<Vec<u8>, ReadPro
     }
 }
 
-/// The ReadProblem of an error's kind; Other, where there is none of its own.
-fn problem_of(e: &io::Error) -> ReadProblem
+/// The problem that an error of a store stands for; `Other`, where there is none of its own for its kind.
+pub fn problem_of(e: &io::Error) -> FileProblem
     ensures { IsProblemOf (error_kind e.now) result }
 {
     let kind = e.kind();
     if kind == ErrorKind::OutOfMemory {
-        ReadProblem::Memory
+        FileProblem::Memory
     } else if kind == ErrorKind::NotFound {
-        ReadProblem::NotFound
+        FileProblem::NotFound
     } else if kind == ErrorKind::IsADirectory {
-        ReadProblem::IsADirectory
+        FileProblem::IsADirectory
     } else if kind == ErrorKind::NotADirectory {
-        ReadProblem::NotADirectory
+        FileProblem::NotADirectory
     } else if kind == ErrorKind::PermissionDenied {
-        ReadProblem::PermissionDenied
+        FileProblem::PermissionDenied
+    } else if kind == ErrorKind::AlreadyExists {
+        FileProblem::AlreadyExists
+    } else if kind == ErrorKind::StorageFull {
+        FileProblem::StorageFull
+    } else if kind == ErrorKind::ReadOnlyFilesystem {
+        FileProblem::ReadOnlyFilesystem
     } else {
-        ReadProblem::Other
+        FileProblem::Other
     }
 }

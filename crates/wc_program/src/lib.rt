@@ -8,16 +8,16 @@
 
 mod files;
 mod output;
-mod printable;
 mod program;
 mod screen;
 mod shell;
 mod system;
+mod texts;
 
-pub use files::{DirectoryStore, FileStore, ReadProblem, problem_text, read_file};
+pub use files::{DirectoryStore, FileProblem, FileStore, problem_of, problem_text, read_file};
 pub use output::{Output, Printer};
-pub use printable::{OUT_OF_MEMORY, Printable, TextBetween, put_after};
 pub use program::{FAILURE, NoArguments, Program, SUCCESS, WRONG_ARGUMENTS, print, run};
 pub use screen::Screen;
 pub use shell::Shell;
 pub use system::{SystemFiles, exit_code, system_arguments, system_shell};
+pub use texts::{Text, TextBetween};

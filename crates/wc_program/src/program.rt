@@ -7,11 +7,10 @@ ghost use Rattle.wc_program.specs.Program.{EndsByReason, Prints, EndsByArguments
 ghost use Rattle.wc_program.specs.declared.program.NoArguments.{NoArguments};
 ghost use Rattle.wc_program.specs.declared.shell.Shell.{Shell};
 
-use crate::printable::Printable;
 use crate::screen::Screen;
 use crate::shell::Shell;
 use std::io::{self, ErrorKind};
-use wc_texts::PutFailed;
+use wc_texts::{FaultText, PutFailed};
 
 /// The exit status of a program that did what its arguments say.
 pub const SUCCESS: u8 = 0;
@@ -94,7 +93,7 @@ fn run_known<F, O, E, P: Program<F, O, E>>(
 }
 
 /// Prints a text, as a program does at its end. The answer is `status`, or the status of a failure where the output fails.
-pub fn print<O: Screen, T: Printable>(out: &mut O, text: &T, status: u8) -> u8
+pub fn print<O: Screen, T: FaultText>(out: &mut O, text: &T, status: u8) -> u8
     ensures { Prints (T.text text.now) status (Becomes O.ends out.old out.new) result }
 {
     match out.show(text) {

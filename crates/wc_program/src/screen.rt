@@ -3,8 +3,7 @@
 ghost use Rattle.std.specs.Prelude.{ℕ, List, None, Option, OnErr, OnOk, Some};
 
 use crate::output::Output;
-use crate::printable::Printable;
-use wc_texts::PutFailed;
+use wc_texts::{FaultText, PutFailed};
 
 /// An output that prints a whole text in one call. Every `Output` is one.
 pub trait Screen {
@@ -16,8 +15,17 @@ pub trait Screen {
     /// # Errors
     ///
     /// `PutFailed`: the output fails. How much was printed is left open.
-    fn show<T: Printable>(&mut self, text: &T) -> Result<(), PutFailed>
+    fn show<T: FaultText>(&mut self, text: &T) -> Result<(), PutFailed>
         ensures shown { OnOk result (ends self.old self.new (Some (T.text text.now))) }
+        ensures fails { OnErr result (ends self.old self.new None) };
+
+    /// Prints bytes, and hands them on.
+    ///
+    /// # Errors
+    ///
+    /// `PutFailed`: the output fails. How much was printed is left open.
+    fn show_bytes(&mut self, bytes: &[u8]) -> Result<(), PutFailed>
+        ensures shown { OnOk result (ends self.old self.new (Some bytes.now)) }
         ensures fails { OnErr result (ends self.old self.new None) };
 }
 
@@ -26,8 +34,13 @@ impl<O: Output> Screen for O {
 
     ghost ends = { output_ends O.written O.sent O.is_failed };
 
-    fn show<T: Printable>(&mut self, text: &T) -> Result<(), PutFailed> {
-        text.put_text(self)?;
+    fn show<T: FaultText>(&mut self, text: &T) -> Result<(), PutFailed> {
+        text.put_pieces(self)?;
+        self.flush()
+    }
+
+    fn show_bytes(&mut self, bytes: &[u8]) -> Result<(), PutFailed> {
+        self.put(bytes)?;
         self.flush()
     }
 }

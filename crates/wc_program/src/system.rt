@@ -40,15 +40,15 @@ impl<R: Files + AllocGlobal> FileStore for SystemFiles<'_, R> {
     }
 }
 
-impl<R: Files + AllocGlobal> DirectoryStore for SystemFiles<'_, R> {
+impl<R: Files + RandomSource + AllocGlobal> DirectoryStore for SystemFiles<'_, R> {
     ghost makes = { λ _ _. ⊤ };
 
     fn make_directory(&mut self, path: &str) -> io::Result<()> {
         fs::create_dir_all(self.rt, path)
     }
 
-    /// As a whole: the bytes go to a new file beside the one of this path, `.new-N`, which then takes its name. Where that
-    /// fails the new file is removed. A program that is stopped meanwhile leaves it.
+    /// As a whole: the bytes go to a new file beside the one of this path, `.new-N` with a drawn number, which then takes its
+    /// name. Where that fails the new file is removed. A program that is stopped meanwhile leaves it.
     fn replace(&mut self, path: &str, bytes: &[u8]) -> io::Result<()> {
         let (beside, file) = create_beside(self.rt, path)?;
         let written = write_and_close(file, bytes);
@@ -66,14 +66,17 @@ impl<R: Files + AllocGlobal> DirectoryStore for SystemFiles<'_, R> {
 /// How many bytes of room are taken at most for a file before it is read: 64 MiB.
 const MOST_ROOM: u64 = 1 << 26;
 
-/// How many files `.new-N` may be in one directory.
-const MOST_NEW_FILES: u32 = 1000;
+/// How many numbers are drawn at most for the name of one new file.
+const MOST_DRAWS: u32 = 100;
 
-/// A new file in the directory of the file of this path, and its path: the first of `.new-0`, `.new-1` and so on that is not
-/// there, also not as a link.
-fn create_beside<R: Files + AllocGlobal>(rt: &R, path: &str) -> io::Result<(String, R::File)> {
-    for number in 0..MOST_NEW_FILES {
-        let beside = path_beside(rt.alloc(), path, number)?;
+/// A new file in the directory of the file of this path, and its path: `.new-N` with the first drawn number for which there
+/// is none, also not as a link.
+fn create_beside<R: Files + RandomSource + AllocGlobal>(
+    rt: &R,
+    path: &str,
+) -> io::Result<(String, R::File)> {
+    for _draw in 0..MOST_DRAWS {
+        let beside = path_beside(rt.alloc(), path, drawn_number(rt)?)?;
         match File::create_new(rt, &beside) {
             Ok(file) => return Ok((beside, file)),
             Err(e) if e.kind() == ErrorKind::AlreadyExists => {}
@@ -83,8 +86,15 @@ fn create_beside<R: Files + AllocGlobal>(rt: &R, path: &str) -> io::Result<(Stri
     Err(io::Error::from(ErrorKind::AlreadyExists))
 }
 
+/// A number out of random bytes.
+fn drawn_number(source: &impl RandomSource) -> io::Result<u64> {
+    let mut bytes = [0; 8];
+    source.fill_bytes(&mut bytes)?;
+    Ok(u64::from_le_bytes(bytes))
+}
+
 /// `.new-N` in the directory of the file of this path.
-fn path_beside(alloc: Global, path: &str, number: u32) -> Result<String, AllocError> {
+fn path_beside(alloc: Global, path: &str, number: u64) -> Result<String, AllocError> {
     match path.rsplit_once('/') {
         Some((directory, _name)) => format!(in alloc; "{directory}/.new-{number}"),
         None => format!(in alloc; ".new-{number}"),

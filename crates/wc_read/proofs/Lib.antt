@@ -27,6 +27,7 @@ pub mod NamesUniqueLemmas
 pub mod ProducersLemmas
 pub mod ProducersReadLemmas
 pub mod ModulesLemmas
+pub mod PlaceLemmas
 pub mod DistinctNamesLemmas
 pub mod SignedLoopLemmas
 pub mod SignedLemmas

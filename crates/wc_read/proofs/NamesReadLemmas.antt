@@ -22,7 +22,7 @@ use denote.Ref.{Bor}
 
 -- pairs of a subsection
 
-items_push : {A : Type 0} (Spells : Format A) (a b : List ℕ) (xs : List A) (x : A) → SpellsItems Spells a xs → Spells b x → SpellsItems Spells (a ++ b) (xs ++ x ∷ [])
+pub items_push : {A : Type 0} (Spells : Format A) (a b : List ℕ) (xs : List A) (x : A) → SpellsItems Spells a xs → Spells b x → SpellsItems Spells (a ++ b) (xs ++ x ∷ [])
 items_push Spells a b [] x s t = rw s (b, [], sym (append-nil b), t, refl)
 items_push Spells a b (y ∷ ys) x s t = (s.0, s.1 ++ b, ap (λ (r : List ℕ). r ++ b) s.2 ∙ append_assoc s.0 s.1 b, s.3, items_push Spells s.1 b ys x s.4 t)
 

@@ -18,6 +18,7 @@ pub mod Globals
 pub mod InitTypes
 pub mod SectionContents
 pub mod Modules
+pub mod Place
 pub mod Signed
 pub mod Operators
 pub mod Text

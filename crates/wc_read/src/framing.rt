@@ -16,7 +16,7 @@ const COMPONENT_HEADER: &[u8] = b"\0asm\x0d\0\x01\0";
 
 impl<'a> Reader<'a> {
     #[tactic(auto, unfolding(crate::specs::Reading::Framing::section_at))]
-    fn section(&mut self) -> Result<Section<'a>, ReadFault>
+    pub fn section(&mut self) -> Result<Section<'a>, ReadFault>
         ensures { GivesWithoutMemory (λ s. section_value s) result self.new.rest.now
             (section_at self.old.rest.now) }
     {

@@ -61,6 +61,7 @@ mod operators;
 mod order;
 mod pass_kinds;
 mod passing;
+mod place;
 mod producers;
 mod reader;
 mod references;
@@ -68,6 +69,7 @@ mod section_contents;
 mod sections;
 mod signed;
 mod spaces;
+mod stops;
 mod text_sizes;
 mod types;
 mod validity;
@@ -86,6 +88,7 @@ pub use names::function_names;
 pub use operators::{
     BlockType, Form, Immediates, Index, IndexKind, Instr, MemArg, Opcode, Refs, Space, form_of,
 };
-pub use references::{TypeRefs, names_segment, refs, type_refs};
+pub use place::{ReadPlace, imports_place, read_module_explained};
+pub use references::{names_segment, refs};
 pub use sections::{Frames, MODULE_HEADER, Section};
 pub use types::{FuncType, GlobalType, Import, ImportType, MemoryType, TableType, ValType};

@@ -85,7 +85,7 @@ fn are_paired(parts: &SectionContents) -> bool
 }
 
 /// Puts the contents of sections together.
-fn assemble<'a>(
+pub fn assemble<'a>(
     alloc: Global,
     sections: &[Section<'a>],
     parts: SectionContents<'a>,

@@ -29,7 +29,7 @@ pub fn check_order(sections: &[Section]) -> Result<(), ReadFault>
 
 /// The position of a section after one that has `position`; a custom section takes none.
 #[tactic(auto, unfolding(crate::specs::Reading::Order::next_position))]
-fn next_position(position: u8, section: &Section) -> Result<u8, ReadFault>
+pub fn next_position(position: u8, section: &Section) -> Result<u8, ReadFault>
     ensures { AnswersWithoutMemory (λ n. n) result
         (next_position position (section_value section.now)) }
 {

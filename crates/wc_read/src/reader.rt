@@ -48,7 +48,7 @@ fn few_digits(input: &[u8]) -> Option<(u64, &[u8])>
     Some((four + (u64::from(*fifth) << (4 * GROUP_BITS)), after_fifth))
 }
 
-/// What is left to be read. After a fault, what is left is not said.
+/// What is left to be read. After a fault, no clause says what is left; where the fault is comes from it (`stops`).
 #[derive(Drop)]
 pub struct Reader<'a> {
     pub rest: &'a [u8],
@@ -178,10 +178,15 @@ impl<'a> Reader<'a> {
             (name_at self.old.rest.now) }
     {
         let size = self.u32()?;
+        let start = self.rest;
         let bytes = self.bytes(size as usize)?;
         match str::from_utf8(bytes) {
             Ok(name) => Ok(name),
-            Err(_) => Err(ReadFault::BadName),
+            Err(_) => {
+                // The fault's place is the name's start.
+                self.rest = start;
+                Err(ReadFault::BadName)
+            }
         }
     }
 

@@ -4,6 +4,7 @@ pub mod Exports
 pub mod Imports
 pub mod Laws
 pub mod Libraries
+pub mod MessagePlaces
 pub mod Modules
 pub mod Places
 pub mod Plans

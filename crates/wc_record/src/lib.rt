@@ -14,6 +14,7 @@ pub mod laws;
 mod libraries;
 mod listed_interfaces;
 mod maps;
+mod message_places;
 mod modules;
 mod objects;
 mod places;
@@ -24,8 +25,10 @@ mod wit;
 mod worlds;
 
 pub use chains::import_chains_to_json;
-pub use places::{
-    function_to_json, page_sizes_to_json, part_to_json, trim_place_to_json, world_place_to_json,
+pub use message_places::{
+    adapter_to_json, json_place_to_json, key_to_json, part_to_json, plan_place_to_json,
+    trim_fault_to_json, worlds_to_json,
 };
+pub use places::{read_place_to_json, trim_place_to_json, world_place_to_json};
 pub use plans::plan_to_json;
 pub use worlds::{planned_world_to_json, world_to_json};

@@ -1,21 +1,21 @@
-//! Places that faults are about: in the modules of a component, and parts of worlds.
+//! Places that faults are about in the modules of a component.
 
 ghost use Rattle.std.specs.Prelude.{◌≡◌, IfOk, None, OnOk, string_bytes};
 ghost use Rattle.std.specs.Option.{option_map};
 ghost use Rattle.std.specs.Str.{IsUtf8};
 ghost use Rattle.wc_gc.specs.declared.trim_place.TrimPlace.TheVariants.{Body, Section};
 ghost use Rattle.wc_validate.specs.Place.{an_import, difference_view, missing_function, subject_view};
-ghost use Rattle.wc_record.specs.Places.{function_json, named_json, page_sizes_json, part_json, trim_place_json, world_place_json};
+ghost use Rattle.wc_record.specs.Places.{bytes_json, named_json, page_sizes_json, trim_place_json, world_place_json};
 ghost use Rattle.wc_record.specs.Private.Contexts.{json_in};
 ghost use Rattle.wc_record.specs.Objects.{PutsJson};
 ghost use Rattle.wc_record.specs.Texts.{text_of};
 
-use crate::objects::{begin_object, end_object, put_kind, put_kind_with, put_member};
+use crate::objects::{begin_object, end_object, put_kind, put_member};
 use crate::to_json::ToJson;
 use json::Writer;
 use std::alloc::{AllocError, Global};
 use wc_gc::TrimPlace;
-use wc_resolve::Part;
+use wc_read::ReadPlace;
 use wc_validate::{Subject, TypeDifference};
 use wc_world::{ModulePlace, WorldPlace};
 
@@ -117,6 +117,7 @@ fn put_subject(out: &mut Writer, about: Context<'_>, subject: &Subject) -> Resul
             put_missing_function(out, about, module_name, name)
         }
         Subject::MissingExport(name) => put_named(out, about, "missing-export", name),
+        Subject::Bytes(place) => put_bytes(out, about.adapter, *place),
     }
 }
 
@@ -150,6 +151,37 @@ fn put_body(
     end_object(out)
 }
 
+/// Writes a place of kind `bytes`: where the bytes of a module stop to be right.
+fn put_bytes(out: &mut Writer, adapter: &Option<String>, place: ReadPlace) -> Result<(), AllocError>
+    ensures { OnOk result (PutsJson out.old out.new
+        (bytes_json (option_map string_bytes adapter.now) place)) }
+{
+    begin_object(out)?;
+    put_kind(out, "bytes")?;
+    put_member(out, "adapter", adapter)?;
+    put_member(out, "offset", &place.offset)?;
+    put_member(out, "section", &place.section)?;
+    end_object(out)
+}
+
+/// Writes a place of kind `page-sizes`: how many bytes a page has.
+fn put_page_sizes(
+    out: &mut Writer,
+    adapter: &Option<String>,
+    own: u64,
+    main: u64,
+) -> Result<(), AllocError>
+    ensures { OnOk result (PutsJson out.old out.new
+        (page_sizes_json (option_map string_bytes adapter.now) own main)) }
+{
+    begin_object(out)?;
+    put_kind(out, "page-sizes")?;
+    put_member(out, "adapter", adapter)?;
+    put_member(out, "own", &own)?;
+    put_member(out, "main", &main)?;
+    end_object(out)
+}
+
 /// Writes what a fault of trimming is about.
 fn put_trim_place(
     out: &mut Writer,
@@ -162,6 +194,7 @@ fn put_trim_place(
     match place {
         TrimPlace::Section { id } => put_section(out, adapter, id),
         TrimPlace::Body { function, operator } => put_body(out, adapter, function, operator),
+        TrimPlace::Bytes(place) => put_bytes(out, adapter, place),
     }
 }
 
@@ -183,40 +216,9 @@ impl ToJson for WorldPlace {
                 put_subject(out, Context { adapter, types }, &place.subject)
             }
             ModulePlace::Trim(place) => put_trim_place(out, adapter, *place),
+            ModulePlace::PageSizes { own, main } => put_page_sizes(out, adapter, *own, *main),
         }
     }
-}
-
-impl ToJson for Part {
-    ghost use Rattle.wc_resolve.specs.declared.explain.Part.{Part as part};
-    ghost use Rattle.wc_record.specs.Places.{part_json};
-
-    ghost View = { part };
-
-    ghost view = { λ p. p };
-
-    ghost json = { part_json };
-
-    fn write(&self, out: &mut Writer) -> Result<(), AllocError> {
-        match self {
-            Part::World(index) => put_kind_with(out, "world", "index", index),
-            Part::Interface(index) => put_kind_with(out, "interface", "index", index),
-            Part::TypeDef(index) => put_kind_with(out, "type", "index", index),
-            Part::Package(index) => put_kind_with(out, "package", "index", index),
-        }
-    }
-}
-
-/// Writes how long pages are.
-fn put_page_sizes(out: &mut Writer, adapter: &str, own: u64, main: u64) -> Result<(), AllocError>
-    ensures { OnOk result (PutsJson out.old out.new (page_sizes_json adapter.now own main)) }
-{
-    begin_object(out)?;
-    put_kind(out, "page-sizes")?;
-    put_member(out, "adapter", &adapter)?;
-    put_member(out, "own", &own)?;
-    put_member(out, "main", &main)?;
-    end_object(out)
 }
 
 /// The place of a fault of a component's world, as JSON: an object whose first member, `kind`, says what it is.
@@ -225,7 +227,10 @@ fn put_page_sizes(out: &mut Writer, adapter: &str, own: u64, main: u64) -> Resul
 /// - `export`, `missing-export`: with `adapter`, `name` and `types`;
 /// - `missing-function`: with `adapter`, `module` (the text of the interface's key), `name` and `types`;
 /// - `section`: with `adapter` and `id`;
-/// - `body`: with `adapter`, `function` (its index) and `operator` (its number in the body, or null).
+/// - `body`: with `adapter`, `function` (its index) and `operator` (its number in the body, or null);
+/// - `bytes`: with `adapter`, `offset` (how many bytes of the module are right) and `section` (the id of the section in whose
+///   content they end, or null);
+/// - `page-sizes`: with `adapter`, and how many bytes a page has in its memory, `own`, and in the main module's, `main`.
 ///
 /// `adapter` is the name of the adapter or the library that it is in, or null for the main module; `types` is null, or an
 /// object with the function types `wanted` and `found`, each with `params` and `results`.
@@ -256,52 +261,17 @@ pub fn trim_place_to_json(alloc: Global, place: TrimPlace) -> Result<Vec<u8>, Al
     Ok(out.into_inner())
 }
 
-/// The place of a fault of worlds, interfaces, types and packages, as JSON: an object with `kind`, which is `world`,
-/// `interface`, `type` or `package`, and with `index`, the index in its list.
+/// Where the bytes of a module stop to be right, as JSON: as of `world_place_to_json`, of kind `bytes`, and `adapter` is
+/// null.
 ///
 /// # Errors
 ///
 /// `AllocError`: an allocation failed.
-pub fn part_to_json(alloc: Global, part: Part) -> Result<Vec<u8>, AllocError>
-    ensures text { IfOk result (λ bytes. bytes.items ≡ text_of (part_json part)) }
+pub fn read_place_to_json(alloc: Global, place: ReadPlace) -> Result<Vec<u8>, AllocError>
+    ensures text { IfOk result (λ bytes. bytes.items ≡ text_of (bytes_json None place)) }
     ensures utf8 { IfOk result (λ bytes. IsUtf8 bytes.items) }
 {
     let mut out = Writer::new(Vec::new(alloc));
-    part.write(&mut out)?;
-    Ok(out.into_inner())
-}
-
-/// How long pages are, in bytes, of the memory of an adapter and of the main module's, as JSON: an object with `kind`, which
-/// is `page-sizes`, and with `adapter`, the adapter's name, `own` and `main`.
-///
-/// # Errors
-///
-/// `AllocError`: an allocation failed.
-pub fn page_sizes_to_json(
-    alloc: Global,
-    adapter: &str,
-    own: u64,
-    main: u64,
-) -> Result<Vec<u8>, AllocError>
-    ensures text { IfOk result (λ bytes. bytes.items
-        ≡ text_of (page_sizes_json adapter.now own main)) }
-    ensures utf8 { IfOk result (λ bytes. IsUtf8 bytes.items) }
-{
-    let mut out = Writer::new(Vec::new(alloc));
-    put_page_sizes(&mut out, adapter, own, main)?;
-    Ok(out.into_inner())
-}
-
-/// A function, as JSON: an object with `kind`, which is `function`, and with `name`, its name.
-///
-/// # Errors
-///
-/// `AllocError`: an allocation failed.
-pub fn function_to_json(alloc: Global, name: &str) -> Result<Vec<u8>, AllocError>
-    ensures text { IfOk result (λ bytes. bytes.items ≡ text_of (function_json name.now)) }
-    ensures utf8 { IfOk result (λ bytes. IsUtf8 bytes.items) }
-{
-    let mut out = Writer::new(Vec::new(alloc));
-    put_kind_with(&mut out, "function", "name", &name)?;
+    put_bytes(&mut out, &None, place)?;
     Ok(out.into_inner())
 }

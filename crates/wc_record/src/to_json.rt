@@ -43,6 +43,21 @@ impl ToJson for bool {
     }
 }
 
+impl ToJson for u8 {
+    ghost use Rattle.std.specs.Prelude.{ℕ};
+    ghost use Rattle.wc_json.specs.Shapes.{number_json};
+
+    ghost View = { ℕ };
+
+    ghost view = { λ n. n };
+
+    ghost json = { number_json };
+
+    fn write(&self, out: &mut Writer) -> Result<(), AllocError> {
+        out.u64(*self as u64)
+    }
+}
+
 impl ToJson for u32 {
     ghost use Rattle.std.specs.Prelude.{ℕ};
     ghost use Rattle.wc_json.specs.Shapes.{number_json};

@@ -1,7 +1,7 @@
 -- Texts that are compared piece by piece: what is after a front that leaves nothing open.
 use Rattle.std.proofs.Common.{◌≡◌, ◌↔◌, ℕ, Bool, true, false, IsTrue, List, [], ◌∷◌, ◌++◌, Option, Some, None, refl, sym, ap, ◌∙◌, append-nil, string_bytes}
 use Rattle.std.specs.Borrow.{Bor}
-use Rattle.std.specs.Option.{MatchOption, option_map}
+use Rattle.std.specs.Option.{option_map}
 use Rattle.std.specs.Str.{bytes_eq}
 use Rattle.std.proofs.lemmas.List.{append_cancel_left}
 use Rattle.std.proofs.lemmas.Slice.Eq.{bytes_eq-Decides}
@@ -9,7 +9,7 @@ use Rattle.semver.specs.declared.Version.{Version}
 use Rattle.semver.specs.Identifiers.{parts_of}
 use Rattle.wc_resolve.specs.declared.packages.PackageName.{PackageName}
 use Rattle.wc_resolve.specs.Characters.{at_sign, colon, slash}
-use Rattle.wc_resolve.specs.Names.{full_version, release_track, track}
+use Rattle.wc_resolve.specs.Names.{IsLeftAfter, full_version, release_track, track}
 use Rattle.wc_resolve.specs.Resolve.{VersionView, joined_id, member_text, versioned}
 use Rattle.wc_resolve.specs.Views.{PackageNameView, package_name_view}
 
@@ -19,8 +19,8 @@ IsFront front = (x y : List ℕ) → front x ≡ front y → x ≡ y
 
 module _ (front : List ℕ → List ℕ) (cancel : IsFront front) (text rest : List ℕ) (is : text ≡ front rest) where
   -- what is after a second front
-  pub after_front : (next : List ℕ → List ℕ) (r : Option (Bor (List ℕ))) → MatchOption r ((x : List ℕ) → ¬ (rest ≡ next x)) (λ x. rest ≡ next x.now)
-      → MatchOption r ((x : List ℕ) → ¬ (text ≡ front (next x))) (λ x. text ≡ front (next x.now))
+  pub after_front : (next : List ℕ → List ℕ) (r : Option (Bor (List ℕ))) → IsLeftAfter rest next r
+      → IsLeftAfter text (λ x. front (next x)) r
   after_front next None none = λ x e. none x (cancel rest (next x) (sym is ∙ e))
   after_front next (Some x) some = is ∙ ap front some
 

@@ -27,7 +27,6 @@ pub mod NamedListLemmas
 pub mod PackageNameLemmas
 pub mod PackagePositionLemmas
 pub mod ExplainLemmas
-pub mod CauseLemmas
 pub mod RefusalLemmas
 pub mod PushedLemmas
 pub mod RootsInLemmas

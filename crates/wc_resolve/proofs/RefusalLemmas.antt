@@ -8,11 +8,10 @@ use Rattle.wc_resolve.specs.declared.validate.order.OrderFault.{OrderFault}
 use Rattle.wc_resolve.specs.declared.validate.order.OrderFault.TheVariants.{Memory as NoMemory, Cycle as OnCycle}
 use Rattle.wc_resolve.specs.declared.explain.Part.{Part}
 use Rattle.wc_resolve.specs.declared.explain.Part.TheVariants.{TypeDef, Package}
-use Rattle.wc_resolve.specs.declared.explain.Refusal.{Refusal}
 use Rattle.wc_resolve.specs.Fault.{IsOrderCause, IsResolveCause}
 use Rattle.wc_resolve.specs.Explain.{IsBreach, IsPlace, IsRepeatAt}
 use Rattle.wc_resolve.specs.Ranges.{AreIdsInRange}
-use Rattle.wc_resolve.specs.Refusals.{IsOrderRefusal, IsRefusal, IsRepeatRefused, IsRuleBroken}
+use Rattle.wc_resolve.specs.Refusals.{IsOrderRefusal, IsRefusal, IsRepeatRefused, IsRuleBroken, Refusal}
 use Rattle.wc_resolve.specs.Views.{PackageView}
 use Rattle.wc_resolve.specs.WellFormed.{AreNamed, KeysMatch, HaveDistinctNames, AreNamesSpelled, HasNoResourceByValue}
 use Rattle.wc_resolve.specs.Kinds.{ResolveView, HasCycle}

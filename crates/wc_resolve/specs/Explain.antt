@@ -1,10 +1,9 @@
 -- What a fault of parts is about: the first world, interface, type or package that breaks the fault's rule.
-use Rattle.std.specs.Prelude.{◌≡◌, ℕ, ◌<◌, ◌+◌, Bool, List, length, take, Option, Some, None, slice_get, All}
+use Rattle.std.specs.Prelude.{◌≡◌, ℕ, ◌<◌, ◌+◌, Bool, List, length, take, Some, slice_get, All}
 use Rattle.wc_resolve.specs.declared.fault.ResolveFault.{ResolveFault}
 use Rattle.wc_resolve.specs.declared.fault.ResolveFault.TheVariants.{Memory, IdRange, Cycle, Unnamed, KeyMismatch, NameClash, BadCharacter, ByValueResource, Empty}
 use Rattle.wc_resolve.specs.declared.explain.Part.{Part}
 use Rattle.wc_resolve.specs.declared.explain.Part.TheVariants.{World, Interface, TypeDef, Package}
-use Rattle.wc_resolve.specs.Fault.{IsResolveCause}
 use Rattle.wc_resolve.specs.Ranges.{IsWorldIn, IsInterfaceIn, IsTypeDefIn, IsPackageIn}
 use Rattle.wc_resolve.specs.Resources.{AreResourceFlags}
 use Rattle.wc_resolve.specs.Views.{WorldView, InterfaceView, TypeView, PackageView}
@@ -89,13 +88,3 @@ IsPlace r Memory p = ⊥
 IsPlace r Cycle p = IsOnCycle r p
 IsPlace r NameClash p = IsFirstRepeat r p
 IsPlace r f p = IsBreach r f p
-
--- a fault that is about no part: memory, or one whose cause does not stand
-abbrev pub IsUnplaced : ResolveView → ResolveFault → Type 0
-IsUnplaced r Memory = Unit {0}
-IsUnplaced r f = ¬ IsResolveCause r f
-
--- what a fault is about, where it is the one of these parts
-abbrev pub IsExplained : ResolveView → ResolveFault → Option Part → Type 0
-IsExplained r f (Some p) = IsResolveCause r f × IsPlace r f p
-IsExplained r f None = IsUnplaced r f

@@ -1,7 +1,8 @@
 -- The characters of names, and the track of a version.
-use Rattle.std.specs.Prelude.{◌≡◌, ◌≢◌, ℕ, ◌⊎◌, zero, suc, List, [], ◌∷◌, ◌++◌, All, MatchOption, Option}
+use Rattle.std.specs.Prelude.{◌≡◌, ◌≢◌, ℕ, ◌⊎◌, zero, suc, List, [], ◌∷◌, ◌++◌, All, Option, option_copied}
 use Rattle.std.specs.Borrow.{Bor}
 use Rattle.std.specs.Fmt.{decimal}
+use Rattle.wc_texts.specs.Finds.{Finds}
 use Rattle.wc_resolve.specs.Characters.{hyphen, full_stop, digit_zero, opening_bracket, closing_bracket, IsSmallLetter, IsCapitalLetter, IsDigit}
 
 -- a small letter, a capital letter, a digit or a hyphen
@@ -21,7 +22,7 @@ IsFunctionName text = (text ≢ []) × All IsFunctionCharacter text
 -- what is left of a text that begins in this way; `None` where it does not
 abbrev pub IsLeftAfter : List ℕ → (List ℕ → List ℕ) → Option (Bor (List ℕ)) → Type 0
 IsLeftAfter text begin left =
-    MatchOption left ((rest : List ℕ) → ¬ (text ≡ begin rest)) (λ rest. text ≡ begin rest.now)
+    Finds (option_copied left) (λ rest. text ≡ begin rest)
 
 -- a version without its build
 abbrev pub full_version : ℕ → ℕ → ℕ → List ℕ → List ℕ

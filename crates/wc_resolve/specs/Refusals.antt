@@ -1,12 +1,11 @@
 -- Why parts are refused: the first fault, and the first part that breaks its rule.
-use Rattle.std.specs.Prelude.{◌≡◌, ◌≢◌, ◌⊎◌, ℕ, List, Option, Some, None}
+use Rattle.std.specs.Prelude.{◌≡◌, ◌⊎◌, ℕ, List, Some, None}
 use Rattle.wc_resolve.specs.declared.fault.ResolveFault.{ResolveFault}
 use Rattle.wc_resolve.specs.declared.fault.ResolveFault.TheVariants.{Memory, Cycle, NameClash}
 use Rattle.wc_resolve.specs.declared.validate.order.OrderFault.{OrderFault}
 use Rattle.wc_resolve.specs.declared.validate.order.OrderFault.TheVariants.{Memory as NoMemory, Cycle as OnCycle}
 use Rattle.wc_resolve.specs.declared.explain.Part.{Part}
 use Rattle.wc_resolve.specs.declared.explain.Part.TheVariants.{TypeDef, Package}
-use Rattle.wc_resolve.specs.declared.explain.Refusal.{Refusal}
 use Rattle.wc_resolve.specs.declared.validate.Checked.{Checked}
 use Rattle.wc_resolve.specs.Fault.{IsResolveCause}
 use Rattle.wc_resolve.specs.Explain.{IsBreach, IsPlace, IsRepeatAt}
@@ -15,6 +14,11 @@ use Rattle.wc_resolve.specs.Validate.{AreNamesOf, IsOrder}
 use Rattle.wc_resolve.specs.Views.{PackageView}
 use Rattle.wc_resolve.specs.WellFormed.{IsWellFormed}
 use Rattle.wc_resolve.specs.Kinds.{ResolveView}
+use Rattle.wc_texts.specs.declared.refused.Refused.{Refused}
+
+-- why parts are refused, and the part that it is about
+abbrev pub Refusal : Type 0
+Refusal = Refused ResolveFault Part
 
 -- an allocation failed: it is about no part
 abbrev pub IsMemoryRefusal : Refusal → Type 0
@@ -37,10 +41,6 @@ IsOrderRefusal (OnCycle index) x = (x.fault ≡ Cycle) × (x.place ≡ Some (Typ
 -- the fault of parts, and what it is about
 abbrev pub IsRefusal : ResolveView → Refusal → Type 0
 IsRefusal r x = IsMemoryRefusal x ⊎ ((p : Part) × (x.place ≡ Some p) × IsResolveCause r x.fault × IsPlace r x.fault p)
-
--- what a refusal is about, where its fault is this one
-abbrev pub IsPlaceFor : Refusal → ResolveFault → Option Part → Type 0
-IsPlaceFor x f place = ((x.fault ≡ f) × (place ≡ x.place)) ⊎ ((x.fault ≢ f) × (x.fault ≢ Memory) × (place ≡ None))
 
 pub record AreChecked (r : ResolveView) (checked : Checked) : Type 0 where
   pub formed : IsWellFormed r

@@ -11,20 +11,14 @@ ghost use Rattle.wc_resolve.specs.Views.{package_name_view};
 use crate::PackageName;
 use itoa::Buffer;
 use semver::Version;
-
-/// The rest of a text after another one at its front.
-fn after<'a>(text: &'a str, front: &str) -> Option<&'a str>
-    ensures { IsLeftAfter text.now (λ rest. front.now ++ rest) result }
-{
-    text.strip_prefix(front)
-}
+use wc_texts::strip_prefix;
 
 /// The rest of a text after two others at its front.
 fn after_both<'a>(text: &'a str, first: &str, second: &str) -> Option<&'a str>
     ensures { IsLeftAfter text.now (λ rest. first.now ++ (second.now ++ rest)) result }
 {
-    match after(text, first) {
-        Some(rest) => after(rest, second),
+    match strip_prefix(text, first) {
+        Some(rest) => strip_prefix(rest, second),
         None => None,
     }
 }
@@ -64,7 +58,7 @@ fn is_release_track(text: &str, major: u64, minor: u64, patch: u64) -> bool
         return is_number(text, major);
     }
     if minor != 0 {
-        return match after(text, "0.") {
+        return match strip_prefix(text, "0.") {
             Some(rest) => is_number(rest, minor),
             None => false,
         };
@@ -108,7 +102,7 @@ fn after_member<'a>(text: &'a str, package: &PackageName, name: &str) -> Option<
 {
     match after_both(text, package.namespace.as_str(), ":") {
         Some(member) => match after_both(member, package.name.as_str(), "/") {
-            Some(rest) => after(rest, name),
+            Some(rest) => strip_prefix(rest, name),
             None => None,
         },
         None => None,
@@ -122,7 +116,7 @@ pub(crate) fn is_canonical_member_id(text: &str, package: &PackageName, name: &s
 {
     match after_member(text, package, name) {
         Some(rest) => match &package.version {
-            Some(version) => match after(rest, "@") {
+            Some(version) => match strip_prefix(rest, "@") {
                 Some(shown) => is_track(shown, version),
                 None => false,
             },

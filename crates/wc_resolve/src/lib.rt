@@ -81,7 +81,7 @@ mod validate;
 mod walk;
 mod worlds;
 
-pub use explain::{Part, Refusal, explain_parts};
+pub use explain::Part;
 pub use fault::ResolveFault;
 pub use flat::WasmType;
 pub use functions::{AbiVariant, Function, FunctionKind, FunctionPlace};

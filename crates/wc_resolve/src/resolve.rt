@@ -24,7 +24,6 @@ ghost use Rattle.wc_resolve.specs.WellFormed.{IsUsable, IsWellFormed};
 
 use crate::canonical_ids::is_canonical_member_id;
 use crate::contents::type_has_text;
-use crate::explain::Refusal;
 use crate::futures::FuturesEntry;
 use crate::interface_ids::{canonical_member_id, member_id};
 use crate::long_functions::{LongFunction, function_of};
@@ -35,17 +34,18 @@ use crate::validate::resources::is_usable;
 use crate::validate::{Tables, check};
 use crate::{
     AbiVariant, Function, FunctionPlace, Interface, InterfaceId, Package, PackageId, PackageName,
-    ResolveFault, TypeDef, TypeDefKind, TypeId, TypeOwner, WasmSignature, WasmType, WitType, World,
-    WorldId, WorldItem, WorldKey,
+    Part, ResolveFault, TypeDef, TypeDefKind, TypeId, TypeOwner, WasmSignature, WasmType, WitType,
+    World, WorldId, WorldItem, WorldKey,
 };
 use std::alloc::{AllocError, Global};
 use std::marker::Model;
+use wc_texts::Refused;
 
 /// Parts that are not well-formed, and why.
 #[derive(Drop)]
 pub struct RefusedParts {
     pub parts: Parts,
-    pub refusal: Refusal,
+    pub refusal: Refused<ResolveFault, Part>,
 }
 
 /// Worlds, interfaces, types and packages that are well-formed, as `Resolve::build` checks. They can't be changed. The

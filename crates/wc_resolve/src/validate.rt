@@ -25,18 +25,18 @@ pub(crate) mod spelling;
 mod type_test;
 
 use crate::contents::find_texts;
-use crate::explain::{Part, Refusal};
 use crate::flattening::flatten_all;
 use crate::futures::{FuturesEntry, futures_entries};
 use crate::long_functions::{LongFunction, long_functions};
 use crate::shortcuts::{Shortcut, shortcuts_along};
-use crate::{PackageName, Parts, ResolveFault, WasmType};
+use crate::{PackageName, Part, Parts, ResolveFault, WasmType};
 use first::{first_interface, first_package, first_type, first_world};
 use order::{OrderFault, children_first};
 use package_names::distinct_package_names;
 use resources::find_resources;
 use std::alloc::{AllocError, Global};
 use wc_maps::Set;
+use wc_texts::Refused;
 
 /// The tables that the check of parts makes on its way.
 #[derive(Drop)]
@@ -111,13 +111,13 @@ fn check_rule(
     parts: &Parts,
     fault: ResolveFault,
     resource_flags: &[bool],
-) -> Result<(), Refusal>
+) -> Result<(), Refused<ResolveFault, Part>>
     requires { AreFlagsFor (parts_view parts.now) fault resource_flags.now }
     ensures kept { IfOk result (λ _. DoAllFollow (parts_view parts.now) fault) }
     ensures refusal { IfErr result (IsRuleBroken (parts_view parts.now) fault) }
 {
     match first_breach(alloc, parts, fault, resource_flags)? {
-        Some(part) => Err(Refusal {
+        Some(part) => Err(Refused {
             fault,
             place: Some(part),
         }),
@@ -218,7 +218,10 @@ fn texts_of_parts(alloc: Global, parts: &Parts, order: &[usize]) -> Result<Vec<b
 /// # Errors
 ///
 /// The first fault of `Resolve::build`, and what it is about.
-pub(crate) fn well_formed(alloc: Global, parts: &Parts) -> Result<Checked, Refusal>
+pub(crate) fn well_formed(
+    alloc: Global,
+    parts: &Parts,
+) -> Result<Checked, Refused<ResolveFault, Part>>
     ensures checked { IfOk result (AreChecked (parts_view parts.now)) }
     ensures refusal { IfErr result (IsRefusal (parts_view parts.now)) }
 {
@@ -243,7 +246,7 @@ pub(crate) fn well_formed(alloc: Global, parts: &Parts) -> Result<Checked, Refus
 /// # Errors
 ///
 /// The first fault of `Resolve::build`, and what it is about.
-pub(crate) fn check(alloc: Global, parts: &Parts) -> Result<Tables, Refusal>
+pub(crate) fn check(alloc: Global, parts: &Parts) -> Result<Tables, Refused<ResolveFault, Part>>
     ensures kept { IfOk result (AreTables (parts_view parts.now)) }
     ensures refusal { IfErr result (IsRefusal (parts_view parts.now)) }
 {

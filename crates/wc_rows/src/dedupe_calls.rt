@@ -8,7 +8,7 @@ use wc_lines::imports::{imports_of, is_import};
 use wc_lines::input::bytes_of;
 use wc_lines::lines::Lines;
 use wc_lines::rows::Row;
-use wc_lines::values::{put_bytes_lines, put_fault, put_import};
+use wc_lines::values::{put_bytes_lines, put_fault, put_import, put_refused};
 use wc_read::{Import, Section, frames, read_imports};
 use wc_write::append_import_section;
 
@@ -21,6 +21,8 @@ const IMPORT_SECTION: u8 = 2;
 pub enum Call {
     Borrowed,
     Owned,
+    /// `explain_dedupe`: why the bytes are not deduped, and where they stop to be right.
+    Explain,
     /// The imports of a module of these imports, once it is renamed.
     Imports,
     /// The original names of described imports, by the map of a module.
@@ -50,12 +52,21 @@ fn answer_on_bytes(alloc: Global, call: Call, bytes: Vec<u8>, out: &mut Lines) {
             put_deduped(ModuleImportMap::new(alloc, CowSlice::Owned(bytes)), out);
         }
         Call::Read => put_deduped_module(alloc, &bytes, out),
+        Call::Explain => put_explained(alloc, &bytes, out),
         _ => put_borrowed(alloc, &bytes, out),
     }
 }
 
 fn put_borrowed(alloc: Global, bytes: &[u8], out: &mut Lines) {
     put_deduped(ModuleImportMap::new(alloc, CowSlice::Borrowed(bytes)), out);
+}
+
+/// Why bytes are not deduped, with the place; `ok` where they are.
+fn put_explained(alloc: Global, bytes: &[u8], out: &mut Lines) {
+    match ModuleImportMap::new_explained(alloc, CowSlice::Borrowed(bytes)) {
+        Ok(_) => out.push_str("ok\n"),
+        Err(refused) => put_refused(out, &refused),
+    }
 }
 
 /// The answer of deduping: a module, and the map of its imports.

@@ -1,14 +1,14 @@
 //! The texts of faults.
 
 use std::alloc::Global;
-use std::fmt::Display;
 use wc_dedupe::DedupeFault;
 use wc_gc::GcFault;
 use wc_lines::lines::Lines;
+use wc_lines::values::put_fault_text;
 use wc_read::ReadFault;
 use wc_texts::PutFailed;
 use wc_write::WriteFault;
-use wctrim_command::ToolFault;
+use wctrim_command::CommandFault;
 
 /// Whose faults.
 #[derive(Clone, Copy)]
@@ -23,41 +23,36 @@ pub enum Call {
 /// Appends the answer of a call for the texts of faults.
 pub fn answer(alloc: Global, call: Call, out: &mut Lines) {
     match call {
-        Call::Read => put_read_faults(out),
-        Call::Write => put_write_faults(out),
-        Call::Dedupe => put_dedupe_faults(out),
+        Call::Read => put_read_faults(alloc, out),
+        Call::Write => put_write_faults(alloc, out),
+        Call::Dedupe => put_dedupe_faults(alloc, out),
         Call::Gc => put_gc_faults(alloc, out),
         Call::Wctrim => put_wctrim_faults(alloc, out),
     }
 }
 
-/// The text of a fault, on a line.
-fn put_text<F: Display>(fault: &F, out: &mut Lines) {
-    writeln!(out, "{fault}");
-}
-
 /// Each with its number before it.
-fn put_read_faults(out: &mut Lines) {
+fn put_read_faults(alloc: Global, out: &mut Lines) {
     for fault in ReadFault::ALL {
         out.number("", fault.number() as u64);
         out.push_str(" ");
-        put_text(&fault, out);
+        put_fault_text(alloc, &fault, out);
     }
 }
 
 /// Those of writers, and that of sinks, which no other fault carries.
-fn put_write_faults(out: &mut Lines) {
+fn put_write_faults(alloc: Global, out: &mut Lines) {
     for fault in WriteFault::ALL {
-        put_text(&fault, out);
+        put_fault_text(alloc, &fault, out);
     }
-    put_text(&PutFailed, out);
+    writeln!(out, "{}", PutFailed);
 }
 
-fn put_dedupe_faults(out: &mut Lines) {
-    put_text(&DedupeFault::Memory, out);
-    put_text(&DedupeFault::TooLarge, out);
+fn put_dedupe_faults(alloc: Global, out: &mut Lines) {
+    put_fault_text(alloc, &DedupeFault::Memory, out);
+    put_fault_text(alloc, &DedupeFault::TooLarge, out);
     for fault in ReadFault::ALL {
-        put_text(&DedupeFault::Read(fault), out);
+        put_fault_text(alloc, &DedupeFault::Read(fault), out);
     }
 }
 
@@ -104,30 +99,30 @@ fn plain_gc_fault(number: u32) -> GcFault {
 fn put_gc_faults(alloc: Global, out: &mut Lines) {
     for number in 0..GC_FAULTS {
         let fault = gc_fault(alloc, number, out);
-        put_text(&fault, out);
+        put_fault_text(alloc, &fault, out);
     }
     for fault in ReadFault::ALL {
-        put_text(&GcFault::Read(fault), out);
+        put_fault_text(alloc, &GcFault::Read(fault), out);
     }
 }
 
 fn put_wctrim_faults(alloc: Global, out: &mut Lines) {
-    put_text(&ToolFault::Memory, out);
-    put_text(&ToolFault::Output, out);
-    put_text(&ToolFault::Dedupe(DedupeFault::Memory), out);
-    put_text(&ToolFault::Dedupe(DedupeFault::TooLarge), out);
+    put_fault_text(alloc, &CommandFault::Memory, out);
+    put_fault_text(alloc, &CommandFault::Output, out);
+    put_fault_text(alloc, &CommandFault::Dedupe(DedupeFault::Memory), out);
+    put_fault_text(alloc, &CommandFault::Dedupe(DedupeFault::TooLarge), out);
     for number in 0..GC_FAULTS {
-        let fault = ToolFault::Trim(gc_fault(alloc, number, out));
-        put_text(&fault, out);
+        let fault = CommandFault::Trim(gc_fault(alloc, number, out));
+        put_fault_text(alloc, &fault, out);
     }
-    put_wctrim_reads(out);
+    put_wctrim_reads(alloc, out);
 }
 
 /// Those that carry a fault of the reader, or a fault that carries one.
-fn put_wctrim_reads(out: &mut Lines) {
+fn put_wctrim_reads(alloc: Global, out: &mut Lines) {
     for fault in ReadFault::ALL {
-        put_text(&ToolFault::Read(fault), out);
-        put_text(&ToolFault::Dedupe(DedupeFault::Read(fault)), out);
-        put_text(&ToolFault::Trim(GcFault::Read(fault)), out);
+        put_fault_text(alloc, &CommandFault::Read(fault), out);
+        put_fault_text(alloc, &CommandFault::Dedupe(DedupeFault::Read(fault)), out);
+        put_fault_text(alloc, &CommandFault::Trim(GcFault::Read(fault)), out);
     }
 }

@@ -3,12 +3,12 @@
 ghost use Rattle.std.specs.Prelude.{IfSome, ◌≤◌};
 
 use std::alloc::Global;
-use wc_gc::{GcFault, LiveSet, Liveness, RangeSet, explain, liveness_counted, run};
+use wc_gc::{GcFault, LiveSet, Liveness, RangeSet, liveness_counted, run, run_explained};
 use wc_lines::input::{bad_row, bytes_of};
 use wc_lines::lines::Lines;
 use wc_lines::names::names_from;
 use wc_lines::rows::Row;
-use wc_lines::values::{put_bytes_lines, put_fault, put_place};
+use wc_lines::values::{put_bytes_lines, put_fault, put_refused};
 use wc_maps::Set;
 
 /// The calls on bytes and names.
@@ -126,16 +126,10 @@ fn answer_explain(alloc: Global, adapter: &Adapter<'_>, out: &mut Lines) {
         let _ = bad_row(out, "no names", "");
         return;
     }
-    match run(alloc, adapter.bytes, adapter.names, None, 16) {
+    match run_explained(alloc, adapter.bytes, adapter.names, None, 16) {
         Ok(_) => out.push_str("ok\n"),
-        Err(fault) => put_explained(alloc, adapter, fault, out),
+        Err(refused) => put_refused(out, &refused),
     }
-}
-
-fn put_explained(alloc: Global, adapter: &Adapter<'_>, fault: GcFault, out: &mut Lines) {
-    let place = explain(alloc, adapter.bytes, adapter.names, &fault);
-    put_fault(out, fault);
-    put_place(out, place);
 }
 
 fn put_trimmed(trimmed: Result<Vec<u8>, GcFault>, out: &mut Lines) {

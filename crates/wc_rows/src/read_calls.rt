@@ -8,10 +8,10 @@ use wc_lines::input::{bad_row, bytes_of};
 use wc_lines::lines::Lines;
 use wc_lines::rows::Row;
 use wc_lines::table::named;
-use wc_lines::values::{put_fault, put_func_type, put_imports};
+use wc_lines::values::{put_fault, put_func_type, put_imports, put_refused};
 use wc_read::{
     Body, Form, FuncType, MemoryType, Opcode, ValType, form_of, frames, function_names, read_body,
-    read_imports, read_init, read_module, refs,
+    read_imports, read_init, read_module, read_module_explained, refs,
 };
 
 /// The calls on bytes, and from `FormOf` on those on arguments.
@@ -20,6 +20,8 @@ pub enum Call {
     Frames,
     Imports,
     Module,
+    /// `explain_read`: why the bytes are no module, and where they stop to be one.
+    Explain,
     FunctionNames,
     Init,
     Body,
@@ -53,6 +55,7 @@ fn answer_on_bytes(alloc: Global, call: Call, bytes: &[u8], out: &mut Lines) {
         Call::Frames => answer_frames(alloc, bytes, out),
         Call::Imports => answer_imports(alloc, bytes, out),
         Call::Module => answer_module(alloc, bytes, out),
+        Call::Explain => answer_explained(alloc, bytes, out),
         Call::FunctionNames => answer_function_names(alloc, bytes, out),
         Call::Init => answer_init(alloc, bytes, out),
         _ => answer_body(alloc, call, bytes, out),
@@ -86,6 +89,14 @@ pub fn answer_module(alloc: Global, bytes: &[u8], out: &mut Lines) {
     match read_module(alloc, bytes) {
         Ok(module) => put_module(out, &module),
         Err(fault) => put_fault(out, fault),
+    }
+}
+
+/// Why the bytes are no module, with the place; `ok` where they are one.
+fn answer_explained(alloc: Global, bytes: &[u8], out: &mut Lines) {
+    match read_module_explained(alloc, bytes) {
+        Ok(_) => out.push_str("ok\n"),
+        Err(refused) => put_refused(out, &refused),
     }
 }
 

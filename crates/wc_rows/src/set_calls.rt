@@ -29,13 +29,15 @@ fn answer_bit_vec(alloc: Global, row: &Row<'_>, out: &mut Lines) {
     put_steps(alloc, &mut set, &row.input, out);
 }
 
-/// `range_set`, with the same lines and `extend NUMBER..`: what each answers, and then the ranges.
+/// `range_set`, with the same lines and `extend [NUMBER..]`: what each answers, and then the ranges.
 fn answer_range_set(alloc: Global, row: &Row<'_>, out: &mut Lines) {
     let mut set = RangeSet::new(alloc);
     for line in &row.input {
-        match line.strip_prefix("extend ") {
-            Some(numbers) => end_answer(put_extended(alloc, &mut set, numbers, out), out),
-            None => put_line(alloc, &mut set, line, out),
+        let (step, numbers) = line.split_once(' ').unwrap_or((line, ""));
+        if step == "extend" {
+            end_answer(put_extended(alloc, &mut set, numbers, out), out);
+        } else {
+            put_line(alloc, &mut set, line, out);
         }
     }
     put_ranges(set.ranges(), out);

@@ -4,15 +4,17 @@ ghost use Rattle.std.specs.Prelude.{IfSome, None};
 ghost use Rattle.wctrim_command.specs.Command.{IsExecutable, command_view};
 
 use std::alloc::{AllocError, Global};
+use std::io::ErrorKind;
 use std::{io, str};
 use wc_lines::input::{bad_row, bytes_of};
 use wc_lines::lines::Lines;
 use wc_lines::rows::Row;
 use wc_lines::seeds::row_seed;
+use wc_lines::table::named;
 use wc_lines::values::{put_bytes_lines, put_fault};
 use wc_program::{FileStore, Output, Shell};
 use wc_write::{PutFailed, Sink, WriterSink};
-use wctrim_command::{Command, ToolFault, execute, parse, run};
+use wctrim_command::{Command, CommandFault, execute, parse, run};
 
 /// Bytes of room for what is printed and written, made before a command runs. So memory runs out in the command alone.
 const ROOM: usize = 4096;
@@ -218,13 +220,20 @@ fn put_quoted_lines(out: &mut Lines, text: &str) {
 }
 
 /// Appends the file that a tool wrote, `no bytes`, or the tool's fault.
-pub fn put_answer(out: &mut Lines, answer: &Result<Option<Vec<u8>>, ToolFault>) {
+pub fn put_answer(out: &mut Lines, answer: &Result<Option<Vec<u8>>, CommandFault>) {
     match answer {
         Ok(Some(bytes)) => put_bytes_lines(out, "bytes", bytes),
         Ok(None) => out.push_str("no bytes\n"),
         Err(fault) => writeln!(out, "fault {fault}"),
     }
 }
+
+/// Why a file can't be written, by its path; of other paths but `out.wasm` because it may not be.
+const UNWRITABLE: [(&str, ErrorKind); 3] = [
+    ("full.wasm", ErrorKind::StorageFull),
+    ("fixed.wasm", ErrorKind::ReadOnlyFilesystem),
+    ("broken.wasm", ErrorKind::Other),
+];
 
 /// The files of a program that a row runs: `in.wasm`, which has the row's bytes; `huge.wasm`, which is too large for
 /// memory; and `out.wasm`, which can be written.
@@ -241,17 +250,18 @@ impl FileStore for RowFiles<'_> {
 
     fn read(&self, path: &str) -> io::Result<Vec<u8>> {
         if path == "huge.wasm" {
-            return Err(io::Error::from(io::ErrorKind::OutOfMemory));
+            return Err(io::Error::from(ErrorKind::OutOfMemory));
         }
         if path != "in.wasm" {
-            return Err(io::Error::from(io::ErrorKind::NotFound));
+            return Err(io::Error::from(ErrorKind::NotFound));
         }
         Ok(Vec::from_slice(self.alloc, self.input)?)
     }
 
     fn write(&mut self, path: &str, bytes: &[u8]) -> io::Result<()> {
         if path != "out.wasm" {
-            return Err(io::Error::from(io::ErrorKind::PermissionDenied));
+            let kind = named(&UNWRITABLE, path).unwrap_or(ErrorKind::PermissionDenied);
+            return Err(io::Error::from(kind));
         }
         self.is_written = true;
         self.output.extend_from_slice(bytes)?;

@@ -1,3 +1,4 @@
+mod FaultLemmas
 pub mod TestLemmas
 pub mod ListLemmas
 pub mod WorldLemmas

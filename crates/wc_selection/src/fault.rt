@@ -1,49 +1,56 @@
 //! Why a document doesn't have what a request names.
 
-ghost use Rattle.std.specs.Prelude.{◌≡◌, Some};
+ghost use Rattle.std.specs.Prelude.{◌≡◌};
+ghost use Rattle.wc_selection.specs.Fault.{request_fault_text};
 
 use std::alloc::{AllocError, AllocFailed};
-use std::error::Error as StdError;
-use std::fmt;
+use thiserror::Error;
+use wc_texts::{FaultText, OUT_OF_MEMORY, Pieces, PutFailed, put_quoted};
 
 /// Why a document doesn't have what a request names: a world, or keys of its exports.
-#[derive(Clone, Copy, Debug, PartialEq, Eq)]
+#[derive(Clone, Copy, Debug, PartialEq, Eq, Error)]
 pub enum RequestFault<'a> {
     /// An allocation failed.
+    #[error("out of memory")]
     Memory,
     /// The package that a world says to be of is not in range.
+    #[error("package of a world out of range")]
     PackageRange,
     /// No world has this name.
+    #[error("no world `{0}`")]
     UnknownWorld(&'a str),
     /// Several worlds have this name.
+    #[error("several worlds `{0}`")]
     SeveralWorlds(&'a str),
     /// The world has no export with this key.
+    #[error("no export `{0}`")]
     UnknownKey(&'a str),
     /// Several exports of the world have this key, but for their versions.
+    #[error("several exports `{0}`")]
     SeveralKeys(&'a str),
     /// This key of an export is given twice.
+    #[error("export `{0}` twice")]
     RepeatedKey(&'a str),
 }
 
-impl fmt::Display for RequestFault<'_> {
-    ghost use Rattle.wc_selection.specs.Fault.{request_fault_text};
+impl FaultText for RequestFault<'_> {
+    ghost text = { request_fault_text };
 
-    ghost output = { λ fault. Some (request_fault_text fault) };
-
-    fn fmt<W: fmt::Write>(&self, f: &mut fmt::Formatter<W>) -> fmt::Result {
+    fn put_pieces<P: Pieces>(&self, out: &mut P) -> Result<(), PutFailed> {
         match self {
-            RequestFault::Memory => f.write_str("out of memory"),
-            RequestFault::PackageRange => f.write_str("package of a world out of range"),
-            RequestFault::UnknownWorld(name) => write!(f, "no world `{name}`"),
-            RequestFault::SeveralWorlds(name) => write!(f, "several worlds `{name}`"),
-            RequestFault::UnknownKey(key) => write!(f, "no export `{key}`"),
-            RequestFault::SeveralKeys(key) => write!(f, "several exports `{key}`"),
-            RequestFault::RepeatedKey(key) => write!(f, "export `{key}` twice"),
+            RequestFault::Memory => out.put_piece(OUT_OF_MEMORY),
+            RequestFault::PackageRange => out.put_piece("package of a world out of range"),
+            RequestFault::UnknownWorld(name) => put_quoted(out, "no world", name),
+            RequestFault::SeveralWorlds(name) => put_quoted(out, "several worlds", name),
+            RequestFault::UnknownKey(key) => put_quoted(out, "no export", key),
+            RequestFault::SeveralKeys(key) => put_quoted(out, "several exports", key),
+            RequestFault::RepeatedKey(key) => {
+                put_quoted(out, "export", key)?;
+                out.put_piece(" twice")
+            }
         }
     }
 }
-
-impl StdError for RequestFault<'_> {}
 
 impl From<AllocError> for RequestFault<'_> {
     ghost use Rattle.wc_selection.specs.declared.fault.RequestFault.TheVariants.{Memory};

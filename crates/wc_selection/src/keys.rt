@@ -1,4 +1,4 @@
-//! The keys of a world's exports, with their texts.
+//! The keys of a world's imports and exports, with their texts.
 
 ghost use Rattle.std.specs.Prelude.{◌≡◌, ◌<◌, All, IfOk, length, map, string_bytes};
 ghost use Rattle.std.specs.List.{list_any};
@@ -8,7 +8,7 @@ ghost use Rattle.semver.specs.Identifiers.{parts_text};
 ghost use Rattle.wc_resolve.specs.Resolve.{key_text};
 ghost use Rattle.wc_resolve.specs.Ranges.{IsKeyIn};
 ghost use Rattle.wc_resolve.specs.Views.{world_entry};
-ghost use Rattle.wc_selection.specs.Keys.{AreKeysApart, export_keys, named_key, named_keys, texts_of};
+ghost use Rattle.wc_selection.specs.Keys.{AreKeysApart, export_keys, import_keys, named_key, named_keys, texts_of};
 ghost use Rattle.wc_selection.specs.Texts.{HasTexts, is_in, text_of};
 
 use std::alloc::{AllocError, Global};
@@ -35,7 +35,27 @@ pub fn export_keys(
     named_keys(alloc, resolve, &resolve.world(world).exports)
 }
 
-/// The keys of some exports, in order, each with its text.
+/// The keys of a world's imports, in order, each with its text (`Resolve::name_world_key`).
+///
+/// The world must be in range (`Resolve::has_world`).
+///
+/// # Errors
+///
+/// `AllocError`: an allocation failed.
+pub fn import_keys(
+    alloc: Global,
+    resolve: &Resolve,
+    world: WorldId,
+) -> Result<Vec<(WorldKey, String)>, AllocError>
+    requires { world.0 < length resolve.now.worlds }
+    ensures keys { IfOk result (λ v. map named_key v.items ≡ import_keys resolve.now world.0) }
+    ensures differ { IfOk result (λ v. AreKeysApart (map named_key v.items)) }
+{
+    resolve.well_formedness();
+    named_keys(alloc, resolve, &resolve.world(world).imports)
+}
+
+/// The keys of some imports or exports, in order, each with its text.
 fn named_keys(
     alloc: Global,
     resolve: &Resolve,

@@ -1,6 +1,6 @@
 //! What a request names of a document: the world that is encoded, by its name (`select_world`), or the one that has all
-//! others for parts (`whole_world`); the keys of its exports
-//! (`export_keys`), by their texts (`request_keys`, `check_keys`) or by the indices of their interfaces (`indexed_keys`);
+//! others for parts (`whole_world`); the keys of its imports (`import_keys`) and of its
+//! exports (`export_keys`), by their texts (`request_keys`, `check_keys`) or by the indices of their interfaces (`indexed_keys`);
 //! and the keys that the main module and each adapter have to export (`required_keys`). And the main module with its
 //! repeated imports renamed (`MainModule`), and the name that stands for no task hook (`no_task_hook`).
 //!
@@ -23,7 +23,7 @@ mod worlds;
 pub use fault::RequestFault;
 pub use key_index::{AdapterKeys, KeyIndex};
 pub use key_names::{indexed_keys, request_keys};
-pub use keys::export_keys;
+pub use keys::{export_keys, import_keys};
 pub use main_module::MainModule;
 pub use module_keys::{check_keys, required_keys};
 pub use requests::{Exporter, KeyRequest};

@@ -2,11 +2,13 @@
 
 ghost use Rattle.std.specs.Prelude.{◌≡◌, ◌≢◌, [], IfErr, IfOk, IfSome};
 ghost use Rattle.std.specs.Cow.{cow_slice_items};
-ghost use Rattle.wc_dedupe.specs.Dedupe.{IsDeduped, IsDedupeCause, renames_in};
+ghost use Rattle.wc_dedupe.specs.Dedupe.{IsDeduped, IsDedupeCause, IsDedupePlace, renames_in};
 
 use std::alloc::{AllocError, Global};
 use std::borrow::CowSlice;
 use wc_dedupe::{DedupeFault, ModuleImportMap};
+use wc_read::ReadPlace;
+use wc_texts::Refused;
 
 /// A main module whose repeated imports are renamed.
 #[derive(Drop)]
@@ -38,6 +40,36 @@ impl MainModule {
         let (bytes, import_map) = ModuleImportMap::new(alloc, wasm)?;
         let wasm = owned(alloc, bytes)?;
         Ok(MainModule { wasm, import_map })
+    }
+
+    /// The main module of these bytes, as `new` makes it; and where they stop to be right, if they can't be read.
+    ///
+    /// # Errors
+    ///
+    /// Those of `new`. A `Read` has a place, and no other fault has one. `Memory` comes too where there is no memory to
+    /// find it.
+    ///
+    /// `wasm` is dropped on an error.
+    pub fn new_explained(
+        alloc: Global,
+        wasm: CowSlice<'_, u8>,
+    ) -> Result<MainModule, Refused<DedupeFault, ReadPlace>>
+        ensures dedupe { IfOk result (λ m. IsDeduped
+            (cow_slice_items wasm.entry) m.wasm.items (renames_in m.import_map)) }
+        ensures some { IfOk result (λ m. IfSome m.import_map (λ map. map ≢ [])) }
+        ensures refused { IfErr result (λ r. IsDedupeCause (cow_slice_items wasm.entry) r.fault) }
+        // The place is within the bytes, and in the section that it names.
+        ensures place { IfErr result (λ r.
+            IsDedupePlace (cow_slice_items wasm.entry) r.fault r.place) }
+    {
+        let (bytes, import_map) = ModuleImportMap::new_explained(alloc, wasm)?;
+        match owned(alloc, bytes) {
+            Ok(wasm) => Ok(MainModule { wasm, import_map }),
+            Err(AllocError) => Err(Refused {
+                fault: DedupeFault::Memory,
+                place: None,
+            }),
+        }
     }
 }
 

@@ -1,7 +1,7 @@
 //! A row's answer, from the library whose call it names.
 
 use crate::calls::{CALLS, Call};
-use crate::{law_calls, library_calls, wcplan_calls, wcwhy_calls};
+use crate::{fault_lists, law_calls, library_calls, wcplan_calls, wcwhy_calls};
 use std::alloc::Global;
 use wc_component_rows::{calls as world_calls, plans as plan_calls};
 use wc_example_rows::{examples, json_calls};
@@ -53,6 +53,7 @@ fn answer_call(alloc: Global, call: Call, row: &Row<'_>, out: &mut Lines) {
         Call::Unfolding(call) => unfolding::answer(alloc, call, row, out),
         Call::Hostile(call) => hostile_calls::answer(alloc, call, row, out),
         Call::Fault(call) => fault_calls::answer(alloc, call, out),
+        Call::FaultList(call) => fault_lists::answer(alloc, call, out),
         Call::Wctrim(call) => wctrim_calls::answer(alloc, call, row, out),
         Call::Sink(call) => sink_calls::answer(alloc, call, row, out),
         Call::Law => law_calls::answer(alloc, row, out),
@@ -88,7 +89,7 @@ pub(crate) fn is_wanted(row: &Row<'_>, answer: &str, may_fail: bool) -> bool {
     }
 }
 
-/// Whether a line says that memory ran out, for the answer or for what a fault is about.
+/// Whether a line says that memory ran out.
 fn lacks_memory(line: &str) -> bool {
-    line.ends_with("out of memory") || line.ends_with("out of memory for what it is about")
+    line.ends_with("out of memory")
 }

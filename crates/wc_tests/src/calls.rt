@@ -1,6 +1,6 @@
 //! The calls of rows, by their names.
 
-use crate::{library_calls, wcplan_calls, wcwhy_calls};
+use crate::{fault_lists, library_calls, wcplan_calls, wcwhy_calls};
 use wc_component_rows::{calls as world_calls, plans as plan_calls};
 use wc_fixtures::{encoder_calls, key_calls, name_calls, resolve_calls};
 use wc_module_rows::validation::calls as validate_calls;
@@ -27,6 +27,7 @@ pub(crate) enum Call {
     Unfolding(unfolding::Call),
     Hostile(hostile_calls::Call),
     Fault(fault_calls::Call),
+    FaultList(fault_lists::Call),
     Wctrim(wctrim_calls::Call),
     Sink(sink_calls::Call),
     Law,
@@ -45,10 +46,11 @@ pub(crate) enum Call {
 }
 
 /// The call of each name.
-pub(crate) const CALLS: [(&str, Call); 134] = [
+pub(crate) const CALLS: [(&str, Call); 142] = [
     ("frames", Call::Read(read_calls::Call::Frames)),
     ("read_imports", Call::Read(read_calls::Call::Imports)),
     ("read_module", Call::Read(read_calls::Call::Module)),
+    ("explain_read", Call::Read(read_calls::Call::Explain)),
     (
         "function_names_of",
         Call::Read(read_calls::Call::FunctionNames),
@@ -89,6 +91,7 @@ pub(crate) const CALLS: [(&str, Call); 134] = [
         Call::Dedupe(dedupe_calls::Call::Originals),
     ),
     ("read_deduped", Call::Dedupe(dedupe_calls::Call::Read)),
+    ("explain_dedupe", Call::Dedupe(dedupe_calls::Call::Explain)),
     ("liveness_counted", Call::Gc(gc_calls::Call::Liveness)),
     ("trim", Call::Gc(gc_calls::Call::Trim)),
     ("trim_for", Call::Gc(gc_calls::Call::TrimFor)),
@@ -126,7 +129,20 @@ pub(crate) const CALLS: [(&str, Call); 134] = [
     ("write_faults", Call::Fault(fault_calls::Call::Write)),
     ("dedupe_faults", Call::Fault(fault_calls::Call::Dedupe)),
     ("gc_faults", Call::Fault(fault_calls::Call::Gc)),
-    ("tool_faults", Call::Fault(fault_calls::Call::Wctrim)),
+    ("command_faults", Call::Fault(fault_calls::Call::Wctrim)),
+    ("json_faults", Call::FaultList(fault_lists::Call::Json)),
+    (
+        "request_faults",
+        Call::FaultList(fault_lists::Call::Request),
+    ),
+    (
+        "selection_faults",
+        Call::FaultList(fault_lists::Call::Selection),
+    ),
+    (
+        "message_faults",
+        Call::FaultList(fault_lists::Call::Message),
+    ),
     ("parse", Call::Wctrim(wctrim_calls::Call::Parse)),
     ("execute", Call::Wctrim(wctrim_calls::Call::Execute)),
     ("run_program", Call::Wctrim(wctrim_calls::Call::Program)),
@@ -304,6 +320,7 @@ pub(crate) const CALLS: [(&str, Call); 134] = [
     ("world_faults", Call::World(world_calls::Call::Faults)),
     ("plan", Call::Plan(plan_calls::Call::Plan)),
     ("plan_json", Call::Plan(plan_calls::Call::Json)),
+    ("plan_explain", Call::Plan(plan_calls::Call::Explain)),
     ("plan_failing", Call::Plan(plan_calls::Call::Failing)),
     (
         "plan_without_lowerings",
@@ -317,6 +334,10 @@ pub(crate) const CALLS: [(&str, Call); 134] = [
         Call::Library(library_calls::Call::TrimToWrite),
     ),
     ("why_into", Call::Library(library_calls::Call::Why)),
+    (
+        "fault_text_into",
+        Call::Library(library_calls::Call::FaultText),
+    ),
     ("world_into", Call::Library(library_calls::Call::World)),
     ("plan_into", Call::Library(library_calls::Call::Plan)),
     (

@@ -14,7 +14,7 @@ pub(crate) fn answer(alloc: Global, row: &Row<'_>, out: &mut Lines) {
 fn json_laws() {
     wc_json::laws::documents_read_back();
     wc_json::laws::texts_read_back();
+    wc_json::laws::repeats_are_there();
     wc_record::laws::libraries_read_back();
     wc_record::laws::library_texts_read_back();
-    wcplan_command::laws::repeats_are_there();
 }

@@ -2,7 +2,7 @@
 
 use crate::call_example::trim_to_write;
 use std::alloc::{AllocError, Global};
-use wc_calls::{Answer, MEMORY, dedupe, plan, trim, validate, why, world};
+use wc_calls::{Answer, MEMORY, dedupe, fault_text, plan, trim, validate, why, world};
 use wc_lines::input::{Stop, bad_row, bytes_of, end_answer};
 use wc_lines::lines::Lines;
 use wc_lines::rows::Row;
@@ -12,13 +12,14 @@ use wc_lines::values::put_bytes_lines;
 /// Each byte of a buffer before a call.
 const UNTOUCHED: u8 = 0xee;
 
-/// The calls on a module, and from `World` on those on a message.
+/// The calls on a module, that on numbers, and from `World` on those on a message.
 #[derive(Clone, Copy)]
 pub(crate) enum Call {
     Dedupe,
     Trim,
     TrimToWrite,
     Why,
+    FaultText,
     World,
     Plan,
     Validate,
@@ -36,6 +37,7 @@ fn answer_call(alloc: Global, call: Call, row: &Row<'_>, out: &mut Lines) -> Res
         Call::Trim => answer_trim(alloc, row, out),
         Call::TrimToWrite => answer_trim_to_write(alloc, row, out),
         Call::Why => answer_why(alloc, row, out),
+        Call::FaultText => answer_fault_text(alloc, row, out),
         _ => answer_message(alloc, call, row, out),
     }
 }
@@ -65,7 +67,7 @@ fn put_trimmed(
     out: &mut Lines,
 ) -> Result<(), Stop> {
     let mut buffer = buffer_of(alloc, row, out)?;
-    let Some(page_size_log2) = page_size_log2_in(row) else {
+    let Some(page_size_log2) = number_in(row, 1) else {
         return Err(bad_row(out, "no exponent", row.call));
     };
     let Some((realloc, required)) = names.split_first() else {
@@ -109,6 +111,17 @@ fn answer_why(alloc: Global, row: &Row<'_>, out: &mut Lines) -> Result<(), Stop>
     let required = slices_of(alloc, &names)?;
     let mut buffer = buffer_of(alloc, row, out)?;
     let answer = why(alloc, row_seed(), &wasm, &required, &mut buffer);
+    put_answer(&answer, &buffer, out);
+    Ok(())
+}
+
+/// `fault_text_into ROOM CALL NUMBER`: the text of a fault of a call, by their numbers, in a buffer of so many bytes.
+fn answer_fault_text(alloc: Global, row: &Row<'_>, out: &mut Lines) -> Result<(), Stop> {
+    let mut buffer = buffer_of(alloc, row, out)?;
+    let (Some(call), Some(number)) = (number_in(row, 1), number_in(row, 2)) else {
+        return Err(bad_row(out, "no number", row.call));
+    };
+    let answer = fault_text(alloc, call, number, &mut buffer);
     put_answer(&answer, &buffer, out);
     Ok(())
 }
@@ -181,8 +194,9 @@ fn text_of(alloc: Global, lines: &[&str]) -> Result<String, AllocError> {
     Ok(text)
 }
 
-fn page_size_log2_in(row: &Row<'_>) -> Option<u32> {
-    row.arguments.get(1)?.parse::<u32>().ok()
+/// The number that the argument at an index is.
+fn number_in(row: &Row<'_>, index: usize) -> Option<u32> {
+    row.arguments.get(index)?.parse::<u32>().ok()
 }
 
 fn has_realloc(row: &Row<'_>) -> bool {

@@ -4,6 +4,7 @@
 mod answers;
 mod call_example;
 mod calls;
+mod fault_lists;
 mod law_calls;
 mod library_calls;
 mod program;

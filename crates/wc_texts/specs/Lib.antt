@@ -4,5 +4,6 @@ pub mod Finds
 pub mod Names
 pub mod PieceLaws
 pub mod Pieces
+pub mod Prefixes
 pub mod Puts
 pub mod Sink

@@ -1,5 +1,5 @@
-//! Texts, below all that reads or writes modules: where they go (`Sink`, `Pieces`), those of faults (`FaultText`), and
-//! what comes after a beginning.
+//! Texts, below all that reads or writes modules: where they go (`Sink`, `Pieces`), those of faults (`FaultText`), what a
+//! fault is about (`Refused`), and prefixes.
 //!
 //! A `Sink` takes bytes of output until a write fails, and none from then on. A fault puts its text piece by piece, to a
 //! sink or to a formatter, so its crate says it once.
@@ -8,11 +8,13 @@
 mod fault_text;
 mod pieces;
 mod prefixes;
+mod refused;
 mod sink;
 
 pub use fault_text::{
     CARRIED, FaultText, OUT_OF_MEMORY, put_about, put_carried, put_quoted, show, text_of,
 };
 pub use pieces::Pieces;
-pub use prefixes::after;
+pub use prefixes::strip_prefix;
+pub use refused::Refused;
 pub use sink::{Destination, PutFailed, Sink, WriterSink};

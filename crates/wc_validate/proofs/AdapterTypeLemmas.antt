@@ -1,5 +1,5 @@
 -- Types that are noted for functions of adapters.
-use Rattle.std.proofs.Common.{◌≡◌, ◌↔◌, ℕ, Bool, true, false, ◌&&◌, cond, IsTrue, List, [], ◌∷◌, ◌++◌, map, Option, Some, None, String, string_bytes, refl, sym, ap, subst, ◌∙◌}
+use Rattle.std.proofs.Common.{OnOk, Result, Ok, Err, ◌≡◌, ◌↔◌, ℕ, Bool, true, false, ◌&&◌, cond, IsTrue, List, [], ◌∷◌, ◌++◌, map, Option, Some, None, String, string_bytes, refl, sym, ap, subst, ◌∙◌}
 use Rattle.std.specs.Map.{lookup}
 use Rattle.std.specs.Option.{option_map}
 use Rattle.std.specs.Str.{bytes_eq}
@@ -11,7 +11,7 @@ use Rattle.wc_read.specs.declared.types.FuncType.{FuncType}
 use Rattle.wc_read.specs.Types.{FuncTypeValue, func_type_value}
 use Rattle.wc_names.specs.Builtins.{signature}
 use Rattle.wc_resolve.proofs.LookupLemmas.{lookup_viewed}
-use Rattle.wc_validate.specs.Imports.AdapterTypes.{Agrees, first_some, is_function_key, noted_type, one_type, type_entry}
+use Rattle.wc_validate.specs.Imports.AdapterTypes.{first_some, is_function_key, noted_type, one_type, type_entry}
 
 abbrev pub Key : Type 0
 Key = String Global × String Global
@@ -92,11 +92,7 @@ pub type_test : (b : Bool) (v t : FuncTypeValue) (ps rs : List ValType) → ps �
 type_test b v t ps rs first second test =
     subst (λ z. IsTrue b ↔ (v ≡ signature t.params z)) second (subst (λ z. IsTrue b ↔ (v ≡ signature z rs)) first test)
 
-pub agrees_first : (b : Bool) (v t : FuncTypeValue) (ps rs : List ValType) (n : Option FuncTypeValue) → n ≡ Some t → ps ≡ t.params → rs ≡ t.results → IsTrue b
-    ↔ (v ≡ signature ps rs) → IsTrue b ↔ Agrees n v
-agrees_first b v t ps rs n noted first second test =
-    subst (λ z. IsTrue b ↔ Agrees z v) (sym noted)
-    (subst (λ z. IsTrue b ↔ (v ≡ signature t.params z)) second (subst (λ z. IsTrue b ↔ (v ≡ signature z rs)) first test))
-
-pub agrees_none : (v : FuncTypeValue) (n : Option FuncTypeValue) → n ≡ None → IsTrue true ↔ Agrees n v
-agrees_none v n none = subst (λ z. IsTrue true ↔ Agrees z v) (sym none) ((λ t. refl), (λ e. refl))
+-- what holds anyway holds on success
+pub on_any : {T F : Type 0} (r : Result T F) (A : Type 0) → A → OnOk r A
+on_any (Ok x) A a = a
+on_any (Err e) A a = tt

@@ -29,9 +29,9 @@ use Rattle.wc_validate.specs.Imports.Classify.{HasSignature, IsNameFault}
 use Rattle.wc_validate.specs.Validate.{HasNoCause, IsValidateCause, IsExportsCause, IsExportsRecord, IsImportsCause, IsImportsRecord, IsModuleCause, IsRecordOf, IsImportScopeFor, ValidationInput, ModuleRecord, module_record}
 use Rattle.wc_validate.specs.declared.validate.ValidatedModule.{ValidatedModule}
 use Rattle.wc_validate.specs.declared.fault.ValidateFault.{ValidateFault}
-use Rattle.wc_validate.specs.declared.refused.RefusedModule.{RefusedModule}
 use Rattle.wc_validate.specs.declared.fault.ValidateFault.TheVariants.{Memory, Read, NotAModule, SignatureMismatch}
 use Rattle.wc_validate.proofs.LawLemmas.{exports_alike, none_some, one_core, one_entry, one_name_scope, same_signature, import_scopes_same}
+use Rattle.wc_validate.specs.Refused.{RefusedModule}
 
 pub kind_of : {K O : Type 0} (Holds : K → O → Type 0) (ks : List K) (o : O) → FirstOf Holds ks o → (k : K) × Holds k o
 kind_of Holds [] o h = absurd h

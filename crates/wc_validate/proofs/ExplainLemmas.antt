@@ -1,9 +1,9 @@
 -- Where validation stops: the first import or export that is refused, and what is recorded before it.
-use Rattle.std.proofs.Common.{◌≡◌, ◌≢◌, ◌↔◌, ℕ, zero, suc, Bool, false, IsTrue, ◌<◌, ◌≤◌, ◌+◌, List, [], ◌∷◌, ◌++◌, length, map, take, get_or, Option, Some, None, option_copied, IfOk, IsOkAnd, Result, Ok, Err, String, string_bytes, refl, sym, ap, subst, ◌∙◌, append_assoc, append-nil, inl, inr}
+use Rattle.std.proofs.Common.{◌≡◌, ◌≢◌, ℕ, zero, suc, ◌<◌, ◌≤◌, ◌+◌, List, [], ◌∷◌, ◌++◌, length, map, take, get_or, Option, Some, None, option_copied, Err, String, string_bytes, refl, sym, ap, subst, ◌∙◌, append_assoc, append-nil, inl, inr}
 use Rattle.std.specs.List.{cons_option, filter_map, slice_get}
 use Rattle.std.specs.Option.{option_map}
 use Rattle.std.specs.declared.alloc.Global.{Global}
-use Rattle.std.specs.declared.alloc.AllocError.{AllocError}
+use Rattle.wc_validate.specs.declared.refused.RefusedImport.{RefusedImport}
 use Rattle.std.proofs.lemmas.List.{map-append, take-map, take_all, take_more}
 use Rattle.std.proofs.lemmas.Option.{slice_get-get_or, slice_get-map}
 use Rattle.wc_read.specs.declared.core_module.Module.{Module}
@@ -17,14 +17,10 @@ use Rattle.wc_read.specs.declared.types.ImportType.TheVariants as imported
 use Rattle.wc_read.specs.Types.{FuncTypeValue, func_type_value}
 use Rattle.wc_resolve.specs.Views.{KeyView, key_view}
 use Rattle.wc_names.specs.Exports.{ClassifiedExport, CoreExport}
-use Rattle.wc_adapters.specs.Adapters.{LibraryView}
 use Rattle.wc_names.specs.Imports.{Classified, CoreImport, ExternType, NameScope, func_type}
-use Rattle.wc_names.specs.Laws.{MeaningsUnique}
 use Rattle.wc_names.specs.Meanings.{means}
-use Rattle.wc_names.specs.declared.imports.Import.{Import as NamedImport}
-use Rattle.wc_names.specs.Views.{ImportView, import_view}
+use Rattle.wc_names.specs.Views.{ImportView}
 use Rattle.wc_validate.specs.declared.exports.classify.ExportContext.{ExportContext}
-use Rattle.wc_validate.specs.declared.refused.RefusedModule.{RefusedModule}
 use Rattle.wc_validate.specs.declared.validate.ValidationInput.{ValidationInput as CodeInput}
 use Rattle.wc_validate.specs.declared.fault.ValidateFault.{ValidateFault}
 use Rattle.wc_validate.specs.declared.fault.ValidateFault.TheVariants.{Memory, Read, NotAModule, AdapterModuleDidNotExport, NotAFunction, SignatureMismatch, NoRootImport, RootNotFunction, BadSyntax, UnknownInterface, UnknownIntrinsic, MissingFunction, NoSuchExport, TypedReference, WholeDiffers, Mixed, SeveralMemoryImports, DuplicateImport, AdapterTypesDiffer}
@@ -32,7 +28,6 @@ use Rattle.wc_validate.specs.declared.imports.record.ImportContext.{ImportContex
 use Rattle.wc_validate.specs.declared.imports.recorder.Recorder.{Recorder}
 use Rattle.wc_validate.specs.declared.name_fault.NameFault.{NameFault}
 use Rattle.wc_validate.specs.declared.name_fault.NameFault.TheVariants as naming
-use Rattle.wc_validate.specs.declared.place.Place.{Place}
 use Rattle.wc_validate.specs.declared.place.Subject.{Subject}
 use Rattle.wc_validate.specs.Exports.Contexts.{core_export}
 use Rattle.wc_validate.specs.Exports.Map.{ExportRecord}
@@ -40,26 +35,20 @@ use Rattle.wc_validate.specs.Exports.Record.{AreExports, HasMismatch, IsExportsF
 use Rattle.wc_validate.specs.Fault.{import_fault_kind}
 use Rattle.wc_validate.specs.Classifications.{IsClassification}
 use Rattle.wc_validate.specs.Imports.Classify.{IsClassified, IsNameFault}
-use Rattle.wc_validate.specs.Imports.Entries.{Entry, adapter_type_of, by_modules, first_by, single, whole}
-use Rattle.wc_validate.specs.Imports.Record.{ImportScope, AreEntries, IsEntry, IsEntryCause, IsFaultOfImport, IsValidAfter, entry_faults, extern_type, library_entry}
+use Rattle.wc_validate.specs.Imports.Entries.{Entry, by_modules, single, whole}
+use Rattle.wc_validate.specs.Imports.Record.{ImportScope, AreEntries, IsEntry, IsEntryCause, IsFaultOfImport, IsValidAfter, entry_faults, extern_type}
 use Rattle.wc_validate.specs.NameScope.{name_scope_of}
-use Rattle.wc_validate.specs.Explain.{IsExportPlace, IsFirstMismatched, IsImportPlace, IsModulePlace, IsPlaceOfImport, IsTypedAt, DifferenceView, PlaceView, difference_of, an_export, an_import, place_view, subject_view}
-use Rattle.wc_validate.specs.Private.Explain.{AreDifferingTypes, AreMismatchedTypes, AreTypesIn, HasRecordedImports, IsAdapterFunction, function_view, IsExportStopAt, IsPlaceIn, IsStopAt, IsStopPlaced}
+use Rattle.wc_validate.specs.Explain.{IsExportPlace, IsFirstMismatched, IsImportPlace, IsModulePlace, IsPlaceOfImport, DifferenceView, PlaceView, difference_of, an_export, an_import, subject_view}
+use Rattle.wc_validate.specs.Private.Explain.{AreMismatchedTypes, HasRecordedImports, IsExportStopAt, IsImportRefused, IsPlaceIn, IsStopAt, IsStopIn}
 use Rattle.wc_validate.specs.Private.ValidationInputs.{validation_input_of}
-use Rattle.wc_validate.specs.Refused.{IsMemoryRefusal, IsPlaceOrNone, IsRefusedAt}
+use Rattle.wc_validate.specs.Refused.{IsMemoryRefusal, IsRefusedAt, RefusedModule}
 use Rattle.wc_validate.specs.Private.Exports.Classify.{IsExportClassified}
-use Rattle.wc_validate.specs.Private.Imports.Contexts.{AreRecorded, AreRecordedIn, HasLibrary, IsClassifiedIn, IsImportRecorded, IsImportRefusal, import_scope}
-use Rattle.wc_validate.specs.Private.Imports.Recorder.{types_in}
+use Rattle.wc_validate.specs.Private.Imports.Contexts.{AreRecorded, AreRecordedIn, HasLibrary, IsImportRecorded, IsImportRefusal, import_scope}
 use Rattle.wc_validate.specs.Validate.{IsImportScopeFor, IsNameScopeOf, ValidationInput}
-use Rattle.wc_validate.proofs.BuiltinLemmas.{not_so}
+use Rattle.wc_validate.proofs.ContainedLemmas.{some_same}
 use Rattle.wc_validate.proofs.ExclusionLemmas.{kind_of}
-use Rattle.wc_validate.proofs.ImportRecordLemmas.{by_name}
-use Rattle.wc_validate.proofs.LawLemmas.{entries_same}
 use Rattle.wc_validate.proofs.ExportRecordLemmas.{ExportsPassed}
-use Rattle.wc_validate.proofs.RefusedLemmas.{memory_at}
-
-some_same : {X : Type 0} {x y : X} → Some x ≡ Some y → x ≡ y
-some_same e = cc e
+use Rattle.wc_validate.proofs.RefusedLemmas.{memory_at, refused_as}
 
 -- an entry after the others
 entries_end : (s : ImportScope) (b : List Entry) (is : List ImportValue) (xs : List Entry) (i : ImportValue) (x : Entry) → AreEntries s b is xs
@@ -89,17 +78,18 @@ value_there : (imports : List Import) (index : ℕ) (d : Import) → index < len
 value_there imports index d below = slice_get-map import_value imports index ∙ ap (option_map import_value) (slice_get-get_or imports index d below)
 
 pub stop_at : (s : ImportScope) (imports : List Import) (index : ℕ) (d : Import) (r : Recorder) (f : ValidateFault) → index < length imports
-    → (p : AreRecorded s (import_values (take index imports)) r) → IsImportRefusal s p.0 (import_value (get_or imports index d)) f
-    → IsStopAt s (import_values imports) index f
-stop_at s imports index d r Memory below p h = tt
-stop_at s imports index d r f below p h = (
+    → (types : Option DifferenceView) → (p : AreRecorded s (import_values (take index imports)) r)
+    → IsImportRefusal s p.0 (import_value (get_or imports index d)) f types → IsStopAt s (import_values imports) index f types
+stop_at s imports index d r Memory below types p h = tt
+stop_at s imports index d r f below types p h = (
   import_value (get_or imports index d),
   p.0,
   record {
     there = value_there imports index d below;
     recorded = subst (λ z. AreEntries s [] z p.0) (sym (take-map import_value index imports)) p.1;
-    refused = h;
+    refused = h.0;
   },
+  h.1,
 )
 
 -- the faults that carry nothing and are of a part of a module, as those of imports are
@@ -141,12 +131,11 @@ fault_of_import s before i f (inr h) =
 
 -- an import as the place of the fault that it is refused with
 pub place_at : (s : ImportScope) (imports : List Import) (index : ℕ) (d : Import) (subject : Subject) (types : Option DifferenceView) (f : ValidateFault)
-    → index < length imports → IsStopAt s (import_values imports) index f → f ≢ Memory
+    → index < length imports → IsStopAt s (import_values imports) index f types → f ≢ Memory
     → subject_view subject ≡ an_import (get_or imports index d).module.now (get_or imports index d).name.now index
-    → ((before : List Entry) → AreEntries s [] (import_values (take index imports)) before → IsTypedAt s before (import_value (get_or imports index d)) f types)
     → IsImportPlace s (import_values imports) f (record { subject = subject_view subject; types = types })
-place_at s imports index d subject types Memory below h real is typed = absurd (real refl)
-place_at s imports index d subject types f below h real is typed =
+place_at s imports index d subject types Memory below h real is = absurd (real refl)
+place_at s imports index d subject types f below h real is =
     let value : h.0 ≡ import_value (get_or imports index d) = some_same (sym h.2.there ∙ value_there imports index d below) in
     record {
       index = index;
@@ -154,8 +143,7 @@ place_at s imports index d subject types f below h real is typed =
       before = h.1;
       first = h.2;
       subject = is ∙ ap (λ (z : ImportValue). an_import z.module_name z.name index) (sym value);
-      types = subst (λ z. IsTypedAt s h.1 z f types) (sym value)
-          (typed h.1 (subst (λ z. AreEntries s [] z h.1) (take-map import_value index imports) h.2.recorded));
+      types = h.3;
     }
 
 -- the types of an import that is refused for its type
@@ -174,71 +162,25 @@ unfolding IsClassified
 mismatch_of e a wanted h = h
 
 pub mismatched_at : (c : ImportContext) (i : Import) (index : ℕ) (d wanted found : FuncType) → i.ty ≡ imported.Func index → index < length c.types.now
-    → func_type_value found ≡ func_type_value (get_or c.types.now index d)
-    → ((library : Option LibraryView) → IsClassifiedIn c library i (Err (naming.SignatureMismatch wanted)))
-    → AreMismatchedTypes c i (record { wanted = wanted; found = found })
-mismatched_at c i index d wanted found is below same h = λ library before.
-    let m = h library in
+    → func_type_value found ≡ func_type_value (get_or c.types.now index d) → AreMismatchedTypes c i wanted (record { wanted = wanted; found = found })
+mismatched_at c i index d wanted found is below same = λ library before m.
     let typed : option_map func_type (slice_get (map func_type_value c.types.now) index) ≡ Some (m.0).ty
     = subst (λ z. extern_type (map func_type_value c.types.now) z ≡ Some (m.0).ty) is m.1.2 in
     let found_is : (m.0).ty ≡ func_type (func_type_value found) = type_at c.types.now index d (m.0).ty below typed ∙ ap func_type (sym same) in
     let n = mismatch_of (name_scope_of c.names) m.0 wanted m.2 in
     (m.0, n.0, m.1, n.1, found_is, differ_as (m.0).ty (func_type_value wanted) (func_type_value found) found_is n.2)
 
--- the function of an adapter that an import is by its name
-pub named_entry : (c : ImportContext) (i : Import) (o : Option Entry) (r : Result NamedImport NameFault)
-    (answer : Result ((String Global × String Global) × FuncType) AllocError) → None ≡ o
-    → ((library : Option LibraryView) → HasLibrary c library → o ≡ library_entry library i.module.now i.name.now)
-    → ((library : Option LibraryView) → IsClassifiedIn c library i r) → IfOk answer (λ f. IsOkAnd r (λ v. function_view f ≡ import_view v))
-    → IfOk answer (IsAdapterFunction c i)
-named_entry c i o r (Err e) none is found h = tt
-named_entry c i o (Err e) (Ok f) none is found h = absurd h
-named_entry c i o (Ok v) (Ok f) none is found h = λ library has.
-    let k = found library in
-    subst (λ z. IsEntry (import_scope c library) (import_value i) (single i.module.now i.name.now z)) (sym h)
-    (by_name (import_scope c library) (import_value i) v o none (is library has) k.0 k.1 k.2)
-
--- the types of an import of a function of an adapter that was imported with another type
-pub differing_at : (c : ImportContext) (is : List Import) (i : Import) (recorder : Recorder) (key : String Global × String Global) (first wanted found : FuncType)
-    (b : Bool) → MeaningsUnique (name_scope_of c.names).resolve
-    → ((library : Option LibraryView) → HasLibrary c library → AreRecordedIn c library is recorder) → IsAdapterFunction c i (key, found)
-    → Some (func_type_value first) ≡ types_in recorder (string_bytes key.0) (string_bytes key.1) → func_type_value wanted ≡ func_type_value first
-    → IsTrue b ↔ (func_type_value found ≡ func_type_value first) → b ≡ false → AreDifferingTypes c is i (record { wanted = wanted; found = found })
-differing_at c is i recorder key first wanted found b unique recorded function noted same law differ = λ library before has entries.
-    let r = recorded library has in
-    let before_is : r.0 ≡ before =
-    entries_same (name_scope_of c.names).resolve unique (import_scope c library) [] (import_values is) r.0 before refl r.1 entries in (
-      string_bytes key.0,
-      string_bytes key.1,
-      function library has,
-      subst (λ z. first_by (adapter_type_of (string_bytes key.0) (string_bytes key.1)) z ≡ Some (func_type_value wanted)) before_is
-          (sym (r.2.types (string_bytes key.0) (string_bytes key.1)) ∙ (sym noted ∙ ap (λ z. Some z) (sym same))),
-      λ e. not_so b _ law differ (e ∙ same),
-    )
-
--- the types that the fault of an import compares
-pub types_none : (c : ImportContext) (is : List Import) (i : Import) (f : ValidateFault) → f ≢ SignatureMismatch → f ≢ AdapterTypesDiffer
-    → AreTypesIn c is i f None
-types_none c is i SignatureMismatch no_mismatch no_difference = absurd (no_mismatch refl)
-types_none c is i AdapterTypesDiffer no_mismatch no_difference = absurd (no_difference refl)
-types_none c is i f no_mismatch no_difference = λ library before has entries. refl
-
 module _ (j : ValidationInput) (m : Module) (c : ImportContext) (imports : List Import) (names : IsNameScopeOf j.encoder (name_scope_of c.names))
     (renames : option_copied c.renames ≡ j.renames) (types : c.types.now ≡ m.types.items) (library : HasLibrary c j.library) (same : imports ≡ m.imports.items) where
   scope_for : IsImportScopeFor j.encoder j.renames j.library (module_value m).types (import_scope c j.library)
   scope_for = record { has_name_scope = names; has_library = refl; has_renames = renames; has_types = ap (map func_type_value) types }
 
-  import_at : (f : ValidateFault) (r : Result (Option Place) AllocError) → IfOk r (IsStopPlaced c imports f)
-      → IfOk r (IsPlaceOrNone (IsPlaceOfImport j (module_value m)) f)
-  import_at f (Ok None) h = h j.library library
-  import_at f (Ok (Some p)) h =
-      (import_scope c j.library, scope_for, subst (λ z. IsImportPlace (import_scope c j.library) (import_values z) f (place_view p)) same (h j.library library))
-  import_at f (Err e) h = tt
-
-  pub import_refused : (x : RefusedModule) (f : ValidateFault) → x.fault ≡ f → IfOk x.place (IsStopPlaced c imports f)
+  pub import_refused : (x : RefusedModule) (refused : RefusedImport) → IsStopIn c imports refused → IsImportRefused imports refused x
       → IsRefusedAt (IsPlaceOfImport j (module_value m)) x
-  import_refused x f is h =
-      subst (λ z. IfOk x.place (IsPlaceOrNone (IsPlaceOfImport j (module_value m)) z)) (sym is) (import_at f x.place h)
+  import_refused x refused stop h =
+      refused_as (IsImportPlace (import_scope c j.library) (import_values imports)) (IsPlaceOfImport j (module_value m)) x
+      (λ f p k. (import_scope c j.library, scope_for, subst (λ z. IsImportPlace (import_scope c j.library) (import_values z) f p) same k))
+      (h.1 (import_scope c j.library) (stop j.library library))
 
   pub imports_recorded : (r : Recorder) → AreRecordedIn c j.library imports r → HasRecordedImports j (module_value m)
   imports_recorded r p = (
@@ -331,16 +273,7 @@ pub first_mismatch : (e : NameScope) (keys : List KeyView) (m : ModuleValue) (es
     → IsFirstMismatched e keys m es n x → HasMismatch e keys (core_exports m es)
 first_mismatch e keys m es n x h = mismatch_after e keys m es n h.value x h.before h.there h.typed h.recorded h.mismatched
 
--- a module that is refused for an export
-pub mismatch_refused : (e : NameScope) (keys : List KeyView) (m : ModuleValue) (es : List RawExport) (i : ℕ) (wanted : FuncType) (x : RefusedModule)
-    → IsExportStopAt e keys m (map export_value es) i (naming.SignatureMismatch wanted) → x.fault ≡ SignatureMismatch
-    → IfOk x.place (IsPlaceOrNone (IsExportPlace e keys m (map export_value es)) SignatureMismatch)
-    → IsExportsFault e keys (core_exports m (map export_value es)) x.fault × IsRefusedAt (IsExportPlace e keys m (map export_value es)) x
-mismatch_refused e keys m es i wanted x stop is placed = (
-  subst (IsExportsFault e keys (core_exports m (map export_value es))) (sym is) (first_mismatch e keys m (map export_value es) i stop.0 stop.1),
-  subst (λ z. IfOk x.place (IsPlaceOrNone (IsExportPlace e keys m (map export_value es)) z)) (sym is) placed,
-)
-
+-- a failed allocation
 pub memory_refused : (e : NameScope) (keys : List KeyView) (m : ModuleValue) (es : List RawExport) (x : RefusedModule) → IsMemoryRefusal x
     → IsExportsFault e keys (core_exports m (map export_value es)) x.fault × IsRefusedAt (IsExportPlace e keys m (map export_value es)) x
 memory_refused e keys m es x h = (

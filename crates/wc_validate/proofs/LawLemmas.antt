@@ -24,9 +24,7 @@ use Rattle.wc_validate.specs.Laws.{EntriesInRange, EntriesUnique, RecordsUnique,
 use Rattle.wc_validate.specs.Exports.Record.{AreExports, IsExportEntry, core_exports, entry_of}
 use Rattle.wc_validate.specs.Imports.Classify.{HasSignature}
 use Rattle.wc_validate.specs.Validate.{IsExportsRecord, IsImportsRecord, IsImportScopeFor, IsNameScopeOf, ModuleRecord, encoder_scope}
-
-some_same : {X : Type 0} {x y : X} → Some x ≡ Some y → x ≡ y
-some_same e = cc e
+use Rattle.wc_validate.proofs.ContainedLemmas.{some_same}
 
 abbrev core_by : List ℕ → List ℕ → ExternType → CoreImport
 core_by from name ty = record { from = from; name = name; ty = ty }

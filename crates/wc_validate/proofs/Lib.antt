@@ -45,6 +45,5 @@ pub mod FirstExportLemmas
 pub mod FirstFunctionLemmas
 pub mod ExplainLemmas
 pub mod MissingLemmas
-pub mod OtherPlaceLemmas
 pub mod PlaceLawLemmas
 pub mod WorldInterfaceLemmas

@@ -8,7 +8,6 @@ use Rattle.std.specs.Str.{bytes_eq}
 use Rattle.std.proofs.lemmas.Slice.Eq.{bytes_eq-Decides}
 use Rattle.semver.specs.Identifiers.{parts_text}
 use Rattle.std.specs.declared.alloc.Global.{Global}
-use Rattle.std.specs.declared.alloc.AllocError.{AllocError}
 use Rattle.std.proofs.lemmas.List.{map-append}
 use Rattle.std.proofs.lemmas.List.Elements.{All-append, All-cons, All-head, All-nil, All-tail, filter_map-append}
 use Rattle.wc_read.specs.declared.types.FuncType.{FuncType}
@@ -40,8 +39,8 @@ use Rattle.wc_validate.specs.NameScope.{HasItsWorld}
 use Rattle.wc_validate.specs.Private.Requirements.{HasKeysNamed}
 use Rattle.wc_validate.specs.Private.ExportedFunctions.{IsExportIndexOf}
 use Rattle.wc_validate.specs.Requirements.{AreMet, IsFirstUnmet, IsMet, IsShortfall, IsUnmetFault, Requirement, callback_name, callbacks, exported_type, is_called_back, key_requirement, key_requirements, memory_count, one_memory, type_requirement, typed_function, world_function}
-use Rattle.wc_validate.specs.declared.refused.RefusedModule.{RefusedModule}
-use Rattle.wc_validate.specs.Refused.{IsMemoryRefusal, IsPlaceOrNone, IsRefusedAt}
+use Rattle.wc_validate.specs.Refused.{IsMemoryRefusal, IsPlaceOrNone, IsRefusedAt, RefusedModule}
+use Rattle.wc_validate.proofs.ContainedLemmas.{some_same}
 use Rattle.wc_validate.proofs.RefusedLemmas.{memory_at, refused_as}
 use Rattle.wc_validate.proofs.RequirementLemmas.{first_right, keys_next, met_append, unmet_left, unmet_right}
 
@@ -153,9 +152,6 @@ module _ (r : ResolveView) (xs : List CoreExport) (recorded : ExportRecord) (exp
   keys_lack left rest key f p is h = lack_at left rest key f (key_requirement exports key) p is refl h
 
 -- what is missing for a key
-some_same : {X : Type 0} {x y : X} → Some x ≡ Some y → x ≡ y
-some_same e = cc e
-
 pub keys_cut : (exports : Entries) (keys before after : List KeyView) (key : KeyView) (need : Requirement) → keys ≡ before ++ key ∷ after
     → key_requirement exports key ≡ Some need
     → key_requirements exports keys ≡ key_requirements exports before ++ need ∷ key_requirements exports after
@@ -197,19 +193,26 @@ module _ (r : ResolveView) (xs : List CoreExport) (recorded : ExportRecord) wher
 -- a module that is refused for a key, or for a required function
 module _ (r : ResolveView) (xs : List CoreExport) (recorded : ExportRecord) where
   pub key_refused : (exports : Entries) (keys : List KeyView) (key : KeyView) (f : ValidateFault) (x : RefusedModule) → x.fault ≡ f
-      → IsLackAt r xs recorded exports keys key f → IfOk x.place (IsPlaceOrNone (IsKeyPlace r xs recorded exports keys) f)
+      → IsLackAt r xs recorded exports keys key f → IsPlaceOrNone (IsKeyPlace r xs recorded exports keys) f x.place
       → IsUnmetFault r xs recorded (key_requirements exports keys) x.fault × IsRefusedAt (IsKeyPlace r xs recorded exports keys) x
   key_refused exports keys key f x is lack placed = (
     subst (IsUnmetFault r xs recorded (key_requirements exports keys)) (sym is) (lack_unmet r xs recorded exports keys f key lack),
-    subst (λ z. IfOk x.place (IsPlaceOrNone (IsKeyPlace r xs recorded exports keys) z)) (sym is) placed,
+    subst (λ z. IsPlaceOrNone (IsKeyPlace r xs recorded exports keys) z x.place) (sym is) placed,
   )
 
   pub function_refused : (functions : List (List ℕ × FuncTypeValue)) (own : List ℕ × FuncTypeValue) (f : ValidateFault) (x : RefusedModule) → x.fault ≡ f
-      → IsFunctionLackAt r xs recorded functions own f → IfOk x.place (IsPlaceOrNone (IsFunctionPlace r xs recorded functions) f)
+      → IsFunctionLackAt r xs recorded functions own f → IsPlaceOrNone (IsFunctionPlace r xs recorded functions) f x.place
       → IsUnmetFault r xs recorded (map type_requirement functions) x.fault × IsRefusedAt (IsFunctionPlace r xs recorded functions) x
   function_refused functions own f x is lack placed = (
     subst (IsUnmetFault r xs recorded (map type_requirement functions)) (sym is) (unexported_unmet r xs recorded functions f own lack),
-    subst (λ z. IfOk x.place (IsPlaceOrNone (IsFunctionPlace r xs recorded functions) z)) (sym is) placed,
+    subst (λ z. IsPlaceOrNone (IsFunctionPlace r xs recorded functions) z x.place) (sym is) placed,
+  )
+
+  pub keys_failed : (exports : Entries) (keys : List KeyView) (x : RefusedModule) → IsMemoryRefusal x
+      → IsUnmetFault r xs recorded (key_requirements exports keys) x.fault × IsRefusedAt (IsKeyPlace r xs recorded exports keys) x
+  keys_failed exports keys x h = (
+    subst (IsUnmetFault r xs recorded (key_requirements exports keys)) (sym h.0) tt,
+    memory_at (IsKeyPlace r xs recorded exports keys) x h,
   )
 
   pub functions_failed : (functions : List (List ℕ × FuncTypeValue)) (x : RefusedModule) → IsMemoryRefusal x
@@ -412,20 +415,19 @@ two_memories recorded x p few =
 
 -- a module that is refused for its second memory, or for a callback that is missing
 pub memories_refused : (es : List (String Global × Export)) (name : Bor (List ℕ)) (x : RefusedModule) → IsSecondNamed es name
-    → x.fault ≡ SeveralMemoryExports → IfOk x.place (IsMemoryPlaced name.now) → IsRefusedForMemories es x
-memories_refused es name x h is placed = (is, (h.0, h.2), at x.place placed) where
-  at : (r : Result (Option Place) AllocError) → IfOk r (IsMemoryPlaced name.now) → IfOk r (IsPlaceOrNone (IsMemoryPlace (map export_entry es)) x.fault)
-  at (Ok None) k = absurd k
-  at (Ok (Some p)) k = record { is_several = is; export = h.0; second = h.2; subject = k.0 ∙ ap an_export (sym h.1); types = k.1 }
-  at (Err e) k = tt
+    → x.fault ≡ SeveralMemoryExports → IsMemoryPlaced name.now x.place → IsRefusedForMemories es x
+memories_refused es name x h is placed = inr (is, (h.0, h.2), at x.place placed) where
+  at : (o : Option Place) → IsMemoryPlaced name.now o → IsPlaceOrNone (IsMemoryPlace (map export_entry es)) x.fault o
+  at None k = absurd k
+  at (Some p) k = record { is_several = is; export = h.0; second = h.2; subject = k.0 ∙ ap an_export (sym h.1); types = k.1 }
 
 pub callbacks_refused : (es : List (String Global × Export)) (name : Bor (List ℕ)) (x : RefusedModule) → IsUncalled es name
-    → x.fault ≡ MissingCallback → IfOk x.place (IsCallbackPlaced name.now) → IsRefusedForCallbacks es x
+    → x.fault ≡ MissingCallback → IsCallbackPlaced name.now x.place → IsRefusedForCallbacks es x
 callbacks_refused es name x h is placed = inr (is, (h.0, h.2), λ one. at one x.place placed) where
-  at : memory_count (map export_entry es) ≤ 1 → (r : Result (Option Place) AllocError) → IfOk r (IsCallbackPlaced name.now)
-      → IfOk r (IsPlaceOrNone (IsCallbackPlace (map export_entry es)) x.fault)
-  at one (Ok None) k = absurd k
-  at one (Ok (Some p)) k = record {
+  at : memory_count (map export_entry es) ≤ 1 → (o : Option Place) → IsCallbackPlaced name.now o
+      → IsPlaceOrNone (IsCallbackPlace (map export_entry es)) x.fault o
+  at one None k = absurd k
+  at one (Some p) k = record {
     is_callback = is;
     one_memory = one;
     export = h.0;
@@ -433,7 +435,6 @@ callbacks_refused es name x h is placed = inr (is, (h.0, h.2), λ one. at one x.
     subject = k.0 ∙ ap (λ z. missing_export (callback_name z)) (sym h.1);
     types = k.1;
   }
-  at one (Err e) k = tt
 
 -- what is missing, among all that is required
 module _ (n : Names) (q : RequiredExports) (xs : List CoreExport) (es : List (String Global × Export)) (x : RefusedModule) where
@@ -462,10 +463,12 @@ module _ (n : Names) (q : RequiredExports) (xs : List CoreExport) (es : List (St
   failed_unmet h = unmet_as Memory h.0 tt
 
   pub memories_unmet : IsRefusedForMemories es x → IsUnmetHere
-  memories_unmet h = unmet_as SeveralMemoryExports h.0 (inl (two_memories (map export_entry es) h.1.0 h.1.1, tt))
+  memories_unmet (inl h) = failed_unmet h
+  memories_unmet (inr h) = unmet_as SeveralMemoryExports h.0 (inl (two_memories (map export_entry es) h.1.0 h.1.1, tt))
 
   pub memories_place : IsRefusedForMemories es x → IsRefusedAt IsMissingHere x
-  memories_place h = refused_as (IsMemoryPlace (map export_entry es)) IsMissingHere x (λ f p k. inl k) h.2
+  memories_place (inl h) = memory_at IsMissingHere x h
+  memories_place (inr h) = refused_as (IsMemoryPlace (map export_entry es)) IsMissingHere x (λ f p k. inl k) h.2
 
   pub callbacks_unmet : memory_count (map export_entry es) ≤ 1 → IsRefusedForCallbacks es x → IsUnmetHere
   callbacks_unmet one (inl h) = failed_unmet h

@@ -137,4 +137,5 @@ cause_in j bytes m NotAModule spelled h k = absurd k
 cause_in j bytes m f spelled h k = (m, spelled, h)
 
 pub places_are_causes : PlacesAreCauses
-places_are_causes j bytes f p h = let cause = module_cause j h.0 f p h.2 in cause_in j bytes h.0 f h.1 cause.0 cause.1
+places_are_causes j bytes f p (inl h) = h.cause
+places_are_causes j bytes f p (inr h) = let cause = module_cause j h.0 f p h.2 in cause_in j bytes h.0 f h.1 cause.0 cause.1

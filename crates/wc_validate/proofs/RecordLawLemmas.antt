@@ -23,6 +23,7 @@ use Rattle.wc_validate.specs.Laws.{EntriesInRange, IsRecordedImport, RecordedExp
 use Rattle.wc_validate.specs.Exports.Record.{AreExports, IsExportEntry, core_exports, entry_of}
 use Rattle.wc_validate.specs.NameScope.{HasItsWorld}
 use Rattle.wc_validate.specs.Validate.{IsRecordOf, IsImportScopeFor, IsNameScopeOf, ValidationInput, ModuleRecord, encoder_scope}
+use Rattle.wc_validate.proofs.ContainedLemmas.{some_same}
 use Rattle.wc_validate.proofs.InstanceLemmas.{same}
 
 -- a fact of single imports, of an entry
@@ -92,9 +93,6 @@ records_are_imports e j bytes r at h =
       subst (λ z. All (IsRecordedImport is.0 (h.value).imports) (imports_in z)) (sym is.2.2)
           (by_modules_all (λ m name v. IsRecordedImport is.0 (h.value).imports (m, (name, v))) is.2.0 each),
     )
-
-some_same : {X : Type 0} {x y : X} → Some x ≡ Some y → x ≡ y
-some_same e = cc e
 
 module _ (e : EncoderView) (w : WorldView) (s : ImportScope) (world : IsWorldOf e w) (name_scope : s.name_scope ≡ encoder_scope e w)
     (range : EntriesInRange e.resolve) where

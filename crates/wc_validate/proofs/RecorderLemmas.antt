@@ -1,6 +1,7 @@
 -- One entry more of a recorder, and why an entry is refused.
-use Rattle.std.proofs.Common.{◌≡◌, ℕ, Bool, true, false, cond, List, [], ◌∷◌, ◌++◌, map, Option, Some, None, OnOk, IfErr, Result, Ok, Err, refl, sym, ap, subst, ◌∙◌, inl, inr}
+use Rattle.std.proofs.Common.{◌≡◌, ◌≢◌, ℕ, Bool, true, false, cond, List, [], ◌∷◌, ◌++◌, map, Option, Some, None, IfErr, Result, Ok, Err, refl, sym, ap, subst, ◌∙◌, inl, inr}
 use Rattle.std.specs.Map.{lookup}
+use Rattle.std.specs.Option.{option_map}
 use Rattle.std.specs.Result.{IsErrAnd}
 use Rattle.std.specs.Str.{bytes_eq}
 use Rattle.wc_read.specs.declared.types.MemoryType.{MemoryType}
@@ -14,7 +15,10 @@ use Rattle.wc_validate.specs.Imports.Entries.{Entry, single, whole, InstanceReco
 use Rattle.wc_validate.specs.Imports.Record.{IsEntryCause, IsEntryFault, IsValidAfter}
 use Rattle.wc_validate.specs.Imports.Instances.{instance_entry, add_to, put_in, IsFree, IsPutFault, IsInstanceFault, IsWholeFault, IsWholePut}
 use Rattle.wc_validate.specs.declared.imports.recorder.Recorder.{Recorder}
-use Rattle.wc_validate.specs.Private.Imports.Recorder.{AgreesIn, IsRecordedAfter, IsRecorderOf, types_in, IsOneMemory, IsNoteFault, IsRefusedAfter}
+use Rattle.wc_validate.specs.declared.place.TypeDifference.{TypeDifference}
+use Rattle.wc_validate.specs.declared.refused.ImportFault.{ImportFault}
+use Rattle.wc_validate.specs.Place.{difference_view}
+use Rattle.wc_validate.specs.Private.Imports.Recorder.{AgreesIn, AreTypesOfEntry, IsDifference, IsDifferenceIn, IsRefusedBy, IsTypedRefusal, types_of, IsRecordedAfter, IsRecorderOf, types_in, IsOneMemory, IsNoteFault, IsRefusedAfter}
 use Rattle.wc_validate.specs.Imports.Map.{memory_in_names, memory_in_record, memory_in}
 use Rattle.wc_validate.proofs.IndexLemmas.{first_by_push, first_some_none}
 use Rattle.wc_validate.proofs.InstanceLemmas.{recorded_after}
@@ -173,10 +177,75 @@ agrees_as : (p q : List ℕ → List ℕ → Option FuncTypeValue) (i : ImportVi
 agrees_as p q (adapter_export adapter function ty) same h = subst (λ z. Agrees z ty) (same adapter function) h
 agrees_as p q i same h = tt
 
--- a fault that is passed on
-pub passed : {T : Type 0} (P : ValidateFault → Type 0) (r : Result T ValidateFault) (f : ValidateFault) → IsErrAnd r (λ e. e ≡ f) → P f → IfErr r P
-passed P (Ok x) f h p = tt
-passed P (Err e) f h p = subst P (sym h) p
+-- the types that differ of a function of an adapter: none where they are the same
+agrees_at : (o : Option FuncTypeValue) (ty : FuncTypeValue) → IsDifference o ty None → Agrees o ty
+agrees_at None ty h = refl
+agrees_at (Some first) ty h = h
+
+pub difference_none : (noted : List ℕ → List ℕ → Option FuncTypeValue) (i : ImportView) → IsDifferenceIn noted i None → AgreesIn noted i
+difference_none noted (adapter_export adapter function ty) h = agrees_at (noted adapter function) ty h
+difference_none noted i h = tt
+
+apart_at : (o : Option FuncTypeValue) (ty : FuncTypeValue) (d : TypeDifference) → IsDifference o ty (Some d) → ¬ Agrees o ty
+apart_at None ty d h g = absurd (let bad : ⊥ = cc h in bad)
+apart_at (Some first) ty d h g = h.2 g
+
+pub difference_some : (noted : List ℕ → List ℕ → Option FuncTypeValue) (i : ImportView) (d : TypeDifference) → IsDifferenceIn noted i (Some d)
+    → ¬ AgreesIn noted i
+difference_some noted (adapter_export adapter function ty) d h g = apart_at (noted adapter function) ty d h g
+difference_some noted i d h g = absurd (let bad : ⊥ = cc h in bad)
+
+types_at : (before : List Entry) (m n adapter function : List ℕ) (ty : FuncTypeValue) (d : TypeDifference) (o : Option FuncTypeValue)
+    → first_by (adapter_type_of adapter function) before ≡ o → IsDifference o ty (Some d)
+    → AreTypesOfEntry before (single m n (adapter_export adapter function ty)) (difference_view d)
+types_at before m n adapter function ty d None is h = absurd (let bad : ⊥ = cc h in bad)
+types_at before m n adapter function ty d (Some first) is h = (
+  adapter,
+  function,
+  ap (adapter_export adapter function) (sym h.1),
+  is ∙ ap (λ z. Some z) (sym h.0),
+  λ e. h.2 (sym h.1 ∙ (e ∙ h.0)),
+)
+
+pub difference_types : (before : List Entry) (m n : List ℕ) (noted : List ℕ → List ℕ → Option FuncTypeValue) (i : ImportView) (d : TypeDifference)
+    → ((a f : List ℕ) → noted a f ≡ first_by (adapter_type_of a f) before) → IsDifferenceIn noted i (Some d)
+    → AreTypesOfEntry before (single m n i) (difference_view d)
+difference_types before m n noted (adapter_export adapter function ty) d same h =
+    types_at before m n adapter function ty d (noted adapter function) (sym (same adapter function)) h
+difference_types before m n noted i d same h = absurd (let bad : ⊥ = cc h in bad)
+
+-- a fault that compares no types
+pub note_plain : (memory : Option MemoryType) (i : ImportView) (f : ValidateFault) → IsNoteFault memory i f → f ≢ AdapterTypesDiffer
+note_plain memory i Memory h e = absurd (let bad : ⊥ = cc e in bad)
+note_plain memory i SeveralMemoryImports h e = absurd (let bad : ⊥ = cc e in bad)
+note_plain memory i f h e = absurd h
+
+pub put_plain : (records : Records) (m n : List ℕ) (f : ValidateFault) → IsPutFault records m n f → f ≢ AdapterTypesDiffer
+put_plain records m n Memory h e = absurd (let bad : ⊥ = cc e in bad)
+put_plain records m n Mixed h e = absurd (let bad : ⊥ = cc e in bad)
+put_plain records m n DuplicateImport h e = absurd (let bad : ⊥ = cc e in bad)
+put_plain records m n f h e = absurd h
+
+instance_plain : (instance : InstanceRecord) (w : WhichView) → ¬ IsInstanceFault instance w AdapterTypesDiffer
+instance_plain (all_of other) w h = h
+instance_plain (names_of names) w h = h
+
+pub whole_plain : (records : Records) (m : List ℕ) (w : WhichView) (f : ValidateFault) → IsWholeFault records m w f → f ≢ AdapterTypesDiffer
+whole_plain records m w AdapterTypesDiffer h e = absurd (instance_plain h.0 w h.2)
+whole_plain records m w f h e = absurd (let bad : ⊥ = cc e in bad)
+
+untyped : (before : List Entry) (x : Entry) (f : ValidateFault) → IsRefusedAfter before x f → f ≢ AdapterTypesDiffer → IsTypedRefusal before x f None
+untyped before x Memory h plain = tt
+untyped before x AdapterTypesDiffer h plain = absurd (plain refl)
+untyped before x f h plain = (h, refl)
+
+-- such a fault that is passed on
+pub passed_plain : {T : Type 0} (before : List Entry) (x : Entry) (r : Result T ImportFault) (f : ValidateFault)
+    → IsErrAnd r (λ e. (e.fault ≡ f) × (e.types ≡ None)) → IsRefusedAfter before x f → f ≢ AdapterTypesDiffer → IfErr r (IsRefusedBy before x)
+passed_plain before x (Ok t) f h refused plain = tt
+passed_plain before x (Err e) f h refused plain =
+    subst (λ z. IsTypedRefusal before x z (types_of e)) (sym h.0)
+    (subst (λ z. IsTypedRefusal before x f (option_map difference_view z)) (sym h.1) (untyped before x f refused plain))
 
 module _ (before : List Entry) (m n : List ℕ) (i : ImportView) (old noted : Recorder) (is : IsRecorderOf old before) (same : noted.instances ≡ old.instances)
     (one : IsOneMemory old.memory i) where
@@ -222,10 +291,10 @@ pub refused_note : (before : List Entry) (m n : List ℕ) (i : ImportView) (old 
 refused_note before m n i old f is h = refused_second before m n i f (subst (λ z. IsNoteFault z i f) is.memory h)
 
 -- all of a module was recorded
-recorded_all : (before : List Entry) (m : List ℕ) (w : WhichView) (old new : Recorder) → IsRecorderOf old before → new.memory ≡ old.memory
+pub recorded_whole : (before : List Entry) (m : List ℕ) (w : WhichView) (old new : Recorder) → IsRecorderOf old before → new.memory ≡ old.memory
     → new.adapter_types ≡ old.adapter_types
     → IsWholePut (map instance_entry old.instances.entries) (map instance_entry new.instances.entries) m w → IsRecordedAfter before (whole m w) new
-recorded_all before m w old new is same_memory same_types put =
+recorded_whole before m w old new is same_memory same_types put =
     let after : map instance_entry new.instances.entries ≡ by_modules (before ++ whole m w ∷ []) = whole_after before m w _ _ is.instances put in (
       valid_whole before m w _ _ is.instances put,
       record {
@@ -237,15 +306,6 @@ recorded_all before m w old new is same_memory same_types put =
       },
     )
 
-pub recorded_whole : {T F : Type 0} (r : Result T F) (before : List Entry) (m : List ℕ) (w : WhichView) (old new : Recorder) → IsRecorderOf old before
-    → new.memory ≡ old.memory → new.adapter_types ≡ old.adapter_types
-    → OnOk r (IsWholePut (map instance_entry old.instances.entries) (map instance_entry new.instances.entries) m w)
-    → OnOk r (IsRecordedAfter before (whole m w) new)
-recorded_whole (Ok x) before m w old new is same_memory same_types put = recorded_all before m w old new is same_memory same_types put
-recorded_whole (Err f) before m w old new is same_memory same_types put = tt
-
-pub refused_all : {T : Type 0} (r : Result T ValidateFault) (before : List Entry) (m : List ℕ) (w : WhichView) (old : Recorder) → IsRecorderOf old before
-    → IfErr r (IsWholeFault (map instance_entry old.instances.entries) m w)
-    → IfErr r (IsRefusedAfter before (whole m w))
-refused_all (Ok x) before m w old is h = tt
-refused_all (Err f) before m w old is h = refused_whole before m w _ f is.instances h
+pub refused_all : (before : List Entry) (m : List ℕ) (w : WhichView) (old : Recorder) (f : ValidateFault) → IsRecorderOf old before
+    → IsWholeFault (map instance_entry old.instances.entries) m w f → IsRefusedAfter before (whole m w) f
+refused_all before m w old f is h = refused_whole before m w _ f is.instances h

@@ -1,23 +1,25 @@
 -- Modules that are refused, and what that is about.
-use Rattle.std.proofs.Common.{◌≡◌, IfErr, IfOk, Option, Some, None, OnOk, Result, Ok, Err, sym, subst}
+use Rattle.std.proofs.Common.{◌≡◌, IfErr, IfOk, Option, Some, None, OnOk, Result, Ok, Err, sym, subst, ◌∙◌, ℕ, List, refl, inl}
+use Rattle.std.specs.Option.{option_map}
 use Rattle.std.specs.Result.{IsErrAnd}
-use Rattle.std.specs.declared.alloc.AllocError.{AllocError}
 use Rattle.wc_read.specs.declared.fault.ReadFault.{ReadFault}
-use Rattle.wc_read.specs.declared.fault.ReadFault.TheVariants as read
+use Rattle.wc_read.specs.declared.place.ReadPlace.{ReadPlace}
+use Rattle.wc_read.specs.Place.{IsPlaced}
+use Rattle.wc_texts.specs.declared.refused.Refused.{Refused}
 use Rattle.wc_validate.specs.Fault.{of_read}
 use Rattle.wc_validate.specs.declared.fault.ValidateFault.{ValidateFault}
+use Rattle.wc_validate.specs.declared.fault.ValidateFault.TheVariants.{Memory}
 use Rattle.wc_validate.specs.declared.place.Place.{Place}
-use Rattle.wc_validate.specs.declared.refused.RefusedModule.{RefusedModule}
-use Rattle.wc_validate.specs.Explain.{PlaceView, place_view}
+use Rattle.wc_validate.specs.Explain.{IsPlace, PlaceView, place_view}
 use Rattle.wc_validate.specs.Private.ValidationInputs.{IsWithoutPlace}
-use Rattle.wc_validate.specs.Refused.{HasNoPlace, IsMemoryRefusal, IsPlaceOrNone, IsReadRefusal, IsRefusedAt}
+use Rattle.wc_validate.specs.Refused.{HasNoPlace, IsMemoryRefusal, IsPlaceOrNone, IsReadRefusal, IsRefusedAt, RefusedModule, bytes_place}
+use Rattle.wc_validate.specs.Validate.{IsValidateCause, ValidationInput}
 
 -- the same place by another rule
-pub placed_as : (P Q : ValidateFault → PlaceView → Type 0) (f : ValidateFault) (r : Result (Option Place) AllocError) → ((p : PlaceView) → P f p → Q f p)
-    → IfOk r (IsPlaceOrNone P f) → IfOk r (IsPlaceOrNone Q f)
-placed_as P Q f (Ok None) k h = h
-placed_as P Q f (Ok (Some p)) k h = k (place_view p) h
-placed_as P Q f (Err e) k h = tt
+pub placed_as : (P Q : ValidateFault → PlaceView → Type 0) (f : ValidateFault) (o : Option Place) → ((p : PlaceView) → P f p → Q f p) → IsPlaceOrNone P f o
+    → IsPlaceOrNone Q f o
+placed_as P Q f None k h = h
+placed_as P Q f (Some p) k h = k (place_view p) h
 
 pub refused_as : (P Q : ValidateFault → PlaceView → Type 0) (x : RefusedModule) → ((f : ValidateFault) (p : PlaceView) → P f p → Q f p)
     → IsRefusedAt P x → IsRefusedAt Q x
@@ -30,16 +32,23 @@ refusals_as P Q (Err x) k h = refused_as P Q x k h
 
 -- a failed allocation has no place
 pub memory_at : (P : ValidateFault → PlaceView → Type 0) (x : RefusedModule) → IsMemoryRefusal x → IsRefusedAt P x
-memory_at P x h = subst (λ z. IfOk z (IsPlaceOrNone P x.fault)) (sym h.1) (subst HasNoPlace (sym h.0) tt)
+memory_at P x h = subst (IsPlaceOrNone P x.fault) (sym h.1) (subst HasNoPlace (sym h.0) tt)
 
--- bytes that are not read have none
-read_none : (f : ReadFault) → HasNoPlace (of_read f)
-read_none read.Memory = tt
-read_none read.Component = tt
-read_none f = tt
+pub lost_at : (P : ValidateFault → PlaceView → Type 0) (x : RefusedModule) (f : ValidateFault) → x.fault ≡ f → f ≡ Memory → x.place ≡ None → IsRefusedAt P x
+lost_at P x f is lost none = memory_at P x (is ∙ lost, none)
 
-pub read_at : (P : ValidateFault → PlaceView → Type 0) (f : ReadFault) (x : RefusedModule) → IsReadRefusal f x → IsRefusedAt P x
-read_at P f x h = subst (λ z. IfOk z (IsPlaceOrNone P x.fault)) (sym h.1) (subst HasNoPlace (sym h.0) (read_none f))
+-- bytes that are not read have the place at which they stop to be right
+read_placed : (j : ValidationInput) (bytes : List ℕ) (f : ReadFault) (o : Option ReadPlace) → IsValidateCause j bytes (of_read f) → IsPlaced bytes f o
+    → IsPlaceOrNone (IsPlace j bytes) (of_read f) (option_map bytes_place o)
+read_placed j bytes f None cause placed = subst (λ z. HasNoPlace (of_read z)) (sym placed) tt
+read_placed j bytes f (Some p) cause placed =
+    inl (record { read_fault = f; is_read = refl; cause = cause; place = p; in_bytes = placed.1; subject = refl; types = refl })
+
+pub read_at : (j : ValidationInput) (bytes : List ℕ) (r : Refused ReadFault ReadPlace) (x : RefusedModule) → IsReadRefusal r x
+    → IsValidateCause j bytes (of_read r.fault) → IsPlaced bytes r.fault r.place → IsRefusedAt (IsPlace j bytes) x
+read_at j bytes r x h cause placed =
+    subst (IsPlaceOrNone (IsPlace j bytes) x.fault) (sym h.1)
+    (subst (λ z. IsPlaceOrNone (IsPlace j bytes) z (option_map bytes_place r.place)) (sym h.0) (read_placed j bytes r.fault r.place cause placed))
 
 -- a refusal that is passed on, or comes of another one
 pub passed_on : {T E : Type 0} (P : E → Type 0) (r : Result T E) (x : E) → IsErrAnd r (λ e. e ≡ x) → P x → IfErr r P

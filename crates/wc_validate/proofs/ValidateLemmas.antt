@@ -2,7 +2,6 @@
 use Rattle.std.proofs.Common.{◌≡◌, ◌≢◌, ◌↔◌, ◌⊎◌, ℕ, suc, ◌<◌, Bool, List, [], ◌∷◌, ◌++◌, length, map, All, Option, Some, None, option_copied, IfOk, IfErr, Result, Ok, Err, String, arith, refl, sym, ap, subst, ◌∙◌, inl, inr}
 use Rattle.std.specs.List.{cons_option, slice_get}
 use Rattle.std.specs.Option.{IfSome, option_map, option_map_or}
-use Rattle.std.specs.Result.{IsErrOf}
 use Rattle.std.specs.declared.alloc.Global.{Global}
 use Rattle.std.proofs.lemmas.List.{length-map}
 use Rattle.std.proofs.lemmas.List.Elements.{All-cons, All-nil}
@@ -57,8 +56,8 @@ use Rattle.wc_validate.specs.Exports.Record.{AreExports, AreRecordedBy, IsExport
 use Rattle.wc_validate.specs.Requirements.{IsFirstUnmet, IsShortfall, IsUnmetFault, Requirement, callbacks, interface_functions, one_memory, requirements, typed_function, world_function}
 use Rattle.wc_validate.specs.Private.ValidationInputs.{HasRecordedExports, HasRefusedExports}
 use Rattle.wc_validate.specs.Private.Requirements.{AreMetBy, IsUnmetBy}
-use Rattle.wc_validate.specs.declared.refused.RefusedModule.{RefusedModule}
-use Rattle.wc_validate.specs.Refused.{IsMemoryRefusal}
+use Rattle.wc_validate.specs.Place.{DifferenceView}
+use Rattle.wc_validate.specs.Refused.{IsMemoryRefusal, RefusedModule}
 use Rattle.wc_validate.specs.Validate.{IsCauseOfExports, IsCauseOfImports, IsValidateCause, IsExportsRecord, IsImportsCause, IsImportsRecord, IsModuleCause, IsRecordOf, IsImportScopeFor, IsNameScopeOf, ValidationInput, module_record}
 use Rattle.wc_validate.proofs.ImportRecordLemmas.{refused_after}
 
@@ -99,16 +98,16 @@ module _ (e : EncoderView) (c : ImportContext) (renames : Option (List RenameVie
       let h = subst (λ z. AreRecorded (import_scope c library) (import_values z) r) same recorded in
       (import_scope c library, import_scope_for, (h.0, h.1, is ∙ h.2.instances))
 
-  cause_here : (index : ℕ) (f : ValidateFault) → IsStopAt (import_scope c library) (import_values imports) index f
+  cause_here : (index : ℕ) (f : ValidateFault) (compared : Option DifferenceView) → IsStopAt (import_scope c library) (import_values imports) index f compared
       → IsImportsCause e renames library (map func_type_value types) (import_values imports) f
-  cause_here index Memory h = tt
-  cause_here index f h =
+  cause_here index Memory compared h = tt
+  cause_here index f compared h =
       let s = import_scope c library in
       (s, import_scope_for, refused_after s [] (import_values imports) index h.0 h.1 f h.2.there h.2.recorded h.2.refused)
 
-  pub cause_is : (index : ℕ) (f : ValidateFault) → IsStopAt (import_scope c library) (import_values passed) index f
+  pub cause_is : (index : ℕ) (f : ValidateFault) (compared : Option DifferenceView) → IsStopAt (import_scope c library) (import_values passed) index f compared
       → IsImportsCause e renames library (map func_type_value types) (import_values imports) f
-  cause_is index f h = cause_here index f (subst (λ z. IsStopAt (import_scope c library) (import_values z) index f) same h)
+  cause_is index f compared h = cause_here index f compared (subst (λ z. IsStopAt (import_scope c library) (import_values z) index f compared) same h)
 
 pub recorded_memory : (s : ImportScope) (is : List ImportValue) (r : Recorder) → AreRecorded s is r
     → memory_in (map instance_entry r.instances.entries) ≡ r.memory
@@ -204,12 +203,12 @@ cause_of (Ok v) j bytes m spelled h = tt
 cause_of (Err x) j bytes m spelled h = cause_at j bytes m x.fault spelled h
 
 -- why bytes are not read
-pub read_cause : {T : Type 0} (j : ValidationInput) (bytes : List ℕ) (r : Result T ReadFault) (f : ReadFault) → r ≡ Err f
-    → (f ≢ read.Memory → SpellsNothing SpellsModule bytes) → IsErrOf r read.Component ↔ IsComponent bytes → IsValidateCause j bytes (of_read f)
-read_cause j bytes r read.Memory at refused component = tt
-read_cause j bytes r read.Component at refused component = component.0 at
-read_cause j bytes r f at refused component =
-    (refl, λ is. (let same = sym at ∙ component.1 is in let bad : ⊥ = cc same in bad), refused (λ same. let bad : ⊥ = cc same in bad))
+pub read_cause : (j : ValidationInput) (bytes : List ℕ) (f : ReadFault) → (f ≢ read.Memory → SpellsNothing SpellsModule bytes)
+    → (f ≡ read.Component) ↔ IsComponent bytes → IsValidateCause j bytes (of_read f)
+read_cause j bytes read.Memory refused component = tt
+read_cause j bytes read.Component refused component = component.0 refl
+read_cause j bytes f refused component =
+    (refl, λ is. (let same = component.1 is in let bad : ⊥ = cc same in bad), refused (λ same. let bad : ⊥ = cc same in bad))
 
 -- what the names of exports are looked up in, for an encoder
 pub world_of_name_scope : (e : EncoderView) (s : NameScope) → IsNameScopeOf e s → HasItsWorld s

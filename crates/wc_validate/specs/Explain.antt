@@ -1,10 +1,12 @@
 -- What a fault of a module is about: the first import or export that its cause is at, or what is missing.
 use Rattle.std.specs.Prelude.{◌≡◌, ◌≢◌, ◌⊎◌, ◌≤◌, ℕ, List, [], ◌∷◌, ◌++◌, map, take, slice_get, All, Contains, IsSomeAnd, IsTrue, MatchOption, Option, Some, None, true}
 use Rattle.semver.specs.Identifiers.{parts_text}
+use Rattle.wc_read.specs.declared.fault.ReadFault.{ReadFault}
+use Rattle.wc_read.specs.declared.place.ReadPlace.{ReadPlace}
 use Rattle.wc_read.specs.Exports.{ExportValue}
-use Rattle.wc_read.specs.Fault.{SpellsNothing}
 use Rattle.wc_read.specs.Imports.{ImportValue}
 use Rattle.wc_read.specs.Modules.{ModuleValue, SpellsModule}
+use Rattle.wc_read.specs.Place.{IsPlaceIn}
 use Rattle.wc_read.specs.Types.{FuncTypeValue}
 use Rattle.wc_resolve.specs.Resolve.{key_text}
 use Rattle.wc_resolve.specs.Views.{FunctionView, KeyView}
@@ -17,14 +19,14 @@ use Rattle.wc_names.specs.Meanings.{means}
 use Rattle.wc_names.specs.Views.{ImportView, adapter_export}
 use Rattle.wc_validate.specs.declared.fault.ValidateFault.{ValidateFault}
 use Rattle.wc_validate.specs.declared.fault.ValidateFault.TheVariants.{SignatureMismatch, AdapterTypesDiffer, SeveralMemoryExports, MissingCallback}
-use Rattle.wc_validate.specs.declared.place.Place.{Place}
-pub use Rattle.wc_validate.specs.Place.{SubjectView, an_import, an_export, missing_function, missing_export, subject_view, DifferenceView, difference_of, difference_view, PlaceView, place_view}
+pub use Rattle.wc_validate.specs.Place.{SubjectView, an_import, an_export, missing_function, missing_export, some_bytes, subject_view, DifferenceView, difference_of, difference_view, PlaceView, place_view}
 use Rattle.wc_validate.specs.Imports.Entries.{Entry, Records, single, first_by, adapter_type_of}
 use Rattle.wc_validate.specs.Imports.Record.{ImportScope, AreEntries, IsCoreImport, IsEntry, IsFaultOfImport}
 use Rattle.wc_validate.specs.Exports.Map.{ExportRecord, is_memory}
+use Rattle.wc_validate.specs.Fault.{of_read}
 use Rattle.wc_validate.specs.Exports.Record.{AreExports, IsMismatched, core_exports, typed_export}
-use Rattle.wc_validate.specs.Requirements.{AreMet, IsFirstUnmet, IsMet, IsShortfall, Requirement, callback_name, callbacks, exported_type, function_names, functions_of, interface_functions, is_called_back, key_requirement, key_requirements, memory_count, one_memory, requirements, type_requirement, world_function}
-use Rattle.wc_validate.specs.Validate.{ValidationInput, IsImportScopeFor, IsNameScopeOf, IsRecordOfImports}
+use Rattle.wc_validate.specs.Requirements.{AreMet, IsMet, IsShortfall, Requirement, callback_name, callbacks, exported_type, function_names, functions_of, interface_functions, is_called_back, key_requirement, key_requirements, memory_count, one_memory, type_requirement, world_function}
+use Rattle.wc_validate.specs.Validate.{ValidationInput, IsImportScopeFor, IsNameScopeOf, IsRecordOfImports, IsValidateCause}
 
 -- the import at an index is the first that is refused: those before it have these entries, each valid after all before
 -- it; and it has this fault after them
@@ -32,11 +34,6 @@ pub record IsFirstRefused (s : ImportScope) (imports : List ImportValue) (index 
   pub there : slice_get imports index ≡ Some i
   pub recorded : AreEntries s [] (take index imports) before
   pub refused : IsFaultOfImport s before i f
-
--- the first import that is refused has another fault
-abbrev pub IsOtherRefused : ImportScope → List ImportValue → ValidateFault → Type 0
-IsOtherRefused s imports f =
-    (index : ℕ) × (i : ImportValue) × (before : List Entry) × (g : ValidateFault) × IsFirstRefused s imports index i before g × (f ≢ g)
 
 -- the types that the fault of an import after entries compares: the signature that its name fixes, and its own type; or
 -- the type of the first import of the same function of an adapter, and its own. No other fault compares types
@@ -191,36 +188,20 @@ IsPlaceOfMissing j m f p =
     × AreExports e j.keys (core_exports m m.exports) recorded
     × IsMissingPlace e.resolve (core_exports m m.exports) recorded e.world.exports j.keys j.required f p
 
--- the place of a fault of a module; and in the module that bytes spell
+-- the place of a fault of a module
 abbrev pub IsModulePlace : ValidationInput → ModuleValue → ValidateFault → PlaceView → Type 0
 IsModulePlace j m f p = IsPlaceOfImport j m f p ⊎ (IsPlaceOfExport j m f p ⊎ IsPlaceOfMissing j m f p)
 
+-- the place of a fault of reading: where the bytes stop to be right; and that of a fault of bytes, or of the module that they
+-- spell
+pub record IsBytesPlace (j : ValidationInput) (bytes : List ℕ) (f : ValidateFault) (p : PlaceView) : Type 0 where
+  pub read_fault : ReadFault
+  pub is_read : f ≡ of_read read_fault
+  pub cause : IsValidateCause j bytes f
+  pub place : ReadPlace
+  pub in_bytes : IsPlaceIn bytes place
+  pub subject : p.subject ≡ some_bytes place
+  pub types : p.types ≡ None
+
 abbrev pub IsPlace : ValidationInput → List ℕ → ValidateFault → PlaceView → Type 0
-IsPlace j bytes f p = (m : ModuleValue) × SpellsModule bytes m × IsModulePlace j m f p
-
--- a fault has no place at an export of a module, or among what is missing: the exports are recorded, and the fault is not
--- that of the first requirement that is not met; or the first export that is refused is refused for its type, and the fault
--- is another
-abbrev pub IsOtherMismatch : NameScope → List KeyView → ModuleValue → List ExportValue → ValidateFault → Type 0
-IsOtherMismatch e keys m exports f = (index : ℕ) × (x : CoreExport) × IsFirstMismatched e keys m exports index x × (f ≢ SignatureMismatch)
-
-abbrev pub IsNoExportPlace : NameScope → List KeyView → List (List ℕ × FuncTypeValue) → ModuleValue → ValidateFault → Type 0
-IsNoExportPlace e keys functions m f =
-    ((recorded : ExportRecord) × AreExports e keys (core_exports m m.exports) recorded
-    × (¬ IsFirstUnmet e.resolve (core_exports m m.exports) recorded (requirements e.world.exports keys functions) f))
-    ⊎ IsOtherMismatch e keys m m.exports f
-
--- a fault has no place in a module: the first import that is refused has another fault; or the imports are recorded, and it
--- has none at an export, or among what is missing
-abbrev pub IsNoPlace : ValidationInput → ModuleValue → ValidateFault → Type 0
-IsNoPlace j m f =
-    ((s : ImportScope) × IsImportScopeFor j.encoder j.renames j.library m.types s × IsOtherRefused s m.imports f)
-    ⊎ ((imports : Records) × IsRecordOfImports j m imports × (e : NameScope) × IsNameScopeOf j.encoder e × IsNoExportPlace e j.keys j.required m f)
-
--- the same where bytes spell a module, if they spell one
-abbrev pub IsUnplaced : ValidationInput → List ℕ → ValidateFault → Type 0
-IsUnplaced j bytes f = SpellsNothing SpellsModule bytes ⊎ ((m : ModuleValue) × SpellsModule bytes m × IsNoPlace j m f)
-
--- what is answered of a fault is its place; nothing only where it has none
-abbrev pub IsExplained : ValidationInput → List ℕ → ValidateFault → Option Place → Type 0
-IsExplained j bytes f answer = MatchOption answer (IsUnplaced j bytes f) (λ (p : Place). IsPlace j bytes f (place_view p))
+IsPlace j bytes f p = IsBytesPlace j bytes f p ⊎ ((m : ModuleValue) × SpellsModule bytes m × IsModulePlace j m f p)

@@ -1,11 +1,12 @@
 -- The texts of the fault that carries a name, and of what faults are about.
-use Rattle.std.specs.Prelude.{ℕ, List, [], ◌∷◌, ◌++◌, Option, Some, None, true, false, codes, decimal, flat_map, string_bytes}
+use Rattle.std.specs.Prelude.{ℕ, Bool, List, [], ◌∷◌, ◌++◌, Option, Some, None, true, false, codes, decimal, flat_map, string_bytes}
 use Rattle.wc_read.specs.declared.types.ValType.{ValType}
 use Rattle.wc_read.specs.declared.types.ValType.TheVariants.{I32, I64, F32, F64, V128, FuncRef, ExternRef, FuncRefNonNull, ExternRefNonNull, TypeRef}
-use Rattle.wc_read.specs.Types.{FuncTypeValue}
+use Rattle.wc_read.specs.Place.{read_place_text}
+use Rattle.wc_read.specs.Types.{FuncTypeValue, names_types}
 use Rattle.wc_texts.specs.FaultTexts.{quoted_text}
 use Rattle.wc_validate.specs.declared.fault.AdapterModuleDidNotExport.{AdapterModuleDidNotExport}
-use Rattle.wc_validate.specs.Place.{DifferenceView, PlaceView, SubjectView, an_import, an_export, missing_function, missing_export}
+use Rattle.wc_validate.specs.Place.{DifferenceView, PlaceView, SubjectView, an_import, an_export, missing_function, missing_export, some_bytes}
 
 -- the name of what an adapter doesn't export
 abbrev pub name_not_exported : AdapterModuleDidNotExport → List ℕ
@@ -24,6 +25,7 @@ subject_text (an_import module_name name index) = codes "import " ++ (quoted mod
 subject_text (an_export name) = codes "export " ++ quoted name
 subject_text (missing_function module_name name) = codes "missing " ++ (quoted module_name ++ (codes " " ++ quoted name))
 subject_text (missing_export name) = codes "missing export " ++ quoted name
+subject_text (some_bytes p) = read_place_text p
 
 -- a value type, as the text format has it (WebAssembly core specification, 6.4)
 abbrev pub type_name : ValType → List ℕ
@@ -56,9 +58,15 @@ results_text ts = codes "(" ++ (type_list_text ts ++ codes ")")
 abbrev pub signature_text : FuncTypeValue → List ℕ
 signature_text f = codes "(" ++ (type_list_text f.params ++ (codes ") -> " ++ results_text f.results))
 
+-- whose types the indices of a type that is wanted are, if it has any: they mean nothing in the module that is found
+abbrev pub owner_text : Bool → List ℕ
+owner_text true = codes " by the types of the importing module"
+owner_text false = []
+
 -- the core types that differ
 abbrev pub difference_text : DifferenceView → List ℕ
-difference_text d = codes "wanted " ++ (signature_text d.wanted ++ (codes ", found " ++ signature_text d.found))
+difference_text d =
+    codes "wanted " ++ (signature_text d.wanted ++ (owner_text (names_types d.wanted) ++ (codes ", found " ++ signature_text d.found)))
 
 -- what a fault is about; and after it, where it compares types, a line feed and the types
 abbrev pub types_text : Option DifferenceView → List ℕ

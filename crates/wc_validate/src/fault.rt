@@ -8,6 +8,7 @@ ghost use Rattle.wc_validate.specs.Fault.{validate_fault_number, validate_fault_
 use std::alloc::{AllocError, AllocFailed, Global};
 use std::error::Error as StdError;
 use std::fmt;
+use thiserror::Error;
 use wc_read::ReadFault;
 use wc_texts::{
     CARRIED, FaultText, OUT_OF_MEMORY, Pieces, PutFailed, put_carried, put_quoted, show,
@@ -70,57 +71,81 @@ impl StdError for AdapterModuleDidNotExport {}
 /// Of several causes the first is named. The module is read; then come imports in the order of the module, and for
 /// each import the faults in this order, but `SeveralMemoryImports` before `Mixed`; then exports in the order of the
 /// module, and what is missing among them, in this order. `Memory` may come in place of any.
-#[derive(Debug, Drop)]
+#[derive(Debug, Drop, Error)]
 pub enum ValidateFault {
     /// An allocation failed.
+    #[error("out of memory")]
     Memory,
     /// The bytes are neither a module nor a component.
+    #[error("Read: {0}")]
     Read(ReadFault),
     /// The bytes begin with a component's header.
+    #[error("NotAModule")]
     NotAModule,
     /// An import that has to be a function is none.
+    #[error("NotAFunction")]
     NotAFunction,
     /// A function's type is not the one that its name fixes.
+    #[error("SignatureMismatch")]
     SignatureMismatch,
     /// The world imports nothing of this name.
+    #[error("NoRootImport")]
     NoRootImport,
     /// The world imports something of this name that is no function.
+    #[error("RootNotFunction")]
     RootNotFunction,
     /// The name of a module doesn't begin as the standard scheme's names do.
+    #[error("BadSyntax")]
     BadSyntax,
     /// The name of a module is about no interface that the world imports or exports.
+    #[error("UnknownInterface")]
     UnknownInterface,
     /// A name is none of the built-ins for an exported interface.
+    #[error("UnknownIntrinsic")]
     UnknownIntrinsic,
     /// An imported interface has no function, and no built-in, of this name.
+    #[error("MissingFunction")]
     MissingFunction,
     /// The function whose `task.return` is imported is not exported.
+    #[error("NoSuchExport")]
     NoSuchExport,
     /// A module's name stands for two modules of the component.
+    #[error("WholeDiffers")]
     WholeDiffers,
     /// A module's name stands for a module of the component, and for single items too.
+    #[error("Mixed")]
     Mixed,
     /// The main module's memory is imported twice.
+    #[error("SeveralMemoryImports")]
     SeveralMemoryImports,
     /// Two imports share a module and a name.
+    #[error("DuplicateImport")]
     DuplicateImport,
     /// A function of an adapter is imported with two types.
+    #[error("AdapterTypesDiffer")]
     AdapterTypesDiffer,
     /// Two memories are exported.
+    #[error("SeveralMemoryExports")]
     SeveralMemoryExports,
     /// An asynchronous function is exported without its callback.
+    #[error("MissingCallback")]
     MissingCallback,
     /// A function of an interface that has to be exported is not.
+    #[error("MissingInterfaceExport")]
     MissingInterfaceExport,
     /// A function of the world that has to be exported is not.
+    #[error("MissingWorldExport")]
     MissingWorldExport,
     /// An adapter doesn't export what is imported from it.
+    #[error("{0}")]
     AdapterModuleDidNotExport(AdapterModuleDidNotExport),
     /// An adapter exports what is imported from it with another type.
+    #[error("AdapterExportType")]
     AdapterExportType,
     /// A function's type names a type of its module by an index, which means nothing in another module: that of a
     /// function which is imported from an adapter, or is imported from it by another module; or the type that a function
     /// of `env` reads or writes.
+    #[error("TypedReference")]
     TypedReference,
 }
 
@@ -192,16 +217,6 @@ impl FaultText for ValidateFault {
         }
     }
 }
-
-impl fmt::Display for ValidateFault {
-    ghost output = { λ fault. Some (validate_fault_text fault) };
-
-    fn fmt<W: fmt::Write>(&self, f: &mut fmt::Formatter<W>) -> fmt::Result {
-        show(self, f)
-    }
-}
-
-impl StdError for ValidateFault {}
 
 impl From<AllocError> for ValidateFault {
     ghost from_gives = { λ _ e. e ≡ Memory };

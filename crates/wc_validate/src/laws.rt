@@ -107,9 +107,8 @@ pub fn restrictions_recorded(encoder: &ComponentEncoder)
     exports_unique();
 }
 
-/// A fault that has a place in a module has a cause there: where `explain_module` or `explain_adapter_module` answers a
-/// place, the fault is one of those that `validate_module` or `validate_adapter_module` may answer for the same validation
-/// input. It does nothing when it runs.
+/// A fault that has a place in a module has a cause there: it is one of those that `validate_module` or
+/// `validate_adapter_module` may answer for the same validation input. It does nothing when it runs.
 pub fn places_are_causes()
     ensures { PlacesAreCauses }
 {}

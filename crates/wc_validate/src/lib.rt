@@ -43,7 +43,6 @@ mod signatures;
 mod validate;
 mod world_interfaces;
 
-pub use explain::{explain_adapter_module, explain_module};
 pub use exports::iter::{Exports, Reallocs};
 pub use exports::map::ExportMap;
 pub use fault::{AdapterModuleDidNotExport, ValidateFault};
@@ -51,7 +50,6 @@ pub use imports::instances::ImportInstance;
 pub use imports::iter::Imports;
 pub use imports::map::ImportMap;
 pub use place::{Place, Subject, TypeDifference};
-pub use refused::RefusedModule;
 pub use validate::{
     ValidatedModule, validate_adapter_module, validate_adapter_module_explained, validate_module,
     validate_module_explained,

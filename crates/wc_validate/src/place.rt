@@ -2,8 +2,9 @@
 
 ghost use Rattle.std.specs.Prelude.{Some};
 
+use crate::signatures::names_types;
 use std::fmt;
-use wc_read::{FuncType, ValType};
+use wc_read::{FuncType, ReadPlace, ValType};
 
 /// What a fault is about, by its names.
 #[derive(Debug, PartialEq, Eq, Drop)]
@@ -28,6 +29,8 @@ pub enum Subject {
     },
     /// An export that is not there, by its name.
     MissingExport(String),
+    /// The bytes of the module, by where they stop to be right.
+    Bytes(ReadPlace),
 }
 
 impl fmt::Display for Subject {
@@ -36,7 +39,8 @@ impl fmt::Display for Subject {
 
     ghost output = { λ subject. Some (subject_text (subject_view subject)) };
 
-    /// `import "m" "f"`, `export "f"`, `missing "m" "f"` or `missing export "f"`. Names are printed as they are.
+    /// `import "m" "f"`, `export "f"`, `missing "m" "f"`, `missing export "f"`, or `byte 57, in the import section`. Names
+    /// are printed as they are.
     fn fmt<W: fmt::Write>(&self, f: &mut fmt::Formatter<W>) -> fmt::Result {
         match self {
             Subject::Import {
@@ -49,6 +53,7 @@ impl fmt::Display for Subject {
                 write!(f, "missing \"{module_name}\" \"{name}\"")
             }
             Subject::MissingExport(name) => write!(f, "missing export \"{name}\""),
+            Subject::Bytes(place) => write!(f, "{place}"),
         }
     }
 }
@@ -69,10 +74,13 @@ impl fmt::Display for TypeDifference {
     ghost output = { λ d. Some (difference_text (difference_view d)) };
 
     /// `wanted T, found T`, where a type `T` is as `(i32, i64) -> i32`, with several results, or none, in parentheses too.
+    /// A type that is wanted and that names types by their indices, as `((ref 1)) -> ()`, is that of another module, which
+    /// imports the function: `wanted T by the types of the importing module, found T`.
     fn fmt<W: fmt::Write>(&self, f: &mut fmt::Formatter<W>) -> fmt::Result {
         let wanted = Signature(&self.wanted);
+        let owner = TypeOwner(&self.wanted);
         let found = Signature(&self.found);
-        write!(f, "wanted {wanted}, found {found}")
+        write!(f, "wanted {wanted}{owner}, found {found}")
     }
 }
 
@@ -181,5 +189,24 @@ impl fmt::Display for Signature<'_> {
         let params = TypeList(self.0.params());
         let results = ResultTypes(self.0.results());
         write!(f, "({params}) -> {results}")
+    }
+}
+
+/// Whose types the indices of a type that is wanted are, if it has any.
+#[derive(Clone, Copy)]
+struct TypeOwner<'a>(&'a FuncType);
+
+impl fmt::Display for TypeOwner<'_> {
+    ghost use Rattle.wc_read.specs.Types.{func_type_value, names_types};
+    ghost use Rattle.wc_validate.specs.Texts.{owner_text};
+
+    ghost output = { λ ty. Some (owner_text (names_types (func_type_value ty.0.now))) };
+
+    fn fmt<W: fmt::Write>(&self, f: &mut fmt::Formatter<W>) -> fmt::Result {
+        if names_types(self.0) {
+            f.write_str(" by the types of the importing module")
+        } else {
+            Ok(())
+        }
     }
 }

@@ -1,28 +1,30 @@
 //! Why core modules are refused, and what that is about.
 
-ghost use Rattle.std.specs.Prelude.{◌≡◌, ◌↔◌, IsTrue};
+ghost use Rattle.std.specs.Prelude.{◌≡◌, ◌↔◌, IsTrue, None};
+ghost use Rattle.wc_validate.specs.Refused.{IsReadRefusal};
 
 use crate::ValidateFault;
 use crate::name_fault::NameFault;
-use crate::place::Place;
-use std::alloc::{AllocError, AllocFailed};
-use wc_read::ReadFault;
+use crate::place::{Place, Subject, TypeDifference};
+use std::alloc::AllocError;
+use wc_read::{ReadFault, ReadPlace};
+use wc_texts::Refused;
 
 /// A core module that is refused: why, and what that is about.
+pub(crate) type RefusedModule = Refused<ValidateFault, Place>;
+
+/// Why an import is refused, and the types that differ, where that compares types.
 #[derive(Drop)]
-pub struct RefusedModule {
-    /// Why it is refused.
-    pub fault: ValidateFault,
-    /// The import or export that the fault is about, as [`explain_module`](crate::explain_module) has it; none for
-    /// `Read`, `NotAModule` and `Memory`. `AllocError` where there was no memory for it.
-    pub place: Result<Option<Place>, AllocError>,
+pub(crate) struct ImportFault {
+    pub(crate) fault: ValidateFault,
+    pub(crate) types: Option<TypeDifference>,
 }
 
 /// The index of an import that is refused, and why it is.
 #[derive(Drop)]
-pub(crate) struct Refused {
+pub(crate) struct RefusedImport {
     pub(crate) index: usize,
-    pub(crate) fault: ValidateFault,
+    pub(crate) cause: ImportFault,
 }
 
 /// The index of an export that is refused, and why its name is.
@@ -32,41 +34,23 @@ pub(crate) struct RefusedExport {
     pub(crate) fault: NameFault,
 }
 
-impl From<AllocError> for RefusedModule {
-    ghost use Rattle.wc_validate.specs.Refused.{IsMemoryRefusal};
+impl From<ValidateFault> for ImportFault {
+    ghost from_gives = { λ f e. (e.fault ≡ f) × (e.types ≡ None) };
 
-    ghost from_gives = { λ _ e. IsMemoryRefusal e };
-
-    fn from(_e: AllocError) -> RefusedModule {
-        RefusedModule {
-            fault: ValidateFault::Memory,
-            place: Ok(None),
-        }
+    fn from(fault: ValidateFault) -> ImportFault {
+        ImportFault { fault, types: None }
     }
 }
 
-impl<T: Drop> From<AllocFailed<T>> for RefusedModule {
-    ghost use Rattle.wc_validate.specs.Refused.{IsMemoryRefusal};
+impl From<AllocError> for ImportFault {
+    ghost use Rattle.wc_validate.specs.declared.fault.ValidateFault.TheVariants.{Memory};
 
-    ghost from_gives = { λ _ e. IsMemoryRefusal e };
+    ghost from_gives = { λ _ e. (e.fault ≡ Memory) × (e.types ≡ None) };
 
-    fn from(_e: AllocFailed<T>) -> RefusedModule {
-        RefusedModule {
+    fn from(_e: AllocError) -> ImportFault {
+        ImportFault {
             fault: ValidateFault::Memory,
-            place: Ok(None),
-        }
-    }
-}
-
-impl From<ReadFault> for RefusedModule {
-    ghost use Rattle.wc_validate.specs.Refused.{IsReadRefusal};
-
-    ghost from_gives = { λ f e. IsReadRefusal f e };
-
-    fn from(e: ReadFault) -> RefusedModule {
-        RefusedModule {
-            fault: ValidateFault::from(e),
-            place: Ok(None),
+            types: None,
         }
     }
 }
@@ -76,4 +60,21 @@ pub(crate) fn is_memory(fault: &ValidateFault) -> bool
     ensures { IsTrue result ↔ (fault.now ≡ ValidateFault.Memory) }
 {
     matches!(fault, ValidateFault::Memory)
+}
+
+/// A module whose bytes are not read, with where they stop to be right.
+pub(crate) fn read_refusal(refused: Refused<ReadFault, ReadPlace>) -> RefusedModule
+    ensures { IsReadRefusal refused result }
+{
+    let fault = ValidateFault::from(refused.fault);
+    match refused.place {
+        Some(place) => Refused {
+            fault,
+            place: Some(Place {
+                subject: Subject::Bytes(place),
+                types: None,
+            }),
+        },
+        None => Refused::without_place(fault),
+    }
 }

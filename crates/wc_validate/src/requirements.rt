@@ -75,16 +75,12 @@ fn second_memory<'n>(names: &'n Map<String, Export>) -> Option<&'n str>
 /// # Errors
 ///
 /// `SeveralMemoryExports`: two memories are recorded. It is about the second.
-fn check_memories(
-    alloc: Global,
-    names: &Map<String, Export>,
-    places: bool,
-) -> Result<(), RefusedModule>
+fn check_memories(alloc: Global, names: &Map<String, Export>) -> Result<(), RefusedModule>
     ensures met { OnOk result (memory_count (map export_entry names.now.entries) ≤ 1) }
     ensures refused { IfErr result (IsRefusedForMemories names.now.entries) }
 {
     match second_memory(names) {
-        Some(name) => Err(memory_refusal(alloc, name, places)),
+        Some(name) => Err(memory_refusal(alloc, name)?),
         None => Ok(()),
     }
 }
@@ -156,17 +152,13 @@ fn uncalled<'n>(
 ///
 /// - `MissingCallback`: an export needs a callback that is not recorded. It is about the callback of the first.
 /// - `Memory`: an allocation failed.
-fn check_callbacks(
-    alloc: Global,
-    names: &Map<String, Export>,
-    places: bool,
-) -> Result<(), RefusedModule>
+fn check_callbacks(alloc: Global, names: &Map<String, Export>) -> Result<(), RefusedModule>
     ensures met { OnOk result (AreCalledBack names.now.entries) }
     ensures refused { IfErr result (IsRefusedForCallbacks names.now.entries) }
 {
     let found = uncalled(alloc, names)?;
     match found {
-        Some(name) => Err(callback_refusal(alloc, name, places)),
+        Some(name) => Err(callback_refusal(alloc, name)?),
         None => Ok(()),
     }
 }
@@ -221,7 +213,6 @@ fn check_keys(
     functions: &FunctionNames,
     names: &Names<'_>,
     keys: &Set<WorldKey>,
-    places: bool,
 ) -> Result<(), RefusedModule>
     requires world { HasItemsInRange (name_scope_of names.now) }
     requires named { HasKeysNamed (name_scope_of names.now) }
@@ -232,7 +223,7 @@ fn check_keys(
     let exports = &names.world.exports;
     match first_lacking(alloc, functions, names.resolve, exports, keys) {
         Ok(()) => Ok(()),
-        Err(lacking) => Err(key_refusal(alloc, functions, names, lacking, places)),
+        Err(lacking) => Err(key_refusal(alloc, functions, names, lacking)?),
     }
 }
 
@@ -249,14 +240,11 @@ fn check_keys(
 /// - `AdapterModuleDidNotExport`, `AdapterExportType`: a required function is not exported, or with another type; of
 ///   the first such function.
 /// - `Memory`: an allocation failed.
-///
-/// Each has its place where `places` are asked for.
 pub(crate) fn check_exports(
     alloc: Global,
     exports: RecordedModule<'_>,
     names: &Names<'_>,
     required: RequiredExports<'_>,
-    places: bool,
 ) -> Result<(), RefusedModule>
     requires items { AreExportsIn exports.«module».now exports.«module».now.exports.items }
     requires typed { HaveTypes (module_value exports.«module».now) }
@@ -269,9 +257,9 @@ pub(crate) fn check_exports(
     ensures place { IfErr result (IsRefusedAt
         (IsMissingIn names.now required.entry exports.entry)) }
 {
-    check_memories(alloc, exports.recorded, places)?;
-    check_callbacks(alloc, exports.recorded, places)?;
+    check_memories(alloc, exports.recorded)?;
+    check_callbacks(alloc, exports.recorded)?;
     let functions = names_of_functions(alloc, exports.recorded)?;
-    check_keys(alloc, &functions, names, required.keys, places)?;
-    check_functions(alloc, exports.module, required.functions, places)
+    check_keys(alloc, &functions, names, required.keys)?;
+    check_functions(alloc, exports.module, required.functions)
 }

@@ -26,15 +26,17 @@ use crate::imports::record::{ImportContext, record_imports};
 use crate::laws::records_exclude_faults;
 use crate::name_scope::Interfaces;
 use crate::names::Names;
-use crate::refused::RefusedModule;
+use crate::place::Place;
+use crate::refused::{RefusedModule, read_refusal};
 use crate::requirements::{RecordedModule, RequiredExports, check_exports};
 use std::alloc::{AllocError, Global};
 use wc_dedupe::ModuleImportMap;
 use wc_encoder::{ComponentEncoder, LibraryInfo};
 use wc_maps::{Map, Seed, Set};
 use wc_names::{Export, Legacy, NameIndexes, Standard};
-use wc_read::{FuncType, Module, read_module};
+use wc_read::{FuncType, Module, read_module_explained};
 use wc_resolve::WorldKey;
+use wc_texts::Refused;
 
 /// A core module that is validated for an encoder: what it imports, and what it exports.
 #[derive(Drop)]
@@ -75,8 +77,8 @@ fn names_of(encoder: &ComponentEncoder) -> Names<'_>
 }
 
 /// The input of a validation: an encoder, with the interfaces of its world, where they were made for several modules;
-/// what the module is passed, if it is a library; the original names of its imports, if some were renamed; what it
-/// has to export; and whether a refusal has to have its place.
+/// what the module is passed, if it is a library; the original names of its imports, if some were renamed; and what it has to
+/// export.
 #[derive(Clone, Copy)]
 pub(crate) struct ValidationInput<'a> {
     pub(crate) encoder: &'a ComponentEncoder,
@@ -84,7 +86,6 @@ pub(crate) struct ValidationInput<'a> {
     pub(crate) library: Option<&'a LibraryInfo>,
     pub(crate) renames: Option<&'a ModuleImportMap>,
     pub(crate) required: RequiredExports<'a>,
-    pub(crate) places: bool,
 }
 
 /// The interfaces of an encoder's world, indexed if more than a few are looked up.
@@ -151,10 +152,7 @@ fn imports_among(
     let context = import_context(alloc, validation_input, interfaces, module)?;
     match record_imports(alloc, &context, &module.imports) {
         Ok(recorder) => Ok(ImportMap::from_recorder(alloc, recorder)?),
-        Err(refused) => {
-            let places = validation_input.places;
-            Err(import_refusal(alloc, &context, &module.imports, refused, places))
-        }
+        Err(refused) => Err(import_refusal(alloc, &module.imports, refused)?),
     }
 }
 
@@ -214,7 +212,6 @@ fn recorded_exports(
     alloc: Global,
     context: &ExportContext<'_>,
     module: &Module<'_>,
-    places: bool,
 ) -> Result<Map<String, Export>, RefusedModule>
     requires valid { IsModule (module_value «module».now) }
     requires context { IsExportContext context.now }
@@ -224,7 +221,7 @@ fn recorded_exports(
 {
     match record_exports(alloc, context, module, &module.exports) {
         Ok(names) => Ok(names),
-        Err(refused) => Err(export_refusal(alloc, module, &module.exports, refused, places)),
+        Err(refused) => Err(export_refusal(alloc, module, &module.exports, refused)?),
     }
 }
 
@@ -234,7 +231,6 @@ fn exports_by(
     context: &ExportContext<'_>,
     module: &Module<'_>,
     required: RequiredExports<'_>,
-    places: bool,
 ) -> Result<ExportMap, RefusedModule>
     requires valid { IsModule (module_value «module».now) }
     requires context { IsExportContext context.now }
@@ -247,12 +243,12 @@ fn exports_by(
         (IsPlaceIn context.now required.entry «module».now)) }
 {
     context.names.resolve.well_formedness();
-    let names = recorded_exports(alloc, context, module, places)?;
+    let names = recorded_exports(alloc, context, module)?;
     let exports = RecordedModule {
         module,
         recorded: &names,
     };
-    check_exports(alloc, exports, &context.names, required, places)?;
+    check_exports(alloc, exports, &context.names, required)?;
     Ok(ExportMap::from_names(alloc, names)?)
 }
 
@@ -276,8 +272,7 @@ fn module_exports(
         validation_input.encoder,
         validation_input.required.keys,
     )?;
-    let (required, places) = (validation_input.required, validation_input.places);
-    exports_by(alloc, &context, module, required, places)
+    exports_by(alloc, &context, module, validation_input.required)
 }
 
 /// The record of a module that is read.
@@ -326,8 +321,10 @@ pub(crate) fn validate_bytes(
         (HasNoCause (validation_input_of validation_input.entry) bytes.now) }
 {
     records_exclude_faults(validation_input.encoder);
-    let module = read_module(alloc, bytes)?;
-    validate_read(alloc, validation_input, &module)
+    match read_module_explained(alloc, bytes) {
+        Ok(module) => validate_read(alloc, validation_input, &module),
+        Err(refused) => Err(read_refusal(refused)),
+    }
 }
 
 /// The input for the main module of an encoder, where other modules import these functions from it.
@@ -335,7 +332,6 @@ fn main_validation_input<'a>(
     encoder: &'a ComponentEncoder,
     import_map: Option<&'a ModuleImportMap>,
     functions: &'a Map<String, FuncType>,
-    places: bool,
 ) -> ValidationInput<'a>
     ensures input { validation_input_of result ≡ main_input_requiring encoder.now
         (option_copied import_map.entry) functions.now.entries }
@@ -349,7 +345,6 @@ fn main_validation_input<'a>(
         library: None,
         renames: import_map,
         required,
-        places,
     }
 }
 
@@ -358,7 +353,6 @@ pub(crate) fn adapter_validation_input<'a>(
     encoder: &'a ComponentEncoder,
     library_info: Option<&'a LibraryInfo>,
     required: RequiredExports<'a>,
-    places: bool,
 ) -> ValidationInput<'a>
     ensures input { validation_input_of result ≡ adapter_input_of encoder.now library_info.entry
         required.entry.keys.now.keys required.entry.functions.now.entries }
@@ -370,30 +364,7 @@ pub(crate) fn adapter_validation_input<'a>(
         library: library_info,
         renames: None,
         required,
-        places,
     }
-}
-
-/// The record of the main module of an encoder.
-pub(crate) fn validate_main(
-    alloc: Global,
-    encoder: &ComponentEncoder,
-    bytes: &[u8],
-    import_map: Option<&ModuleImportMap>,
-    places: bool,
-) -> Result<ValidatedModule, RefusedModule>
-    ensures recorded { IfOk result (λ v. IsRecordOf (main_input encoder.now
-        (option_copied import_map.entry)) bytes.now (module_record v)) }
-    ensures fault { IfErr result (λ x. IsValidateCause (main_input encoder.now
-        (option_copied import_map.entry)) bytes.now x.fault) }
-    ensures place { IfErr result (IsRefusedAt (IsPlace (main_input encoder.now
-        (option_copied import_map.entry)) bytes.now)) }
-    ensures no_cause { OnOk result (HasNoCause (main_input encoder.now
-        (option_copied import_map.entry)) bytes.now) }
-{
-    let functions = Map::with_hasher(alloc, *encoder.adapters().hasher());
-    let validation_input = main_validation_input(encoder, import_map, &functions, places);
-    validate_bytes(alloc, validation_input, bytes)
 }
 
 /// What is answered, without the place of a refusal.
@@ -452,21 +423,32 @@ pub fn validate_module(
     ensures no_cause { OnOk result (HasNoCause (main_input encoder.now
         (option_copied import_map.entry)) bytes.now) }
 {
-    without_place(validate_main(alloc, encoder, bytes, import_map, false))
+    without_place(validate_module_explained(alloc, encoder, bytes, import_map))
 }
 
-/// As [`validate_module`]; but a module that is refused says what its fault is about, as
-/// [`explain_module`](crate::explain_module) does.
+/// As [`validate_module`]; but a module that is refused says what its fault is about, where validation stops:
+///
+/// - `Read` and `NotAModule` are about the bytes: where they stop to be right;
+/// - a fault of an import is about the first that is refused;
+/// - `SignatureMismatch` of an export is about the first export whose type is not the one that its name fixes;
+/// - `SeveralMemoryExports` is about the second memory that is recorded;
+/// - `MissingCallback` is about the callback of the first export that needs one which is not recorded;
+/// - `MissingInterfaceExport` and `MissingWorldExport` are about the first function that is missing for the first key of
+///   the export set for which one is.
+///
+/// Of `SignatureMismatch` it has the type that the name fixes and the one that is found, and of `AdapterTypesDiffer` the
+/// type with which the function was imported first and the one that is found; of the others it has no types.
 ///
 /// # Errors
 ///
-/// Those of [`validate_module`].
+/// Those of [`validate_module`]. `Memory` has no place, and comes too where there is no memory for the place of another
+/// fault.
 pub fn validate_module_explained(
     alloc: Global,
     encoder: &ComponentEncoder,
     bytes: &[u8],
     import_map: Option<&ModuleImportMap>,
-) -> Result<ValidatedModule, RefusedModule>
+) -> Result<ValidatedModule, Refused<ValidateFault, Place>>
     ensures recorded { IfOk result (λ v. IsRecordOf (main_input encoder.now
         (option_copied import_map.entry)) bytes.now (module_record v)) }
     ensures fault { IfErr result (λ x. IsValidateCause (main_input encoder.now
@@ -477,7 +459,9 @@ pub fn validate_module_explained(
     ensures no_cause { OnOk result (HasNoCause (main_input encoder.now
         (option_copied import_map.entry)) bytes.now) }
 {
-    validate_main(alloc, encoder, bytes, import_map, true)
+    let functions = Map::with_hasher(alloc, *encoder.adapters().hasher());
+    let validation_input = main_validation_input(encoder, import_map, &functions);
+    validate_bytes(alloc, validation_input, bytes)
 }
 
 /// Validates an adapter or a library for an encoder. Each import is recorded as what the library is passed for it, or
@@ -517,20 +501,25 @@ pub fn validate_adapter_module<'a>(
         exports.now.keys required_by_import.now.entries)
         bytes.now) }
 {
-    let required = RequiredExports {
-        keys: exports,
-        functions: required_by_import,
-    };
-    let validation_input = adapter_validation_input(encoder, library_info, required, false);
-    without_place(validate_bytes(alloc, validation_input, bytes))
+    without_place(validate_adapter_module_explained(
+        alloc,
+        encoder,
+        bytes,
+        required_by_import,
+        exports,
+        library_info,
+    ))
 }
 
 /// As [`validate_adapter_module`]; but a module that is refused says what its fault is about, as
-/// [`explain_adapter_module`](crate::explain_adapter_module) does.
+/// [`validate_module_explained`] has it. Besides, of the functions that other modules import from this one,
+/// `TypedReference`, `AdapterModuleDidNotExport` and `AdapterExportType` are about the first that is not exported as it
+/// is required: the export of its name, with the required type and the one that is found; or that it is missing, where
+/// no function of its name is exported.
 ///
 /// # Errors
 ///
-/// Those of [`validate_adapter_module`].
+/// Those of [`validate_adapter_module`], and `Memory` as of [`validate_module_explained`].
 pub fn validate_adapter_module_explained<'a>(
     alloc: Global,
     encoder: &'a ComponentEncoder,
@@ -538,7 +527,7 @@ pub fn validate_adapter_module_explained<'a>(
     required_by_import: &'a Map<String, FuncType>,
     exports: &'a Set<WorldKey>,
     library_info: Option<&'a LibraryInfo>,
-) -> Result<ValidatedModule, RefusedModule>
+) -> Result<ValidatedModule, Refused<ValidateFault, Place>>
     ensures recorded { IfOk result (λ v. IsRecordOf (adapter_input_of encoder.now library_info.entry
         exports.now.keys required_by_import.now.entries) bytes.now (module_record v)) }
     ensures fault { IfErr result (λ x. IsValidateCause (adapter_input_of encoder.now
@@ -553,6 +542,6 @@ pub fn validate_adapter_module_explained<'a>(
         keys: exports,
         functions: required_by_import,
     };
-    let validation_input = adapter_validation_input(encoder, library_info, required, true);
+    let validation_input = adapter_validation_input(encoder, library_info, required);
     validate_bytes(alloc, validation_input, bytes)
 }

@@ -9,7 +9,7 @@ ghost use Rattle.wc_validate.specs.Validate.{HasNoCause, IsRecordOf, IsValidateC
 
 use crate::ValidateFault;
 use crate::name_scope::{FEW_LOOKUPS, Interfaces};
-use crate::refused::RefusedModule;
+use crate::place::Place;
 use crate::requirements::RequiredExports;
 use crate::validate::{
     ValidatedModule, ValidationInput, interfaces_for, validate_bytes, without_place,
@@ -20,6 +20,7 @@ use wc_encoder::{ComponentEncoder, LibraryInfo};
 use wc_maps::{Map, Set};
 use wc_read::FuncType;
 use wc_resolve::WorldKey;
+use wc_texts::Refused;
 
 /// How many modules are validated in about the time that it takes to index the interfaces of a world for all of them.
 const FEW_MODULES: usize = 4;
@@ -75,7 +76,6 @@ impl<'a> WorldInterfaces<'a> {
         &'b self,
         library_info: Option<&'b LibraryInfo>,
         required: RequiredExports<'b>,
-        places: bool,
     ) -> ValidationInput<'b>
         ensures input { validation_input_of result ≡ adapter_input_of self.now library_info.entry
             required.entry.keys.now.keys required.entry.functions.now.entries }
@@ -87,7 +87,6 @@ impl<'a> WorldInterfaces<'a> {
             library: library_info,
             renames: None,
             required,
-            places,
         }
     }
 
@@ -114,20 +113,21 @@ impl<'a> WorldInterfaces<'a> {
         ensures no_cause { OnOk result (HasNoCause (adapter_input_of self.now
             library_info.entry exports.now.keys required_by_import.now.entries) bytes.now) }
     {
-        let required = RequiredExports {
-            keys: exports,
-            functions: required_by_import,
-        };
-        let validation_input = self.validation_input(library_info, required, false);
-        without_place(validate_bytes(alloc, validation_input, bytes))
+        without_place(self.validate_adapter_module_explained(
+            alloc,
+            bytes,
+            required_by_import,
+            exports,
+            library_info,
+        ))
     }
 
     /// As [`WorldInterfaces::validate_adapter_module`]; but a module that is refused says what its fault is about, as
-    /// [`explain_adapter_module`](crate::explain_adapter_module) does.
+    /// [`validate_adapter_module_explained`](crate::validate_adapter_module_explained) does.
     ///
     /// # Errors
     ///
-    /// Those of [`validate_adapter_module`](crate::validate_adapter_module).
+    /// Those of [`validate_adapter_module_explained`](crate::validate_adapter_module_explained).
     pub fn validate_adapter_module_explained<'b>(
         &'b self,
         alloc: Global,
@@ -135,7 +135,7 @@ impl<'a> WorldInterfaces<'a> {
         required_by_import: &'b Map<String, FuncType>,
         exports: &'b Set<WorldKey>,
         library_info: Option<&'b LibraryInfo>,
-    ) -> Result<ValidatedModule, RefusedModule>
+    ) -> Result<ValidatedModule, Refused<ValidateFault, Place>>
         ensures recorded { IfOk result (λ v. IsRecordOf (adapter_input_of self.now
             library_info.entry exports.now.keys required_by_import.now.entries)
             bytes.now (module_record v)) }
@@ -151,7 +151,7 @@ impl<'a> WorldInterfaces<'a> {
             keys: exports,
             functions: required_by_import,
         };
-        let validation_input = self.validation_input(library_info, required, true);
+        let validation_input = self.validation_input(library_info, required);
         validate_bytes(alloc, validation_input, bytes)
     }
 }

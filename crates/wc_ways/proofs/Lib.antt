@@ -1,5 +1,7 @@
 mod ListLemmas
 mod RecordLemmas
+mod TypesLemmas
+mod UserLemmas
 mod OriginalLemmas
 mod ImportLemmas
 mod WalkLemmas

@@ -1,4 +1,7 @@
+pub mod Keys
 pub mod Asked
+pub mod Users
+pub mod Types
 pub mod Words
 pub mod Originals
 pub mod Said

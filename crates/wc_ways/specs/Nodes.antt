@@ -20,6 +20,7 @@ use Rattle.wcwhy_command.specs.Texts.{graph_text}
 use Rattle.wc_ways.specs.Asked.{FunctionName, asked_function}
 use Rattle.wc_ways.specs.Originals.{Original, asked_of, required_of, wanted_of}
 use Rattle.wc_ways.specs.Said.{IsSaidAt}
+use Rattle.wc_ways.specs.Types.{type_boxes}
 use Rattle.wc_ways.specs.Words.{WantedFunctions, adapter_text, is_wanted, main_text, two_words}
 
 -- the identifiers of nodes: of the adapter at an index, of the export that first names the item at an index, of that item, and
@@ -59,7 +60,7 @@ abbrev pub module_node : List ℕ → List ℕ → List ℕ
 module_node id label = codes "    " ++ (id ++ (codes " [label=\"" ++ (graph_text label ++ codes "\"];\n")))
 
 abbrev pub recorded_arrow : ResolveView → List ℕ → List ℕ → List ℕ × (List ℕ × ImportView) → List ℕ
-recorded_arrow r key id x = option_map_or (function_arrow id) (asked_function r key x.1.1) []
+recorded_arrow r key id x = option_map_or (function_arrow id) (asked_function r key x.1.0 x.1.1) []
 
 abbrev pub recorded_arrows : ResolveView → List ℕ → List ℕ → Records → List ℕ
 recorded_arrows r key id records = flat_map (recorded_arrow r key id) (imports_in records)
@@ -160,4 +161,4 @@ main_graph w key = module_graph w.encoder.resolve key main_text main_text w.info
 abbrev pub IsWaysGraph : ComponentWorldView → List ℕ → List ℕ → Type 0
 IsWaysGraph w key text =
     (graphs : List ℕ) × AreJoined (length w.adapters) (IsGraphAt w key) graphs
-    × (text ≡ codes "digraph wcplan {\n" ++ (main_graph w key ++ (graphs ++ codes "}\n")))
+    × (text ≡ codes "digraph wcplan {\n" ++ (main_graph w key ++ (graphs ++ (type_boxes w key ++ codes "}\n"))))

@@ -47,7 +47,7 @@ recorded_at records from name = option_and_then (recorded_in name) (lookup (byte
 
 -- the function that an import is, if it stays in the trimmed adapter, and is one that is asked about
 abbrev pub asked_in : ResolveView → List ℕ → Records → ImportValue → Option FunctionName
-asked_in r key records i = option_and_then (asked_function r key) (recorded_at records i.module_name i.name)
+asked_in r key records i = option_and_then (asked_function r key i.name) (recorded_at records i.module_name i.name)
 
 abbrev pub asked_of : Original → List ℕ → ImportValue → Option FunctionName
 asked_of a key i = asked_in a.world.encoder.resolve key a.info.imports i

@@ -1,4 +1,6 @@
 -- Words of contracts of private functions. No contract of a public function cites these, directly or through others.
 pub mod Adapters
 pub mod Graph
+pub mod Imported
 pub mod Modules
+pub mod Users

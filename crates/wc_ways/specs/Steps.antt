@@ -10,6 +10,7 @@ use Rattle.wcwhy_command.specs.Joined.{AreJoined}
 use Rattle.wcwhy_command.specs.Lines.{name_in, space_name}
 use Rattle.wc_ways.specs.Asked.{FunctionName}
 use Rattle.wc_ways.specs.Said.{IsSaidAt}
+use Rattle.wc_ways.specs.Types.{TypeWords, types_text}
 use Rattle.wc_ways.specs.Ways.{AreOriginalWays, recorded_ways}
 use Rattle.wc_ways.specs.Words.{AdapterWords, ImportWords, WantedFunctions, is_wanted}
 
@@ -74,11 +75,20 @@ library_objects w key y = recorded_ways w.encoder.resolve key (import_object (So
 abbrev pub AreObjectsAt : ComponentWorldView → List ℕ → ℕ → List ℕ → Type 0
 AreObjectsAt w key index ways = IsSaidAt (AreOriginalWays adapter_object key) (library_objects w key) w index ways
 
+-- a way without a name and without steps, as JSON, after a comma
+abbrev pub type_object : TypeWords
+type_object name user =
+    codes ",{\"interface\":" ++ (quoted name ++ (codes ",\"name\":null,\"steps\":[],\"used_by\":" ++ (text_or_null user ++ codes "}")))
+
+abbrev pub type_objects : ComponentWorldView → List ℕ → List ℕ
+type_objects w key = types_text type_object w key
+
 -- the list of these ways as the member of an object, without the comma before the first, in a line
 abbrev pub list_line : List ℕ → List ℕ
 list_line ways = codes "{\"ways\":[" ++ (drop 1 ways ++ codes "]}\n")
 
--- the ways to the functions that are asked about: from the main module, and through each adapter in order
+-- the ways to what is asked about: from the main module, and through each adapter in order; then what is imported for its types
+-- alone
 abbrev pub IsWaysJson : ComponentWorldView → List ℕ → List ℕ → Type 0
 IsWaysJson w key text =
-    (ways : List ℕ) × AreJoined (length w.adapters) (AreObjectsAt w key) ways × (text ≡ list_line (main_objects w key ++ ways))
+    (ways : List ℕ) × AreJoined (length w.adapters) (AreObjectsAt w key) ways × (text ≡ list_line (main_objects w key ++ (ways ++ type_objects w key)))

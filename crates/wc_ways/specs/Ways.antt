@@ -18,12 +18,13 @@ use Rattle.wcwhy_command.specs.Joined.{AreJoined}
 use Rattle.wc_ways.specs.Asked.{FunctionName, asked_function}
 use Rattle.wc_ways.specs.Originals.{Original, asked_of, required_of, wanted_of}
 use Rattle.wc_ways.specs.Said.{IsSaidAt}
+use Rattle.wc_ways.specs.Types.{type_lines}
 use Rattle.wc_ways.specs.Words.{AdapterWords, ImportWords, adapter_text, adapter_way, import_way, main_text}
 
 -- the ways to the functions that a module imports, which are their imports alone, in these words
 
 abbrev pub recorded_way : ResolveView → List ℕ → ImportWords → List ℕ × (List ℕ × ImportView) → List ℕ
-recorded_way r key say x = option_map_or (λ (f : FunctionName). say f x.0 x.1.0) (asked_function r key x.1.1) []
+recorded_way r key say x = option_map_or (λ (f : FunctionName). say f x.0 x.1.0) (asked_function r key x.1.0 x.1.1) []
 
 abbrev pub recorded_ways : ResolveView → List ℕ → ImportWords → Records → List ℕ
 recorded_ways r key say records = flat_map (recorded_way r key say) (imports_in records)
@@ -61,9 +62,10 @@ AreWaysAt w key index ways = IsSaidAt (AreOriginalWays adapter_way key) (library
 
 -- the lines; or that nothing is imported
 abbrev pub or_none : List ℕ → List ℕ → List ℕ
-or_none key [] = escaped key ++ codes ": not imported\n"
+or_none key [] = escaped key ++ codes ": in the world, not imported\n"
 or_none key (b ∷ bs) = b ∷ bs
 
--- the ways to the functions that are asked about: from the main module, and through each adapter in order
+-- the ways to what is asked about: from the main module, and through each adapter in order; then what is imported for its types
+-- alone
 abbrev pub IsWaysText : ComponentWorldView → List ℕ → List ℕ → Type 0
-IsWaysText w key text = (ways : List ℕ) × AreJoined (length w.adapters) (AreWaysAt w key) ways × (text ≡ or_none key (main_ways w key ++ ways))
+IsWaysText w key text = (ways : List ℕ) × AreJoined (length w.adapters) (AreWaysAt w key) ways × (text ≡ or_none key (main_ways w key ++ (ways ++ type_lines w key)))

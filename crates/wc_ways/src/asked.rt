@@ -1,81 +1,196 @@
-//! Which functions are asked about.
+//! Which imports of modules are asked about.
 
 ghost use Rattle.std.specs.Prelude.{◌≡◌, IfOk, string_bytes};
 ghost use Rattle.std.specs.Option.{option_map};
-ghost use Rattle.wc_names.specs.Views.{import_view};
+ghost use Rattle.semver.specs.Identifiers.{parts_text};
+ghost use Rattle.wc_names.specs.Views.{import_view, payload_view};
 ghost use Rattle.wc_plan.specs.Calls.{IsNameable};
-ghost use Rattle.wc_selection.specs.KeyNames.{unversioned_text};
-ghost use Rattle.wc_ways.specs.Asked.{asked_function, asked_name, is_asked};
+ghost use Rattle.wc_resolve.specs.Dependencies.{id_of_interface};
+ghost use Rattle.wc_resolve.specs.Resolve.{key_text};
+ghost use Rattle.wc_resolve.specs.Views.{key_view};
+ghost use Rattle.wc_ways.specs.Asked.{asked_function, asked_world_import, asked_interface, asked_name, is_asked, own_name, payload_import, scoped_import, world_import};
 ghost use Rattle.wc_ways.specs.Private.Adapters.{function_value};
+ghost use Rattle.wc_ways.specs.Private.Imported.{imported_view};
 
+use crate::keys::asks_about;
 use std::alloc::{AllocError, Global};
-use wc_names::Import;
-use wc_resolve::Resolve;
+use wc_names::{Import, PayloadInfo, PayloadType};
+use wc_resolve::{InterfaceId, Resolve, WorldKey};
 
 /// The key that asks about all interfaces.
 const ALL: &str = "all";
 
-/// The name that stands for the interface of a function of the world itself, as in the lines of a plan.
+/// The name that stands for the interface of what is the world's own, as in the lines of a plan.
 const ROOT: &str = "$root";
 
-/// A function that is asked about: the name of its interface, and its own.
+/// What is asked about: the name of its interface, and its own.
 #[derive(Drop)]
 pub(crate) struct Function<'a> {
     pub(crate) interface: String,
     pub(crate) name: &'a str,
 }
 
-/// The function that an import is, if it is one that is asked about.
+/// An import of the world, to which an import of a module belongs.
+#[derive(Clone, Copy)]
+pub(crate) enum Imported<'a> {
+    /// The interface under this key.
+    Interface(&'a WorldKey),
+    /// The function or the type of this name that is the world's own.
+    Own(&'a str),
+}
+
+/// What an import of a module is, if it belongs to an import of the world that is asked about: a function, or a built-in
+/// under the name that it has in the module.
 pub(crate) fn asked_function<'a>(
     alloc: Global,
     resolve: &Resolve,
     key: &str,
+    name: &'a str,
     import: &'a Import,
 ) -> Result<Option<Function<'a>>, AllocError>
     requires { IsNameable resolve.now (import_view import.now) }
     ensures { IfOk result (λ f. option_map function_value f
-        ≡ asked_function resolve.now key.now (import_view import.now)) }
+        ≡ asked_function resolve.now key.now name.now (import_view import.now)) }
 {
-    let Some(function) = import.function() else {
-        return Ok(None);
-    };
-    match function.interface {
-        Some((interface, _id)) => {
-            let interface = resolve.name_world_key(alloc, interface)?;
-            Ok(asked_name(key, interface, function.name))
-        }
-        None => {
+    match world_import(import) {
+        Some(imported) => asked_world_import(alloc, resolve, key, own_name(name, import), imported),
+        None => Ok(None),
+    }
+}
+
+/// What is of this name, if it belongs to an import of the world that is asked about.
+fn asked_world_import<'a>(
+    alloc: Global,
+    resolve: &Resolve,
+    key: &str,
+    name: &'a str,
+    imported: Imported<'_>,
+) -> Result<Option<Function<'a>>, AllocError>
+    ensures { IfOk result (λ f. option_map function_value f
+        ≡ asked_world_import resolve.now key.now name.now (imported_view imported.entry)) }
+{
+    match imported {
+        Imported::Interface(interface) => match key_text(alloc, resolve, interface)? {
+            Some(text) => Ok(asked_interface(key, text, name)),
+            None => Ok(None),
+        },
+        Imported::Own(own) => {
             let interface = String::from_str(alloc, ROOT)?;
-            Ok(asked_name(key, interface, function.name))
+            Ok(asked_name(key, interface, own, name))
         }
     }
 }
 
-/// The function, if its interface is asked about.
-fn asked_name<'a>(key: &str, interface: String, name: &'a str) -> Option<Function<'a>>
+/// What is of an interface, if this is asked about.
+fn asked_interface<'a>(key: &str, interface: String, name: &'a str) -> Option<Function<'a>>
     ensures { option_map function_value result
-        ≡ asked_name key.now (string_bytes interface) name.now }
+        ≡ asked_interface key.now name.now (string_bytes interface) }
 {
-    if is_asked(key, &interface) {
+    if is_asked(key, &interface, &interface) {
         Some(Function { interface, name })
     } else {
         None
     }
 }
 
-/// Whether an interface is asked about: by its name, with its version or without; or all are.
-fn is_asked(key: &str, name: &str) -> bool
-    ensures { result ≡ is_asked key.now name.now }
+/// What belongs to an import of the world with this text, if this is asked about.
+fn asked_name<'a>(key: &str, interface: String, text: &str, name: &'a str) -> Option<Function<'a>>
+    ensures { option_map function_value result
+        ≡ asked_name key.now (string_bytes interface) text.now name.now }
 {
-    key == ALL || key == name || key == unversioned(name)
+    if is_asked(key, &interface, text) {
+        Some(Function { interface, name })
+    } else {
+        None
+    }
 }
 
-/// A name without its version: what is before the first `@`.
-fn unversioned(name: &str) -> &str
-    ensures { result.now ≡ unversioned_text name.now }
+/// Whether an import of the world is asked about: by the name of its interface, which is `$root` for what is the world's
+/// own, or by its text; or all are.
+pub(crate) fn is_asked(key: &str, interface: &str, text: &str) -> bool
+    ensures { result ≡ is_asked key.now interface.now text.now }
 {
-    match name.split_once('@') {
-        Some((front, _version)) => front,
+    key == ALL || key == interface || asks_about(key, text)
+}
+
+/// The text of the key of an interface, if it has one.
+pub(crate) fn key_text(
+    alloc: Global,
+    resolve: &Resolve,
+    key: &WorldKey,
+) -> Result<Option<String>, AllocError>
+    ensures { IfOk result (λ t. option_map string_bytes t
+        ≡ key_text parts_text resolve.now (key_view key.now)) }
+{
+    match key {
+        WorldKey::Name(name) => Ok(Some(String::from_str(alloc, name)?)),
+        WorldKey::Interface(id) => {
+            if resolve.has_interface(*id) {
+                resolve.id_of(alloc, *id)
+            } else {
+                Ok(None)
+            }
+        }
+    }
+}
+
+/// The name of an import: that of a function; of what is none the name that it has in the module.
+fn own_name<'a>(name: &'a str, import: &'a Import) -> &'a str
+    ensures { result.now ≡ own_name name.now (import_view import.now) }
+{
+    match import.function() {
+        Some(function) => function.name,
         None => name,
+    }
+}
+
+/// The import of the world to which an import of a module belongs: that of a function, of a dropped resource, or of the
+/// function whose future or stream a built-in is for.
+pub(crate) fn world_import(import: &Import) -> Option<Imported<'_>>
+    ensures { option_map imported_view result ≡ world_import (import_view import.now) }
+{
+    match import {
+        Import::WorldFunc(_, name, _) => Some(Imported::Own(name)),
+        Import::InterfaceFunc(key, _, _, _) => Some(Imported::Interface(key)),
+        Import::ImportedResourceDrop(key, interface, _) => scoped_import(key, *interface),
+        Import::StreamNew(info) | Import::FutureNew(info) => payload_import(info),
+        Import::StreamForward(info) | Import::FutureForward(info) => payload_import(info),
+        Import::StreamDropReadable(info) => payload_import(info),
+        Import::FutureDropReadable(info) => payload_import(info),
+        Import::StreamDropWritable(info) => payload_import(info),
+        Import::FutureDropWritable(info) => payload_import(info),
+        Import::StreamRead { info, .. } | Import::FutureRead { info, .. } => payload_import(info),
+        Import::StreamWrite { info, .. } | Import::FutureWrite { info, .. } => payload_import(info),
+        Import::StreamCancelRead { info, .. } => payload_import(info),
+        Import::FutureCancelRead { info, .. } => payload_import(info),
+        Import::StreamCancelWrite { info, .. } => payload_import(info),
+        Import::FutureCancelWrite { info, .. } => payload_import(info),
+        _ => None,
+    }
+}
+
+/// The import of the world of a resource: its interface, if it is of one.
+fn scoped_import(key: &WorldKey, interface: Option<InterfaceId>) -> Option<Imported<'_>>
+    ensures { option_map imported_view result
+        ≡ scoped_import (key_view key.now) (option_map id_of_interface interface) }
+{
+    match (interface, key) {
+        (Some(_), _) => Some(Imported::Interface(key)),
+        (None, WorldKey::Name(name)) => Some(Imported::Own(name)),
+        (None, WorldKey::Interface(_)) => None,
+    }
+}
+
+/// The import of the world that has a future or a stream, if it is imported.
+fn payload_import(info: &PayloadInfo) -> Option<Imported<'_>>
+    ensures { option_map imported_view result ≡ payload_import (payload_view info.now) }
+{
+    if !info.imported {
+        return None;
+    }
+    match (info.interface, &info.ty) {
+        (Some(_), _) => Some(Imported::Interface(&info.key)),
+        (None, PayloadType::Typed { function, .. }) => Some(Imported::Own(function)),
+        (None, PayloadType::UnitFuture | PayloadType::UnitStream) => None,
     }
 }

@@ -184,7 +184,7 @@ fn recorded_arrow(
     ensures { IfOk result (λ s. string_bytes s
         ≡ recorded_arrow resolve.now key.now id.now (import_shown recorded.entry)) }
 {
-    match asked_function(alloc, resolve, key, recorded.2)? {
+    match asked_function(alloc, resolve, key, recorded.1, recorded.2)? {
         Some(function) => function_arrow(alloc, id, &function),
         None => Ok(String::new(alloc)),
     }

@@ -150,7 +150,7 @@ fn said_of(alloc: Global, walk: &Walk<'_, '_, '_>) -> Result<String, AllocError>
 pub(crate) fn asked_import<'a>(
     alloc: Global,
     adapter: &Adapter<'a, '_>,
-    import: &Import<'_>,
+    import: &Import<'a>,
 ) -> Result<Option<Function<'a>>, AllocError>
     requires { IsNameableIn adapter.now }
     ensures { IfOk result (λ f. option_map function_value f
@@ -162,7 +162,7 @@ pub(crate) fn asked_import<'a>(
         return Ok(None);
     };
     let metadata = adapter.world.encoder.metadata();
-    asked_function(alloc, &metadata.resolve, adapter.key, recorded)
+    asked_function(alloc, &metadata.resolve, adapter.key, import.name, recorded)
 }
 
 /// The record of an import, by its module and its name.

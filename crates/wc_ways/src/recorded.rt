@@ -61,7 +61,7 @@ fn recorded_way(
         (import_shown recorded.entry)) }
 {
     let (from, name, import) = recorded;
-    match asked_function(alloc, resolve, key, import)? {
+    match asked_function(alloc, resolve, key, name, import)? {
         Some(function) => import_said(alloc, importer, &function, from, name),
         None => Ok(String::new(alloc)),
     }

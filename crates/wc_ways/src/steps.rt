@@ -216,7 +216,7 @@ fn name_in<'r>(names: &OrderedMap<u32, &'r str>, item: (Space, u32)) -> Option<&
 }
 
 /// A text as JSON; null for none.
-fn text_or_null(alloc: Global, text: Option<&str>) -> Result<String, AllocError>
+pub(crate) fn text_or_null(alloc: Global, text: Option<&str>) -> Result<String, AllocError>
     ensures { IfOk result (λ s. string_bytes s ≡ text_or_null (adapter_name text.entry)) }
 {
     match text {
@@ -226,7 +226,7 @@ fn text_or_null(alloc: Global, text: Option<&str>) -> Result<String, AllocError>
 }
 
 /// A text as JSON.
-fn text_json(alloc: Global, text: &str) -> Result<String, AllocError>
+pub(crate) fn text_json(alloc: Global, text: &str) -> Result<String, AllocError>
     ensures { IfOk result (λ s. string_bytes s ≡ quoted text.now) }
 {
     let bytes = quoted_bytes(alloc, text)?;

@@ -12,17 +12,21 @@ ghost use Rattle.wc_ways.specs.Steps.{IsWaysJson};
 use crate::adapters::{Module, all_said, module_said};
 use crate::originals::Form;
 use crate::steps::list_line;
+use crate::types::types_said;
 use std::alloc::{AllocError, Global};
 use wc_gc::GcFault;
 use wc_json::escaped;
 use wc_world::ComponentWorld;
 
-/// The ways to the functions that the modules of a component import, as lines: of an interface that `key` names, with its
-/// version or without, or of all where it is `all`. `$root` names the functions that are the world's own. A key without a
-/// version asks about each version; what is before the first `@` of an interface's name is its name without one.
+/// The ways to what the modules of a component import of what its world imports, as lines: of what `key` asks about
+/// (`asks_about`): an interface, a package, or a function or a type of the world itself; of all where it is `all`; or of
+/// all that is the world's own where it is `$root`. A key without a version asks about each version.
 ///
-/// The imports of the main module come first, and then those of each adapter, in order. Of each function there is a line
-/// `INTERFACE NAME`, and then a line for each step of the way to it, after two blanks:
+/// The imports of the main module come first, and then those of each adapter, in order: functions, drops of resources,
+/// and built-ins for a future or a stream of a function that is imported. Built-ins for exports, and what modules of a
+/// component share, are none. Of each there is a line `INTERFACE NAME`, and then a line for each step of the way to it,
+/// after two blanks. INTERFACE is `$root` for what is the world's own; NAME is that of the function, and of another
+/// import the name that it has in its module:
 ///
 /// - of the main module `main imports MODULE NAME` alone;
 /// - of an adapter `main imports ADAPTER EXPORT`, if the main module imports the export where the way begins;
@@ -31,7 +35,12 @@ use wc_world::ComponentWorld;
 ///   `adapter ADAPTER imports MODULE NAME`;
 /// - of a library `adapter ADAPTER imports MODULE NAME` alone.
 ///
-/// Where nothing is imported that is asked about, there is one line, `KEY: not imported`. Texts from outside are escaped
+/// After these there is a line `INTERFACE: for its types, used by USER` for each interface of which no function is lowered
+/// and no resource dropped, but types are live, in the world's order. USER is the first interface, of the world's imports
+/// in order and then of its exports, one of whose live types is an alias of a type of INTERFACE; of an export all types
+/// are live. Without such a one the line ends before the comma.
+///
+/// Where nothing is imported that is asked about, there is one line, `KEY: in the world, not imported`. Texts from outside are escaped
 /// (`wc_json::escaped`), and a blank in them is `\u{20}`; in the line of a key it stays.
 ///
 /// It takes time and memory linear in the modules and in the text.
@@ -49,13 +58,16 @@ pub fn ways_text(alloc: Global, world: &ComponentWorld<'_>, key: &str) -> Result
 {
     let mut text = main_said(alloc, Form::Lines, world, key)?;
     let ways = all_said(alloc, Form::Lines, world, key)?;
+    let types = types_said(alloc, Form::Lines, world, key)?;
     text.push_str(&ways)?;
+    text.push_str(&types)?;
     Ok(text_or_none(alloc, key, text)?)
 }
 
 /// The ways of `ways_text` as JSON, in one line: an object whose member `ways` is the list of them, in its order. Each is an
-/// object with `interface` and `name`, the interface of the function and its name, and `steps`, the list of the steps of the
-/// way to it. A step is an object whose first member is `kind`:
+/// object with `interface` and `name`, the interface of the import and its name, and `steps`, the list of the steps of the
+/// way to it. An interface that is imported for its types alone has null for `name`, no steps, and a fourth member, `used_by`:
+/// the interface that uses them, or null. A step is an object whose first member is `kind`:
 ///
 /// - `import`, with `adapter`, `module` and `name`: that adapter, or library, imports it; null stands for the main module;
 /// - `export`, with `adapter` and `name`: that adapter exports it;
@@ -76,16 +88,18 @@ pub fn ways_json(alloc: Global, world: &ComponentWorld<'_>, key: &str) -> Result
 {
     let mut ways = main_said(alloc, Form::Json, world, key)?;
     let more = all_said(alloc, Form::Json, world, key)?;
+    let types = types_said(alloc, Form::Json, world, key)?;
     ways.push_str(&more)?;
+    ways.push_str(&types)?;
     Ok(list_line(alloc, ways.as_bytes())?)
 }
 
 /// The ways of `ways_text` as a graph, in the language of Graphviz: the main module, each adapter and each library as a cluster, with
 /// an arrow from the main module to each export where a way begins, if it imports it; in an adapter the items of all ways
 /// together, which are a tree, with an arrow to each from the item that first names it, or from the export that does; and
-/// a node for each function that is asked about, with arrows from the items, or modules, that import it. Texts are escaped
-/// as in the lines, and then as Graphviz has to read them between quotes. Where nothing is imported that is asked about,
-/// no function is in the graph.
+/// a node for each import that is asked about, with arrows from the items, or modules, that import it. An interface that is
+/// imported for its types alone is a node without arrows. Texts are escaped as in the lines, and then as Graphviz has to
+/// read them between quotes. Where nothing is imported that is asked about, no import is in the graph.
 ///
 /// It takes time and memory linear in the modules: of many long ways it has each item once.
 ///
@@ -100,7 +114,8 @@ pub fn ways_graph(alloc: Global, world: &ComponentWorld<'_>, key: &str) -> Resul
 {
     let main = main_said(alloc, Form::Graph, world, key)?;
     let adapters = all_said(alloc, Form::Graph, world, key)?;
-    Ok(format!(in alloc; "digraph wcplan {{\n{main}{adapters}}}\n")?)
+    let types = types_said(alloc, Form::Graph, world, key)?;
+    Ok(format!(in alloc; "digraph wcplan {{\n{main}{adapters}{types}}}\n")?)
 }
 
 /// The lines; or the line that nothing is imported.
@@ -119,7 +134,7 @@ fn none_text(alloc: Global, key: &str) -> Result<String, AllocError>
     ensures { IfOk result (λ s. string_bytes s ≡ or_none key.now []) }
 {
     let key = escaped(alloc, key)?;
-    format!(in alloc; "{key}: not imported\n")
+    format!(in alloc; "{key}: in the world, not imported\n")
 }
 
 /// The ways of the main module, which are its imports alone.

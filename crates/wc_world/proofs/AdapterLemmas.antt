@@ -4,6 +4,7 @@ use Rattle.std.specs.Prelude.{if◌then◌else◌}
 use Rattle.std.specs.Borrow.{Bor}
 use Rattle.std.specs.List.{AllByRecursion, AllZip, IsDistinct}
 use Rattle.std.specs.Map.{keys_of, lookup}
+use Rattle.std.specs.Option.{option_map}
 use Rattle.std.specs.declared.alloc.Global.{Global}
 use Rattle.std.specs.Str.{bytes_eq}
 use Rattle.std.proofs.lemmas.List.{map-append}
@@ -13,28 +14,28 @@ use Rattle.indexmap.specs.IndexMap.{insert_entry}
 use Rattle.wc_read.specs.Types.{FuncTypeValue}
 use Rattle.wc_resolve.specs.Kinds.{ResolveView}
 use Rattle.wc_resolve.proofs.KeyLemmas.{texts_law}
+use Rattle.wc_resolve.proofs.LookupLemmas.{name_viewed}
 use Rattle.wc_adapters.specs.declared.adapters.Adapter.{Adapter}
-use Rattle.wc_adapters.specs.Adapters.{AdapterView, adapter_entry as input_entry}
+use Rattle.wc_adapters.specs.Adapters.{AdapterView, adapter_entry as input_entry, adapter_view as input_view}
 use Rattle.wc_encoder.specs.EncoderParts.{EncoderView, world_exports}
 use Rattle.wc_adapters.specs.Entries.{Entries}
 use Rattle.wc_validate.specs.Imports.Map.{required_in}
 use Rattle.wc_validate.specs.Validate.{IsRecordOf, ModuleRecord, main_input}
-use Rattle.wc_validate.specs.declared.refused.RefusedModule.{RefusedModule}
+use Rattle.wc_validate.specs.Refused.{RefusedModule}
 use Rattle.wc_world.specs.Trimming.{HasOtherName, NamedAdapter, is_adapter_needed, is_needed, needed_adapters}
 use Rattle.wc_world.specs.Causes.{IsComponentWorldCause, IsFaultOf, IsFirst, IsFirstFault, IsMemory, IsMemoryOf, IsReachedMemory, IsStopOf, IsValidAdapter}
 use Rattle.wc_world.specs.Private.Refused.{IsFirstRefusal, IsMainRefusal, IsModuleRefusal, IsNeededStopAt}
-use Rattle.wc_world.specs.Refused.{IsMemoryRefusal, IsRefusedAt}
+use Rattle.wc_world.specs.Refused.{IsMemoryRefusal, IsRefusedAt, RefusedWorld}
 use Rattle.wc_world.specs.Views.{NamedWorldAdapter}
 use Rattle.wc_world.specs.World.{AreAdaptersAmong, IsAdapterOf, IsMainRecord}
 use Rattle.wc_world.specs.WorldViews.{adapter_entry}
 use Rattle.wc_world.specs.declared.adapter.WorldAdapter.{WorldAdapter}
 use Rattle.wc_world.specs.declared.fault.WorldFault.{WorldFault}
 use Rattle.wc_world.specs.declared.fault.WorldFault.TheVariants.{Main, Memory}
-use Rattle.wc_world.specs.declared.refused.RefusedWorld.{RefusedWorld}
 use Rattle.wc_world.proofs.FaultLemmas.{refused_or_memory}
 use Rattle.wc_world.proofs.RefusedLemmas.{adapter_placed, memory_placed}
 
-zip_push : {A B : Type 0} (R : A → B → Type 0) (xs : List A) (ys : List B) (x : A) (y : B) → AllZip R xs ys → R x y → AllZip R (xs ++ x ∷ []) (ys ++ y ∷ [])
+pub zip_push : {A B : Type 0} (R : A → B → Type 0) (xs : List A) (ys : List B) (x : A) (y : B) → AllZip R xs ys → R x y → AllZip R (xs ++ x ∷ []) (ys ++ y ∷ [])
 zip_push R [] [] x y h r = (r, tt)
 zip_push R [] (b ∷ ys) x y h r = absurd h
 zip_push R (a ∷ xs) [] x y h r = absurd h
@@ -121,6 +122,11 @@ found_at name [] back a others = ap (λ b. cond b (Some a) (lookup (bytes_eq nam
 found_at name (p ∷ front) back a others =
     passed_over (bytes_eq name p.0) p.1 (lookup (bytes_eq name) (front ++ (name, a) ∷ back)) (λ same. others.0 (sym ((bytes_eq-Decides name p.0).0 same)))
     ∙ found_at name front back a others.1
+
+-- the adapter of a name, among those that are read
+pub adapter_found : (e : EncoderView) (es : List RawInput) (name : List ℕ) (o : Option Adapter) → map input_entry es ≡ e.adapters
+    → o ≡ lookup (λ k. bytes_eq name (string_bytes k)) es → lookup (bytes_eq name) e.adapters ≡ option_map input_view o
+adapter_found e es name o are is = sym (ap (option_map input_view) is ∙ (name_viewed input_view es name ∙ ap (lookup (bytes_eq name)) are))
 
 -- adapters that are gone through, and those that are left
 pub record AdaptersWalk (e : EncoderView) (main : ModuleRecord) (left : List RawInput) (ys : List NamedWorldAdapter) : Type 0 where

@@ -1,10 +1,10 @@
 -- Functions of interfaces whose types were added.
-use Rattle.std.proofs.Common.{◌≡◌, ◌∙◌, ℕ, Bool, true, false, cond, ◌&&◌, List, [], Some, None, string_bytes, refl, sym, ap, subst, inl, inr}
+use Rattle.std.proofs.Common.{◌≡◌, ◌∙◌, ℕ, true, cond, List, [], Some, None, string_bytes, refl, sym, ap, subst, inl, inr}
 use Rattle.std.specs.Prelude.{◌==◌}
 use Rattle.std.specs.List.{Contains, list_any}
 use Rattle.std.specs.Str.{bytes_eq}
 use Rattle.std.specs.String.{string_eq}
-use Rattle.std.proofs.lemmas.Bool.{cases_Bool}
+use Rattle.std.proofs.lemmas.Bool.{and_parts, cases_Bool}
 use Rattle.std.proofs.lemmas.Slice.Eq.{bytes_eq-Decides}
 use Rattle.wc_resolve.specs.Live.{AddsListings, IsComplete, listing_from}
 use Rattle.wc_resolve.specs.Kinds.{ResolveView}
@@ -13,17 +13,13 @@ use Rattle.wc_resolve.proofs.ListUnionLemmas.{list_union_has, list_union_keeps, 
 use Rattle.wc_world.specs.Live.{named_function_roots}
 use Rattle.wc_world.specs.Private.LiveAdditions.{FunctionKey, HaveListings, key_roots, same_function}
 
-both : (a b : Bool) → (a && b) ≡ true → (a ≡ true) × (b ≡ true)
-both true b h = (refl, h)
-both false b h = absurd (let bad : ⊥ = cc h in bad)
-
 -- keys that are the same have the same types
 same_roots : (r : ResolveView) (k f : FunctionKey) → same_function k f ≡ true → key_roots r k ≡ key_roots r f
 same_roots r (None, s) (None, t) h = refl
 same_roots r (None, s) (Some j, t) h = absurd (let bad : ⊥ = cc h in bad)
 same_roots r (Some i, s) (None, t) h = absurd (let bad : ⊥ = cc h in bad)
 same_roots r (Some i, s) (Some j, t) h =
-    let same = both (i.0 == j.0) (string_eq s t) h in
+    let same = and_parts (i.0 == j.0) (string_eq s t) h in
     ap (λ n. named_function_roots r n (string_bytes s)) (nat_from i.0 j.0 same.0) ∙ ap (named_function_roots r j.0) ((bytes_eq-Decides (string_bytes s) (string_bytes t)).0 same.1)
 
 module _ (r : ResolveView) (old new : List ℕ) (roots : List ℕ) (complete : IsComplete r.types old) (adds : AddsListings r old new roots) where

@@ -1,9 +1,8 @@
 -- Faults of adapters, by what refused them.
-use Rattle.std.proofs.Common.{◌≡◌, ◌≢◌, ◌≤◌, ◌⊎◌, ℕ, min, arith, List, [], MatchOption, Option, Some, None, Result, Ok, Err, IfErr, IfOk, String, string_bytes, true, refl, sym, ap, ◌∙◌, subst, inl, inr}
+use Rattle.std.proofs.Common.{◌≡◌, ◌≢◌, ◌≤◌, ◌⊎◌, ℕ, min, arith, List, [], MatchOption, Option, Some, None, Result, Ok, Err, IfErr, IfOk, String, true, refl, sym, ap, ◌∙◌, subst, inl, inr}
 use Rattle.std.specs.Borrow.{Bor}
 use Rattle.std.specs.Option.{option_copied, option_map, option_map_or}
 use Rattle.std.specs.Result.{IsErrAnd}
-use Rattle.std.specs.declared.alloc.AllocError.{AllocError}
 use Rattle.std.specs.declared.alloc.Global.{Global}
 use Rattle.wc_read.specs.declared.types.MemoryType.{MemoryType}
 use Rattle.wc_read.specs.Limits.{page_size_log2_of}
@@ -19,27 +18,24 @@ use Rattle.wc_gc.specs.declared.fault.GcFault.{GcFault}
 use Rattle.wc_gc.specs.declared.fault.GcFault.TheVariants as trim
 use Rattle.wc_gc.specs.declared.trim_place.TrimPlace.{TrimPlace}
 use Rattle.wc_validate.specs.Imports.Map.{memory_in}
-use Rattle.wc_validate.specs.Explain.{IsExplained}
-use Rattle.wc_validate.specs.Refused.{HasNoPlace as HasNoPlaceInModule}
+use Rattle.wc_validate.specs.Refused.{HasNoPlace as HasNoPlaceInModule, RefusedModule}
 use Rattle.wc_validate.specs.Validate.{IsValidateCause, IsRecordOf, ValidationInput, ModuleRecord, adapter_input}
 use Rattle.wc_validate.specs.declared.fault.ValidateFault.{ValidateFault}
 use Rattle.wc_validate.specs.declared.fault.ValidateFault.TheVariants as validate
-use Rattle.wc_validate.specs.declared.place.Place.{Place}
-use Rattle.wc_validate.specs.declared.refused.RefusedModule.{RefusedModule}
 use Rattle.wc_world.specs.Trimming.{validation_input_of, main_page_size, main_realloc, page_size, required_names, trim_page_size_log2}
 use Rattle.wc_world.specs.Causes.{IsMinimizedReached, IsRefused, IsStopOf, IsTrimReached}
 use Rattle.wc_world.specs.Places.{IsInAdapter, IsMinimizedPlace, IsTrimPlace, IsTrimUnplaced, IsValidationPlace}
 use Rattle.wc_world.specs.Private.Adapters.{IsInputTrimmedOrLibrary, IsInputRecord, IsInputTrimmedText, IsNeeded, main_of, named_adapter, required_of}
-use Rattle.wc_world.specs.Private.Places.{input_of}
 use Rattle.wc_world.specs.Private.Refused.{IsInputRefusal, IsModuleRefusal, IsNamedRefusal, IsPlacedBy}
+use Rattle.wc_world.specs.Refused.{RefusedWorld}
 use Rattle.wc_world.specs.Restricted.{RefusedAsCollision}
 use Rattle.wc_world.specs.Views.{WorldAdapterView}
 use Rattle.wc_world.specs.World.{IsTrimmedOrLibrary, settings_of, adapter_trim_input}
 use Rattle.wc_world.specs.declared.adapters.AdapterInput.{AdapterInput}
 use Rattle.wc_world.specs.declared.fault.WorldFault.{WorldFault}
 use Rattle.wc_world.specs.declared.fault.WorldFault.TheVariants.{Adapter, Trim, Minimized, PageSize}
+use Rattle.wc_world.specs.declared.places.ModulePlace.{ModulePlace}
 use Rattle.wc_world.specs.declared.places.ModulePlace.TheVariants as place
-use Rattle.wc_world.specs.declared.refused.RefusedWorld.{RefusedWorld}
 use Rattle.wc_world.proofs.NeededLemmas.{needed_some}
 use Rattle.wc_world.proofs.RefusedLemmas.{named_refusal, placed}
 use Rattle.wc_world.proofs.RestrictedLemmas.{trimmed_for}
@@ -91,10 +87,6 @@ module _ (g : AdapterInput) (needed : IsNeeded g) (library : Option LibraryView)
 
   refused_input : (bytes other : List ℕ) (m : RefusedModule) → bytes ≡ other → IsModuleRefusal (adapter_input g.encoder.now library (named_adapter g).1.required_exports (required_of g)) bytes m → IsModuleRefusal validation_input other m
   refused_input bytes other m is h = subst (λ b. IsModuleRefusal validation_input b m) is (subst (λ j. IsModuleRefusal j bytes m) own_input h)
-
-  pub explained_input : (bytes : List ℕ) (f : ValidateFault) (o : Option Place) → IsExplained (adapter_input g.encoder.now library (named_adapter g).1.required_exports (required_of g)) bytes f o → IsExplained (input_of g) bytes f o
-  unfolding validation_input
-  explained_input bytes f o h = subst (λ j. IsExplained j bytes f o) own_input h
 
   -- a module that is refused as the encoder has it, and one that is refused once it is trimmed
   pub adapter_refused : (bytes : List ℕ) (m : RefusedModule) (x : RefusedWorld) → bytes ≡ g.adapter.now.wasm.items → IsModuleRefusal (adapter_input g.encoder.now library (named_adapter g).1.required_exports (required_of g)) bytes m
@@ -166,14 +158,13 @@ module _ (g : AdapterInput) (needed : IsNeeded g) (first : ModuleRecord) (reallo
   untrimmed_input f h = in_own_words (λ s w. IsTrimFault s w f) h
 
   -- what is said of where it stops
-  trim_found : (v : GcFault) (r : Result (Option TrimPlace) AllocError) (valid : IsTrimReached g.encoder.now (main_of g) (named_adapter g)) → valid.first ≡ first → IfOk r (IsTrimExplained (trim_input bytes names) v)
-      → IfOk r (λ o. MatchOption o (IsTrimUnplaced g.encoder.now v (main_of g) (named_adapter g)) (λ (p : TrimPlace). IsTrimPlace g.encoder.now v (place.Trim p) (main_of g) (named_adapter g)))
-  trim_found v (Err e) valid is h = tt
-  trim_found v (Ok None) valid is h = inr (valid, subst (λ w. (p : TrimPlace) → ¬ IsPlaceOfTrim w v p) (own_trim_input ∙ ap (adapter_trim_input (main_of g) (named_adapter g)) (sym is)) h)
-  trim_found v (Ok (Some p)) valid is h = (valid, subst (λ w. IsPlaceOfTrim w v p) (own_trim_input ∙ ap (adapter_trim_input (main_of g) (named_adapter g)) (sym is)) h)
+  trim_found : (v : GcFault) (o : Option TrimPlace) (valid : IsTrimReached g.encoder.now (main_of g) (named_adapter g)) → valid.first ≡ first → IsTrimExplained (trim_input bytes names) v o
+      → MatchOption o (IsTrimUnplaced g.encoder.now v (main_of g) (named_adapter g)) (λ (p : TrimPlace). IsTrimPlace g.encoder.now v (place.Trim p) (main_of g) (named_adapter g))
+  trim_found v None valid is h = (valid, subst (λ w. (p : TrimPlace) → ¬ IsPlaceOfTrim w v p) (own_trim_input ∙ ap (adapter_trim_input (main_of g) (named_adapter g)) (sym is)) h)
+  trim_found v (Some p) valid is h = (valid, subst (λ w. IsPlaceOfTrim w v p) (own_trim_input ∙ ap (adapter_trim_input (main_of g) (named_adapter g)) (sym is)) h)
 
-  pub trim_refused : (v : GcFault) (r : Result (Option TrimPlace) AllocError) (x : RefusedWorld) → (named_adapter g).1.library_info ≡ None → IsInputRecord g g.adapter.now.wasm.items first → IsTrimFault (settings realloc page_size_log2) (trim_input bytes names) v
-      → IfOk r (IsTrimExplained (trim_input bytes names) v) → IsNamedRefusal (λ s. Trim s v) place.Trim g.name.now r x → IsInputRefusal g x
+  pub trim_refused : (v : GcFault) (r : Option TrimPlace) (x : RefusedWorld) → (named_adapter g).1.library_info ≡ None → IsInputRecord g g.adapter.now.wasm.items first → IsTrimFault (settings realloc page_size_log2) (trim_input bytes names) v
+      → IsTrimExplained (trim_input bytes names) v r → IsNamedRefusal (λ s. Trim s v) place.Trim g.name.now r x → IsInputRefusal g x
   trim_refused v r x none original h explained named =
       let valid : IsTrimReached g.encoder.now (main_of g) (named_adapter g) = record { first = first; trims = none; original = original } in
       named_refusal (λ s. Trim s v) place.Trim g.name.now r (IsInputRefusal g) x (λ memory. inl memory)
@@ -191,10 +182,13 @@ module _ (g : AdapterInput) (needed : IsNeeded g) (first : ModuleRecord) (reallo
       (sym (is_names ∙ ap (λ r. required_names r first.exports) needed.required) ∙ ap names_of is)
 
 -- its pages are others
-pub page_refusal : (g : AdapterInput) (info : ModuleRecord) (s : String Global) (memory : MemoryType) (own mains : ℕ) → string_bytes s ≡ g.name.now → memory_in info.imports ≡ Some memory → own ≡ page_size memory → mains ≡ main_page_size g.main.now.exports → own ≢ mains
-    → (a : WorldAdapterView) → a.info ≡ info → IsInputTrimmedOrLibrary g a → IsInputRefusal g (record { fault = PageSize s own mains; place = Ok None })
-page_refusal g info s memory own mains named imported is_own is_main differ a is is_adapter =
-    inr (inl (named, record { adapter = a; memory = memory; is_adapter = is_adapter; imported = subst (λ (z : ModuleRecord). memory_in z.imports ≡ Some memory) (sym is) imported; is_own = is_own; is_main = is_main; differ = differ }), tt)
+pub page_refused : (g : AdapterInput) (info : ModuleRecord) (memory : MemoryType) (own mains : ℕ) (x : RefusedWorld) → memory_in info.imports ≡ Some memory → own ≡ page_size memory → mains ≡ main_page_size g.main.now.exports → own ≢ mains
+    → IsNamedRefusal (λ s. PageSize s own mains) (λ (p : ModulePlace). p) g.name.now (Some (place.PageSizes own mains)) x → (a : WorldAdapterView) → a.info ≡ info → IsInputTrimmedOrLibrary g a → IsInputRefusal g x
+page_refused g info memory own mains x imported is_own is_main differ named a is is_adapter =
+    named_refusal (λ s. PageSize s own mains) (λ (p : ModulePlace). p) g.name.now (Some (place.PageSizes own mains)) (IsInputRefusal g) x (λ memory. inl memory)
+    (λ s same made found. stop_at g (PageSize s own mains) x made
+    (inl (same, record { adapter = a; memory = memory; is_adapter = is_adapter; imported = subst (λ (z : ModuleRecord). memory_in z.imports ≡ Some memory) (sym is) imported; is_own = is_own; is_main = is_main; differ = differ }))
+    (placed (IsInAdapter g.name.now) (λ (p : ModulePlace). p) ⊥ (λ p. p ≡ place.PageSizes own mains) (λ p. p ≡ place.PageSizes own mains) (λ p here. here) (Some (place.PageSizes own mains)) x.place refl found)) named
 
 -- a library is what the encoder has
 pub borrowed_library : (g : AdapterInput) (library : LibraryInfo) (a : WorldAdapterView) → g.adapter.now.library_info ≡ Some library → a.wasm ≡ g.adapter.now.wasm.items → a.is_borrowed ≡ true → IsInputRecord g g.adapter.now.wasm.items a.info → IsInputTrimmedOrLibrary g a

@@ -21,7 +21,6 @@ pub mod NeededLemmas
 pub mod RefusedLemmas
 pub mod FaultLemmas
 pub mod AdapterLemmas
-pub mod PlaceLemmas
 pub mod WorldLemmas
 pub mod RestrictedLemmas
 pub mod ExclusionLemmas

@@ -7,7 +7,7 @@ use Rattle.std.specs.declared.alloc.Global.{Global}
 use Rattle.std.proofs.lemmas.List.Elements.{Contains-append_cases, Contains-push_cases}
 use Rattle.std.proofs.lemmas.List.Folds.{flat_map-map}
 use Rattle.wc_resolve.specs.Live.{list_union, listing_from, listing_of, listing_rule, with_live}
-use Rattle.wc_resolve.specs.Ranges.{AreIdsInRange, IsEntryIn, IsFunctionIn, IsItemIn, IsTypeIn, IsWorldIn}
+use Rattle.wc_resolve.specs.Ranges.{AreIdsInRange, IsFunctionIn, IsItemIn, IsTypeIn, IsWorldIn}
 use Rattle.wc_resolve.specs.Roots.{function_roots, item_roots, type_roots}
 use Rattle.wc_resolve.specs.TypeRules.{repeated, value_by_rule}
 use Rattle.wc_resolve.specs.Views.{InterfaceView, ItemView, KeyView, KindView, TypeView, FunctionView, WorldView, function_item, interface_item, type_item}
@@ -42,7 +42,8 @@ use Rattle.wc_world.specs.Views.{NamedWorldAdapter}
 use Rattle.wc_world.proofs.LiveWalkLemmas.{each_listed}
 use Rattle.wc_world.proofs.OwnerLemmas.{repeats_union}
 use Rattle.wc_world.proofs.UsedLemmas.{filter_from}
-use Rattle.wc_world.proofs.UsedWalkLemmas.{exports_are, exports_there}
+use Rattle.wc_resolve.proofs.WellFormedLemmas.{imports_in as world_imports_in, worlds_in}
+use Rattle.wc_world.proofs.UsedWalkLemmas.{entries_in, exports_are, exports_there}
 
 kind_in : (types : List TypeView) (x : ℕ) (k : KindView) → kind_at types x ≡ Some k → x < length types
 kind_in [] x k h = absurd (let bad : ⊥ = cc h in bad)
@@ -241,18 +242,6 @@ pub live_listed : (r : ResolveView) (roots live : List ℕ) → AreIdsInRange r 
 live_listed r roots live ids h is = subst (AreListed r) (sym is) (record { there = live_from_in r ids roots h; once = repeats_union [] (listing_from r.types roots) tt })
 
 -- what the world of an encoder imports
-entries_in : (r : ResolveView) (es : Entries) → All (IsEntryIn r) es → AreItemsIn r es
-unfolding IsEntryIn
-entries_in r es h = λ i d small. (h i d small).1
-
-imported_in : (r : ResolveView) (w : WorldView) → IsWorldIn r w → All (IsEntryIn r) w.imports
-unfolding IsWorldIn
-imported_in r w h = h.0
-
-worlds_in : (r : ResolveView) → AreIdsInRange r → All (IsWorldIn r) r.worlds
-unfolding AreIdsInRange
-worlds_in r h = h.0
-
 module _ (e : EncoderView) (r : ResolveView) (index : ℕ) (w : WorldView) (same : r ≡ e.resolve) (is : index ≡ e.world) (at : slice_get r.worlds index ≡ Some w) where
   own_world : IsWorldOf e w
   own_world = subst (λ z. slice_get e.resolve.worlds z ≡ Some w) is (subst (λ (z : ResolveView). slice_get z.worlds index ≡ Some w) same at)
@@ -265,7 +254,7 @@ module _ (e : EncoderView) (r : ResolveView) (index : ℕ) (w : WorldView) (same
 
   pub world_in : (main : ModuleRecord) (adapters : List NamedWorldAdapter) → AreIdsInRange r → AreImportsOf e main → All (λ (a : NamedWorldAdapter). AreImportsOf e a.1.info) adapters → AreRootsIn r w main adapters
   world_in main adapters ids first others = record {
-    imports = entries_in r w.imports (imported_in r w (all_get (IsWorldIn r) r.worlds index w (worlds_in r ids) at));
+    imports = entries_in r w.imports (world_imports_in r w (all_get (IsWorldIn r) r.worlds index w (worlds_in r ids) at));
     exports = exports_there r ids index w at;
     of_main = own_imports main first;
     of_adapters = λ k d small. own_imports (get_or adapters k d).1.info (others k d small);

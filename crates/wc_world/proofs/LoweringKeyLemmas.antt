@@ -15,16 +15,18 @@ use Rattle.wc_resolve.specs.declared.functions.AbiVariant.TheVariants.{GuestImpo
 use Rattle.wc_resolve.specs.Names.{IsFunctionCharacter, IsFunctionName}
 use Rattle.wc_resolve.specs.declared.worlds.Interface.{Interface}
 use Rattle.wc_resolve.specs.Views.{FunctionView, InterfaceView, ItemView, KeyView, WorldView, function_entry, function_item, interface_item, interface_key, interface_view, plain_key, type_entry, type_item}
-use Rattle.wc_resolve.specs.WellFormed.{AreNamesSpelled, HasMatchingKeys, HasMatchingNames, IsInterfaceSpelled, IsKeySpelled, IsMatchingKey, IsWellFormed, IsWorldSpelled, KeysMatch, type_name}
+use Rattle.wc_resolve.specs.WellFormed.{AreNamesSpelled, HasMatchingKeys, HasMatchingNames, IsInterfaceSpelled, IsKeySpelled, IsMatchingKey, IsWellFormed, IsWorldSpelled, type_name}
 use Rattle.wc_resolve.specs.Kinds.{ResolveView}
 use Rattle.wc_resolve.proofs.KeyLemmas.{texts_law}
 use Rattle.wc_resolve.proofs.WellFormedLemmas.{all_get}
 use Rattle.wc_encoder.specs.Distinct.{AreNamesDistinct, import_name}
 use Rattle.wc_adapters.proofs.PairLemmas.{pairs_none}
 use Rattle.wc_names.specs.Keys.{resource_at}
+use Rattle.wc_names.proofs.MeaningRangeLemmas.{function_names, listed_names}
 use Rattle.wc_names.proofs.RangeLemmas.{resource_is}
 use Rattle.wc_world.specs.Lowering.{AreKeysDistinct, KeyedLowering, Lowerer, called_lowering, drop_key, function_lowerings, interface_lowerings, is_drop_of, is_import_of, item_lowerings, lowered_function, resource_lowerings, resource_name, type_lowerings, lowerings_of_interface}
 use Rattle.wc_world.specs.Views.{LoweringKey, resource_drop}
+use Rattle.wc_world.proofs.UsedWalkLemmas.{worlds_keyed}
 use Rattle.wc_world.proofs.PairListLemmas.{all_back, all_of_flat, pairs_across, pairs_of_flat, pairs_one, pairs_unviewed}
 
 abbrev Differ : KeyedLowering → KeyedLowering → Type 0
@@ -102,14 +104,6 @@ module _ (l : Lowerer) where
 
 -- parts of definitions
 
-world_keys : (r : ResolveView) → KeysMatch r → All (HasMatchingKeys r) r.worlds
-unfolding KeysMatch
-world_keys r h = h.0
-
-interface_keys : (r : ResolveView) → KeysMatch r → All (HasMatchingNames r) r.interfaces
-unfolding KeysMatch
-interface_keys r h = h.1
-
 worlds_spelled : (r : ResolveView) → AreNamesSpelled r → All IsWorldSpelled r.worlds
 unfolding AreNamesSpelled
 worlds_spelled r h = h.0
@@ -121,10 +115,6 @@ interfaces_spelled r h = h.1
 type_names : (r : ResolveView) (v : InterfaceView) → HasMatchingNames r v → All (λ (e : List ℕ × ℕ). type_name r e.1 ≡ Some e.0) v.types
 unfolding HasMatchingNames
 type_names r v h = h.0
-
-function_names : (r : ResolveView) (v : InterfaceView) → HasMatchingNames r v → All (λ (e : List ℕ × FunctionView). e.1.name ≡ e.0) v.functions
-unfolding HasMatchingNames
-function_names r v h = h.1
 
 functions_spelled : (v : InterfaceView) → IsInterfaceSpelled v → All (λ (e : List ℕ × FunctionView). IsFunctionName e.0) v.functions
 unfolding IsInterfaceSpelled
@@ -150,7 +140,7 @@ drop_differs x y drop named same = drop_no_function drop.0 (subst IsFunctionName
 module _ (l : Lowerer) (formed : IsWellFormed l.resolve) (i : ℕ) (v : InterfaceView) (at : slice_get l.resolve.interfaces i ≡ Some v)
     (types : AllPairs (λ (a b : List ℕ × ℕ). a.0 ≢ b.0) v.types) (functions : AllPairs (λ (a b : List ℕ × FunctionView). a.0 ≢ b.0) v.functions) where
   names : HasMatchingNames l.resolve v
-  names = all_get (HasMatchingNames l.resolve) l.resolve.interfaces i v (interface_keys l.resolve formed.keyed) at
+  names = all_get (HasMatchingNames l.resolve) l.resolve.interfaces i v (listed_names l.resolve formed.keyed) at
 
   spelled : All (λ (e : List ℕ × FunctionView). IsFunctionName e.0) v.functions
   spelled = functions_spelled v (all_get IsInterfaceSpelled l.resolve.interfaces i v (interfaces_spelled l.resolve formed.spelled) at)
@@ -230,7 +220,7 @@ items_differ r (plain_key n, x) (plain_key m, y) differ k a b = owns_differ n m 
 pub world_distinct : (l : Lowerer) → IsWellFormed l.resolve → (i : ℕ) (w : WorldView) → slice_get l.resolve.worlds i ≡ Some w → AreNamesDistinct l.resolve w.imports
     → AreKeysDistinct (flat_map (λ (x : KeyView × ItemView). item_lowerings l x.1) w.imports)
 world_distinct l formed i w at names =
-    let keyed : HasMatchingKeys l.resolve w = all_get (HasMatchingKeys l.resolve) l.resolve.worlds i w (world_keys l.resolve formed.keyed) at in
+    let keyed : HasMatchingKeys l.resolve w = all_get (HasMatchingKeys l.resolve) l.resolve.worlds i w (worlds_keyed l.resolve formed.keyed) at in
     let spelled : IsWorldSpelled w = all_get IsWorldSpelled l.resolve.worlds i w (worlds_spelled l.resolve formed.spelled) at in
     flat_distinct ItemOf (λ (x : KeyView × ItemView). item_lowerings l x.1) w.imports
     (λ j d small. item_all l (get_or w.imports j d).0 (get_or w.imports j d).1 (imports_match l.resolve w keyed j d small) (imports_spelled w spelled j d small))

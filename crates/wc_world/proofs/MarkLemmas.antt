@@ -1,10 +1,9 @@
 -- Marks of types that are settled.
-use Rattle.std.proofs.Common.{◌≡◌, ◌∙◌, ◌↔◌, ◌⊎◌, ◌<◌, ℕ, zero, suc, length, inl, inr, Bool, true, false, IsTrue, List, [], ◌∷◌, ◌++◌, Option, Some, None, filter, refl, sym, ap, subst, arith}
-use Rattle.std.specs.Prelude.{◌||◌, ◌&&◌, ◌==◌, is_some, not}
+use Rattle.std.proofs.Common.{◌≡◌, ◌∙◌, ◌↔◌, ◌⊎◌, ◌<◌, ℕ, zero, suc, length, inl, inr, Bool, true, false, IsTrue, List, [], ◌∷◌, ◌++◌, Option, Some, None, filter, refl, sym, subst, arith}
+use Rattle.std.specs.Prelude.{◌||◌, ◌&&◌, ◌==◌, not}
 use Rattle.std.specs.List.{Contains}
 use Rattle.std.specs.Option.{option_map_or}
-use Rattle.std.proofs.Math.Bool.{or-true}
-use Rattle.std.proofs.lemmas.Bool.{cases_eq, cases_lt, eqb-true}
+use Rattle.std.proofs.lemmas.Bool.{cases_eq, cases_lt, eqb-true, or_cases, or_right}
 use Rattle.std.proofs.lemmas.List.{get_or_past}
 use Rattle.std.proofs.lemmas.List.Elements.{Contains-append_cases, Contains-append_left, Contains-append_right, Contains-push}
 use Rattle.wc_resolve.specs.declared.ids.InterfaceId.{InterfaceId}
@@ -24,11 +23,6 @@ numbers_there (suc n) x small = elim (cases_eq x n) [
   | inl same ↦ subst (Contains (numbers_below n ++ n ∷ [])) (sym same) (Contains-push (numbers_below n) n)
   | inr other ↦ Contains-append_left (numbers_below n) (n ∷ []) x (numbers_there n x (omega arith))
 ]
-
--- an option that is none
-pub is_none_of : {X : Type 0} (o : Option X) → is_some o ≡ false → o ≡ None
-is_none_of None h = refl
-is_none_of (Some x) h = absurd (let bad : ⊥ = cc h in bad)
 
 -- what is marked for some has a mark
 pub marked_reach : (p : ℕ → Bool) (m : Option (Option InterfaceId)) → holds p m ≡ true → (reach : Option InterfaceId) × (m ≡ Some reach)
@@ -67,13 +61,6 @@ module _ (sets : UsedView) (live : List ℕ) (marks : List (Option (Option Inter
   known_marked h =
       Contains-append_right live (filter (λ (x : ℕ). holds (is_within sets reach) (mark_of marks x)) (numbers_below (length marks))) t
       ((mark_test (is_within sets reach) marks true t (sym h)).0 refl)
-
-or_cases : (a b : Bool) → (a || b) ≡ true → (a ≡ true) ⊎ (b ≡ true)
-or_cases true b h = inl refl
-or_cases false b h = inr h
-
-or_right : (a b : Bool) → b ≡ true → (a || b) ≡ true
-or_right a b h = ap (λ z. a || z) h ∙ or-true a
 
 -- what is within an interface that is within another one is within that too
 module _ (sets : UsedView) (further : UseFurther sets) where

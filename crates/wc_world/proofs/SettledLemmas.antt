@@ -4,7 +4,7 @@ use Rattle.std.specs.Prelude.{◌&&◌, ◌==◌}
 use Rattle.std.specs.List.{Contains, cons_option, filter_map, list_all}
 use Rattle.std.specs.Option.{option_map_or, option_to_list}
 use Rattle.std.specs.declared.alloc.Global.{Global}
-use Rattle.std.proofs.lemmas.Bool.{cases_Bool, eqb-true}
+use Rattle.std.proofs.lemmas.Bool.{and_parts, cases_Bool, eqb-true}
 use Rattle.std.proofs.lemmas.Bool.Decides.{eqb_tells}
 use Rattle.std.proofs.lemmas.Cmp.{nat_eq_equiv}
 use Rattle.std.proofs.lemmas.List.{get_or_past}
@@ -67,14 +67,10 @@ payloads_test p (Some s) None = refl
 payloads_test p (Some s) (Some t) = ap (λ b. p s && b) (one_test p t)
 
 -- what types refer to that pass
-both : (a b : Bool) → (a && b) ≡ true → (a ≡ true) × (b ≡ true)
-both true b h = (refl, h)
-both false b h = absurd (let bad : ⊥ = cc h in bad)
-
 among_indices : (types : List ℕ) (ts : List WitType) → list_all (is_among types) ts ≡ true → (c : ℕ) → Contains (filter_map type_index ts) c → Contains types c
 among_indices types [] h c k = absurd (contains_none c k)
 among_indices types (Id i ∷ ts) h c k =
-    let two = both (is_in types i.0) (list_all (is_among types) ts) h in
+    let two = and_parts (is_in types i.0) (list_all (is_among types) ts) h in
     elim (contains_cons i.0 (filter_map type_index ts) c k) [
       | inl same ↦ subst (Contains types) same (Contains-from_any eqb-true i.0 types two.0)
       | inr rest ↦ among_indices types ts two.1 c rest
@@ -107,7 +103,7 @@ module _ (r : ResolveView) (sets : UsedView) (live : List ℕ) (old new : List (
     pub settled_more : is_settled_for r sets (known_to sets live old reach) reach t ≡ true → AreSettled r sets live new
     settled_more passes = record {
       over = λ x c m is child.
-          let two = both (is_owner_within sets reach (interface_owning r t)) (option_map_or (refers_only_to (known_to sets live old reach)) (kind_at r.types t) true) passes in
+          let two = and_parts (is_owner_within sets reach (interface_owning r t)) (option_map_or (refers_only_to (known_to sets live old reach)) (kind_at r.types t) true) passes in
           elim (eqb_tells x t) [
             | inl same ↦ (let e : reach ≡ m = same_Some reach m (sym (itself_new x same.0) ∙ is) in
                 subst (λ z. Contains (known_to sets live new z) c) e
@@ -115,7 +111,7 @@ module _ (r : ResolveView) (sets : UsedView) (live : List ℕ) (old new : List (
             | inr other ↦ still_known m c (are.over x c m (sym (other_same x other.0) ∙ is) child)
           ];
       owned = λ x i m is own.
-          let two = both (is_owner_within sets reach (interface_owning r t)) (option_map_or (refers_only_to (known_to sets live old reach)) (kind_at r.types t) true) passes in
+          let two = and_parts (is_owner_within sets reach (interface_owning r t)) (option_map_or (refers_only_to (known_to sets live old reach)) (kind_at r.types t) true) passes in
           elim (eqb_tells x t) [
             | inl same ↦ (let e : reach ≡ m = same_Some reach m (sym (itself_new x same.0) ∙ is) in
                 subst (λ z. is_within sets z i ≡ true) e

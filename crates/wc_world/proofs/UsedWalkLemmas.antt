@@ -26,6 +26,7 @@ use Rattle.wc_adapters.specs.Entries.{Entries}
 use Rattle.wc_adapters.proofs.PairLemmas.{pairs_head, pairs_tail}
 use Rattle.wc_names.specs.Keys.{item_under}
 use Rattle.wc_world.specs.Used.{HasUsedSet, HasUsedSets, IsReady, IsUsedSet, UsedView, is_exported_itself}
+use Rattle.wc_resolve.proofs.WellFormedLemmas.{exports_in, worlds_in}
 use Rattle.wc_world.proofs.UsedLemmas.{filter_from}
 
 -- the interfaces of one export more
@@ -228,23 +229,15 @@ walk_in r all left rest e sets next within w =
     (contains_head (map world_entry rest) (world_entry e))))
 
 -- the exports of a world of a well-formed `Resolve` are there, under keys of theirs
-entries_in : (r : ResolveView) (es : Entries) → All (IsEntryIn r) es → AreItemsIn r es
+pub entries_in : (r : ResolveView) (es : Entries) → All (IsEntryIn r) es → AreItemsIn r es
 unfolding IsEntryIn
 entries_in r es h = λ i d small. (h i d small).1
-
-exports_in : (r : ResolveView) (w : WorldView) → IsWorldIn r w → All (IsEntryIn r) w.exports
-unfolding IsWorldIn
-exports_in r w h = h.1
 
 matching : (r : ResolveView) (w : WorldView) → HasMatchingKeys r w → All (λ e. IsMatchingKey r e.0 e.1) w.exports
 unfolding HasMatchingKeys
 matching r w h = h.1
 
-worlds_in : (r : ResolveView) → AreIdsInRange r → All (IsWorldIn r) r.worlds
-unfolding AreIdsInRange
-worlds_in r h = h.0
-
-worlds_keyed : (r : ResolveView) → KeysMatch r → All (HasMatchingKeys r) r.worlds
+pub worlds_keyed : (r : ResolveView) → KeysMatch r → All (HasMatchingKeys r) r.worlds
 unfolding KeysMatch
 worlds_keyed r h = h.0
 

@@ -1,6 +1,5 @@
 -- Words of contracts of private functions. No contract of a public function cites these, directly or through others.
 pub mod Adapters
-pub mod Places
 pub mod Refused
 pub mod LoweringContext
 pub mod ImportedItems

@@ -15,7 +15,8 @@ ghost use Rattle.wc_world.specs.WorldViews.{adapter_view, adapters_view};
 
 use crate::adapter::WorldAdapter;
 use crate::fault::WorldFault;
-use crate::refused::{RefusedWorld, adapter_refusal, minimized_refusal, trim_refusal};
+use crate::places::WorldPlace;
+use crate::refused::{adapter_refusal, minimized_refusal, page_refusal, trim_refusal};
 use crate::restricted::trimmed_is_restricted;
 use crate::trimming::{
     is_needed, main_page_size, main_realloc, page_size, required_names, trim_page_size_log2,
@@ -23,30 +24,31 @@ use crate::trimming::{
 use std::alloc::Global;
 use std::borrow::CowSlice;
 use wc_encoder::{Adapter, ComponentEncoder, LibraryInfo};
-use wc_gc::{explain, run};
+use wc_gc::run_explained;
 use wc_maps::{Map, Set};
 use wc_read::FuncType;
-use wc_validate::{RefusedModule, ValidatedModule, WorldInterfaces};
+use wc_texts::Refused;
+use wc_validate::{Place, ValidateFault, ValidatedModule, WorldInterfaces};
 use wc_write::laws::slices_are_bytes;
 
 /// An encoder, the interfaces of its world, and the imports and exports of its main module.
 #[derive(Clone, Copy)]
-pub(crate) struct MainContext<'a, 'b> {
-    pub(crate) encoder: &'a ComponentEncoder,
-    pub(crate) interfaces: &'b WorldInterfaces<'a>,
-    pub(crate) main: &'b ValidatedModule,
+struct MainContext<'a, 'b> {
+    encoder: &'a ComponentEncoder,
+    interfaces: &'b WorldInterfaces<'a>,
+    main: &'b ValidatedModule,
 }
 
 /// An adapter or a library, and the main module for which it is trimmed.
 #[derive(Clone, Copy)]
-pub(crate) struct AdapterInput<'a, 'b> {
-    pub(crate) encoder: &'a ComponentEncoder,
-    pub(crate) interfaces: &'b WorldInterfaces<'a>,
-    pub(crate) main: &'b ValidatedModule,
+struct AdapterInput<'a, 'b> {
+    encoder: &'a ComponentEncoder,
+    interfaces: &'b WorldInterfaces<'a>,
+    main: &'b ValidatedModule,
     /// The functions that the main module imports from it.
-    pub(crate) required: &'b Map<String, FuncType>,
-    pub(crate) name: &'a str,
-    pub(crate) adapter: &'a Adapter,
+    required: &'b Map<String, FuncType>,
+    name: &'a str,
+    adapter: &'a Adapter,
 }
 
 /// The imports and exports of bytes, validated as an adapter, or as a library that is instantiated so.
@@ -55,7 +57,7 @@ fn validated(
     input: &AdapterInput<'_, '_>,
     bytes: &[u8],
     library: Option<&LibraryInfo>,
-) -> Result<ValidatedModule, RefusedModule>
+) -> Result<ValidatedModule, Refused<ValidateFault, Place>>
     requires { input.now.interfaces.now ≡ input.now.encoder.now }
     ensures recorded { IfOk result (λ v. IsRecordOf (validated_as input.now library.entry)
         bytes.now (module_record v)) }
@@ -70,10 +72,10 @@ fn validated(
 }
 
 /// The imports and exports of an adapter or a library, as the encoder has it.
-pub(crate) fn input_record(
+fn input_record(
     alloc: Global,
     input: &AdapterInput<'_, '_>,
-) -> Result<ValidatedModule, RefusedWorld>
+) -> Result<ValidatedModule, Refused<WorldFault, WorldPlace>>
     requires { IsNeeded input.now }
     ensures recorded { IfOk result (λ v. IsInputRecord input.now
         input.now.adapter.now.wasm.items (module_record v)) }
@@ -92,7 +94,7 @@ fn trim_to(
     input: &AdapterInput<'_, '_>,
     first: &ValidatedModule,
     names: &Set<String>,
-) -> Result<Vec<u8>, RefusedWorld>
+) -> Result<Vec<u8>, Refused<WorldFault, WorldPlace>>
     requires needed { IsNeeded input.now }
     requires trims { input.now.adapter.now.library_info ≡ None }
     requires original { IsInputRecord input.now input.now.adapter.now.wasm.items
@@ -107,21 +109,18 @@ fn trim_to(
     let page_size_log2 = trim_page_size_log2(first.imports.imported_memory());
     let wasm: &[u8] = &input.adapter.wasm;
     slices_are_bytes(wasm);
-    match run(alloc, wasm, names, realloc, page_size_log2) {
+    match run_explained(alloc, wasm, names, realloc, page_size_log2) {
         Ok(bytes) => Ok(bytes),
-        Err(fault) => {
-            let place = explain(alloc, wasm, names, &fault);
-            Err(trim_refusal(alloc, input.name, fault, place))
-        }
+        Err(refused) => Err(trim_refusal(alloc, input.name, refused)),
     }
 }
 
 /// The bytes that an adapter is trimmed to, by what is recorded of those that the encoder has.
-pub(crate) fn trimmed_bytes(
+fn trimmed_bytes(
     alloc: Global,
     input: &AdapterInput<'_, '_>,
     first: &ValidatedModule,
-) -> Result<Vec<u8>, RefusedWorld>
+) -> Result<Vec<u8>, Refused<WorldFault, WorldPlace>>
     requires needed { IsNeeded input.now }
     requires trims { input.now.adapter.now.library_info ≡ None }
     requires original { IsInputRecord input.now input.now.adapter.now.wasm.items
@@ -139,7 +138,7 @@ fn trimmed_record(
     alloc: Global,
     input: &AdapterInput<'_, '_>,
     bytes: &[u8],
-) -> Result<ValidatedModule, RefusedWorld>
+) -> Result<ValidatedModule, Refused<WorldFault, WorldPlace>>
     requires needed { IsNeeded input.now }
     requires trims { input.now.adapter.now.library_info ≡ None }
     ensures recorded { IfOk result (λ v. IsInputRecord input.now bytes.now (module_record v)) }
@@ -158,7 +157,7 @@ fn trim_adapter<'a>(
     alloc: Global,
     input: &AdapterInput<'a, '_>,
     first: &ValidatedModule,
-) -> Result<WorldAdapter<'a>, RefusedWorld>
+) -> Result<WorldAdapter<'a>, Refused<WorldFault, WorldPlace>>
     requires needed { IsNeeded input.now }
     requires trims { input.now.adapter.now.library_info ≡ None }
     requires original { IsInputRecord input.now input.now.adapter.now.wasm.items
@@ -181,7 +180,7 @@ fn trim_adapter<'a>(
 fn trimmed_or_library<'a>(
     alloc: Global,
     input: &AdapterInput<'a, '_>,
-) -> Result<WorldAdapter<'a>, RefusedWorld>
+) -> Result<WorldAdapter<'a>, Refused<WorldFault, WorldPlace>>
     requires { IsNeeded input.now }
     ensures is_adapter { IfOk result (λ a. IsInputTrimmedOrLibrary input.now (adapter_view a)) }
     ensures library { IfOk result (λ a. (adapter_view a).library_info
@@ -204,7 +203,7 @@ fn check_pages(
     alloc: Global,
     input: &AdapterInput<'_, '_>,
     info: &ValidatedModule,
-) -> Result<(), RefusedWorld>
+) -> Result<(), Refused<WorldFault, WorldPlace>>
     ensures paged { OnOk result (HasMainPages (main_of input.now) (module_record info.now)) }
     ensures refusal { (a : WorldAdapterView) → a.info ≡ module_record info.now
         → IsInputTrimmedOrLibrary input.now a → IfErr result (IsInputRefusal input.now) }
@@ -217,17 +216,14 @@ fn check_pages(
     if own == main {
         return Ok(());
     }
-    Err(RefusedWorld {
-        fault: WorldFault::PageSize(String::from_str(alloc, input.name)?, own, main),
-        place: Ok(None),
-    })
+    Err(page_refusal(alloc, input.name, own, main))
 }
 
 /// An adapter or a library as a component has it.
 fn one_adapter<'a>(
     alloc: Global,
     input: &AdapterInput<'a, '_>,
-) -> Result<WorldAdapter<'a>, RefusedWorld>
+) -> Result<WorldAdapter<'a>, Refused<WorldFault, WorldPlace>>
     requires { IsNeeded input.now }
     ensures is_adapter { IfOk result (λ a. IsAdapterOfInput input.now (adapter_view a)) }
     ensures refusal { IfErr result (IsInputRefusal input.now) }
@@ -238,7 +234,7 @@ fn one_adapter<'a>(
 }
 
 /// Whether a component has an adapter or a library.
-pub(crate) fn is_input_needed(input: &AdapterInput<'_, '_>) -> bool
+fn is_input_needed(input: &AdapterInput<'_, '_>) -> bool
     requires { required_of input.now ≡ required_in input.now.main.now.imports input.now.name.now }
     ensures { result ≡ is_adapter_needed input.now.encoder.now (main_of input.now)
         (named_adapter input.now) }
@@ -257,7 +253,7 @@ fn add_input<'a>(
     alloc: Global,
     input: &AdapterInput<'a, '_>,
     found: &mut Map<&'a str, WorldAdapter<'a>>,
-) -> Result<(), RefusedWorld>
+) -> Result<(), Refused<WorldFault, WorldPlace>>
     requires required { required_of input.now
         ≡ required_in input.now.main.now.imports input.now.name.now }
     requires same { input.now.interfaces.now ≡ input.now.encoder.now }
@@ -281,7 +277,7 @@ fn add_adapter<'a>(
     name: &'a str,
     adapter: &'a Adapter,
     found: &mut Map<&'a str, WorldAdapter<'a>>,
-) -> Result<(), RefusedWorld>
+) -> Result<(), Refused<WorldFault, WorldPlace>>
     requires { context.interfaces.now ≡ context.encoder.now }
     ensures is_adapter { let c = context.entry in AddsAdapterOnOk result c.encoder.now
         (module_record c.main.now) (name.now, input_view adapter.now)
@@ -307,7 +303,7 @@ fn add_adapter<'a>(
 fn adapters_by<'a>(
     alloc: Global,
     context: MainContext<'a, '_>,
-) -> Result<Map<&'a str, WorldAdapter<'a>>, RefusedWorld>
+) -> Result<Map<&'a str, WorldAdapter<'a>>, Refused<WorldFault, WorldPlace>>
     requires { context.interfaces.now ≡ context.encoder.now }
     ensures is_adapter { let c = context.entry in IfOk result
         (λ found. AreAdapters c.encoder.now (module_record c.main.now) (adapters_view found)) }
@@ -327,7 +323,7 @@ pub(crate) fn adapters_of<'a>(
     alloc: Global,
     encoder: &'a ComponentEncoder,
     main: &ValidatedModule,
-) -> Result<Map<&'a str, WorldAdapter<'a>>, RefusedWorld>
+) -> Result<Map<&'a str, WorldAdapter<'a>>, Refused<WorldFault, WorldPlace>>
     ensures is_adapter { IfOk result (λ found. AreAdapters encoder.now (module_record main.now)
         (adapters_view found)) }
     ensures refusal { IfErr result (λ x. IsMemoryRefusal x

@@ -1,34 +1,37 @@
 //! Why a component has no world.
 
-ghost use Rattle.std.specs.Prelude.{◌≡◌, ◌≤◌, Some};
+ghost use Rattle.std.specs.Prelude.{◌≡◌, ◌≤◌};
 ghost use Rattle.wc_world.specs.declared.fault.WorldFault.TheVariants.{Memory};
 ghost use Rattle.wc_world.specs.Fault.{world_fault_number, world_fault_text};
 
 use std::alloc::{AllocError, AllocFailed};
-use std::error::Error as StdError;
-use std::fmt;
+use thiserror::Error;
 use wc_gc::GcFault;
-use wc_texts::{
-    CARRIED, FaultText, OUT_OF_MEMORY, Pieces, PutFailed, put_about, put_carried, show,
-};
+use wc_texts::{CARRIED, FaultText, OUT_OF_MEMORY, Pieces, PutFailed, put_about, put_carried};
 use wc_validate::ValidateFault;
 
 /// Why a component has no world. Of several causes the first is named: that of the main module, and then adapter by
 /// adapter in this order. `Memory` may come in place of any; another fault carries it only at its own step.
-#[derive(Debug, Drop)]
+#[derive(Debug, Drop, Error)]
 pub enum WorldFault {
     /// An allocation failed.
+    #[error("out of memory")]
     Memory,
     /// The main module is not valid.
+    #[error("Main: {0}")]
     Main(ValidateFault),
     /// The adapter, or the library, of this name is not valid.
+    #[error("Adapter `{0}`: {1}")]
     Adapter(String, ValidateFault),
     /// The adapter of this name can't be trimmed.
+    #[error("Trim `{0}`: {1}")]
     Trim(String, GcFault),
     /// The adapter of this name is not valid once it is trimmed.
+    #[error("Minimized `{0}`: {1}")]
     Minimized(String, ValidateFault),
     /// The bytes in a page of the memory that the adapter of this name imports, and in one of the main module's memory,
     /// which are others.
+    #[error("PageSize")]
     PageSize(String, u64, u64),
 }
 
@@ -64,16 +67,6 @@ impl FaultText for WorldFault {
         }
     }
 }
-
-impl fmt::Display for WorldFault {
-    ghost output = { λ fault. Some (world_fault_text fault) };
-
-    fn fmt<W: fmt::Write>(&self, f: &mut fmt::Formatter<W>) -> fmt::Result {
-        show(self, f)
-    }
-}
-
-impl StdError for WorldFault {}
 
 impl From<AllocError> for WorldFault {
     ghost from_gives = { λ _ e. e ≡ Memory };

@@ -1,48 +1,34 @@
-//! Why a component has no world, and what that is about.
+//! Refusals of components, made of those of their modules.
 
+ghost use Rattle.std.specs.Prelude.{◌≡◌, ◌⊎◌, IfOk, Some};
+ghost use Rattle.std.specs.Option.{option_map};
 ghost use Rattle.wc_world.specs.Places.{IsInAdapter, IsInMain};
-ghost use Rattle.wc_world.specs.Refused.{IsAdapterRefusal, IsMainRefusal, IsNamedRefusal, IsPlaceFound, IsPlaceWith};
+ghost use Rattle.wc_world.specs.Refused.{IsAdapterRefusal, IsMainRefusal, IsMemoryRefusal, IsNamedRefusal, IsPlaceWith};
 
 use crate::fault::WorldFault;
-use crate::places::{ModulePlace, WorldPlace, in_adapter, in_module, in_part};
-use std::alloc::{AllocError, AllocFailed, Global};
+use crate::places::{ModulePlace, WorldPlace};
+use std::alloc::{AllocError, Global};
 use wc_gc::{GcFault, TrimPlace};
-use wc_validate::{Place, RefusedModule};
+use wc_texts::Refused;
+use wc_validate::{Place, ValidateFault};
 
-/// A component that has no world: why, and what that is about.
-#[derive(Drop)]
-pub struct RefusedWorld {
-    /// Why, as [`ComponentWorld::new`](crate::ComponentWorld::new) answers it.
-    pub fault: WorldFault,
-    /// The module, and the import, export, section or body in it, that the fault is about, as [`explain`](crate::explain)
-    /// has it; none for `PageSize` and `Memory`, and for faults of a module that are about the module as a whole.
-    /// `AllocError` where there was no memory for it.
-    pub place: Result<Option<WorldPlace>, AllocError>,
-}
-
-impl From<AllocError> for RefusedWorld {
-    ghost use Rattle.wc_world.specs.Refused.{IsMemoryRefusal};
-
-    ghost from_gives = { λ _ x. IsMemoryRefusal x };
-
-    fn from(_e: AllocError) -> RefusedWorld {
-        RefusedWorld {
-            fault: WorldFault::Memory,
-            place: Ok(None),
-        }
+/// A place of validation.
+fn in_module(place: Option<Place>) -> Option<ModulePlace>
+    ensures { result ≡ option_map ModulePlace.Validation place }
+{
+    match place {
+        Some(place) => Some(ModulePlace::Validation(place)),
+        None => None,
     }
 }
 
-impl<T: Drop> From<AllocFailed<T>> for RefusedWorld {
-    ghost use Rattle.wc_world.specs.Refused.{IsMemoryRefusal};
-
-    ghost from_gives = { λ _ x. IsMemoryRefusal x };
-
-    fn from(_e: AllocFailed<T>) -> RefusedWorld {
-        RefusedWorld {
-            fault: WorldFault::Memory,
-            place: Ok(None),
-        }
+/// A place of trimming.
+fn in_part(place: Option<TrimPlace>) -> Option<ModulePlace>
+    ensures { result ≡ option_map ModulePlace.Trim place }
+{
+    match place {
+        Some(place) => Some(ModulePlace::Trim(place)),
+        None => None,
     }
 }
 
@@ -59,62 +45,69 @@ fn in_main(place: Option<ModulePlace>) -> Option<WorldPlace>
     }
 }
 
-/// The place of validation that was found in the main module.
-fn main_place(place: Result<Option<Place>, AllocError>) -> Result<Option<WorldPlace>, AllocError>
-    ensures { IsPlaceFound IsInMain ModulePlace.Validation place result }
-{
-    Ok(in_main(in_module(place?)))
-}
-
-/// The place of validation that was found in the adapter or the library of a name.
-fn validation_place(
+/// A place in the adapter or the library of a name.
+fn in_adapter(
     alloc: Global,
     name: &str,
-    place: Result<Option<Place>, AllocError>,
+    place: Option<ModulePlace>,
 ) -> Result<Option<WorldPlace>, AllocError>
-    ensures { IsPlaceFound (IsInAdapter name.now) ModulePlace.Validation place result }
+    ensures { IfOk result (IsPlaceWith (IsInAdapter name.now) place) }
 {
-    in_adapter(alloc, name, in_module(place?))
+    let Some(place) = place else {
+        return Ok(None);
+    };
+    let adapter = Some(String::from_str(alloc, name)?);
+    Ok(Some(WorldPlace { adapter, place }))
 }
 
-/// The place of trimming that was found in the adapter of a name.
-fn trimming_place(
+/// The refusal with this fault, and with this place in the adapter or the library of a name.
+fn refusal_in(
     alloc: Global,
     name: &str,
-    place: Result<Option<TrimPlace>, AllocError>,
-) -> Result<Option<WorldPlace>, AllocError>
-    ensures { IsPlaceFound (IsInAdapter name.now) ModulePlace.Trim place result }
+    fault: WorldFault,
+    place: Option<ModulePlace>,
+) -> Refused<WorldFault, WorldPlace>
+    ensures { IsMemoryRefusal result ⊎ ((result.fault ≡ fault)
+        × IsPlaceWith (IsInAdapter name.now) place result.place) }
 {
-    in_adapter(alloc, name, in_part(place?))
+    match in_adapter(alloc, name, place) {
+        Ok(place) => Refused { fault, place },
+        Err(e) => Refused::from(e),
+    }
 }
 
-/// The refusal of a component whose main module was refused (`wc_validate::validate_module_explained`): `Main` with the
-/// fault, and the place in the main module; `None` where the fault has none, and `AllocError` where there was no memory for
-/// it.
-pub fn main_refusal(refused: RefusedModule) -> RefusedWorld
+/// The refusal of a component whose main module was refused (`wc_validate::validate_module_explained`): `Main` with
+/// the fault, and the place in the main module; `None` where the fault has none.
+pub fn main_refusal(refused: Refused<ValidateFault, Place>) -> Refused<WorldFault, WorldPlace>
     ensures { IsMainRefusal refused result }
 {
-    let RefusedModule { fault, place } = refused;
-    RefusedWorld {
+    let Refused { fault, place } = refused;
+    Refused {
         fault: WorldFault::Main(fault),
-        place: main_place(place),
+        place: in_main(in_module(place)),
     }
 }
 
 /// The refusal of a component whose adapter or library of a name was refused, as the encoder has it
-/// (`wc_validate::validate_adapter_module_explained`): `Adapter` with the name and the fault, and the place in this module,
-/// under its name; `None` where the fault has none, and `AllocError` where there was, or is, no memory for it. `Memory`
-/// without a place where there is no memory for the name.
-pub fn adapter_refusal(alloc: Global, name: &str, refused: RefusedModule) -> RefusedWorld
+/// (`wc_validate::validate_adapter_module_explained`): `Adapter` with the name and the fault, and the place in this
+/// module, under its name; `None` where the fault has none. `Memory` without a place where there is no memory for the
+/// name.
+pub fn adapter_refusal(
+    alloc: Global,
+    name: &str,
+    refused: Refused<ValidateFault, Place>,
+) -> Refused<WorldFault, WorldPlace>
     ensures { IsAdapterRefusal name.now refused result }
 {
-    let RefusedModule { fault, place } = refused;
+    let Refused { fault, place } = refused;
     match String::from_str(alloc, name) {
-        Ok(own) => RefusedWorld {
-            fault: WorldFault::Adapter(own, fault),
-            place: validation_place(alloc, name, place),
-        },
-        Err(e) => RefusedWorld::from(e),
+        Ok(own) => refusal_in(
+            alloc,
+            name,
+            WorldFault::Adapter(own, fault),
+            in_module(place),
+        ),
+        Err(e) => Refused::from(e),
     }
 }
 
@@ -122,32 +115,59 @@ pub fn adapter_refusal(alloc: Global, name: &str, refused: RefusedModule) -> Ref
 pub(crate) fn trim_refusal(
     alloc: Global,
     name: &str,
-    fault: GcFault,
-    place: Result<Option<TrimPlace>, AllocError>,
-) -> RefusedWorld
-    ensures { IsNamedRefusal (λ s. WorldFault.Trim s fault) ModulePlace.Trim name.now place
-        result }
+    refused: Refused<GcFault, TrimPlace>,
+) -> Refused<WorldFault, WorldPlace>
+    ensures { IsNamedRefusal (λ s. WorldFault.Trim s refused.fault) ModulePlace.Trim name.now
+        refused.place result }
 {
+    let Refused { fault, place } = refused;
     match String::from_str(alloc, name) {
-        Ok(own) => RefusedWorld {
-            fault: WorldFault::Trim(own, fault),
-            place: trimming_place(alloc, name, place),
-        },
-        Err(e) => RefusedWorld::from(e),
+        Ok(own) => refusal_in(alloc, name, WorldFault::Trim(own, fault), in_part(place)),
+        Err(e) => Refused::from(e),
     }
 }
 
 /// The refusal of the adapter of a name that is not valid once it is trimmed.
-pub(crate) fn minimized_refusal(alloc: Global, name: &str, refused: RefusedModule) -> RefusedWorld
+pub(crate) fn minimized_refusal(
+    alloc: Global,
+    name: &str,
+    refused: Refused<ValidateFault, Place>,
+) -> Refused<WorldFault, WorldPlace>
     ensures { IsNamedRefusal (λ s. WorldFault.Minimized s refused.fault) ModulePlace.Validation
         name.now refused.place result }
 {
-    let RefusedModule { fault, place } = refused;
+    let Refused { fault, place } = refused;
     match String::from_str(alloc, name) {
-        Ok(own) => RefusedWorld {
-            fault: WorldFault::Minimized(own, fault),
-            place: validation_place(alloc, name, place),
-        },
-        Err(e) => RefusedWorld::from(e),
+        Ok(own) => refusal_in(
+            alloc,
+            name,
+            WorldFault::Minimized(own, fault),
+            in_module(place),
+        ),
+        Err(e) => Refused::from(e),
+    }
+}
+
+/// The refusal of the adapter or the library of a name, the memory of which has other pages than the main module's.
+pub(crate) fn page_refusal(
+    alloc: Global,
+    name: &str,
+    own: u64,
+    main: u64,
+) -> Refused<WorldFault, WorldPlace>
+    ensures { IsNamedRefusal (λ s. WorldFault.PageSize s own main) (λ p. p) name.now
+        (Some (ModulePlace.PageSizes own main)) result }
+{
+    match String::from_str(alloc, name) {
+        Ok(of) => {
+            let place = ModulePlace::PageSizes { own, main };
+            refusal_in(
+                alloc,
+                name,
+                WorldFault::PageSize(of, own, main),
+                Some(place),
+            )
+        }
+        Err(e) => Refused::from(e),
     }
 }

@@ -22,13 +22,15 @@ use crate::imported::ImportedInterface;
 use crate::laws::worlds_exclude_faults;
 use crate::live::live_type_imports;
 use crate::options::ImportOptions;
-use crate::refused::{RefusedWorld, main_refusal};
+use crate::places::WorldPlace;
+use crate::refused::main_refusal;
 use crate::used::exports_used;
 use std::alloc::{AllocError, Global};
 use wc_encoder::ComponentEncoder;
 use wc_maps::{Map, Set};
 use wc_names::Import;
 use wc_resolve::{InterfaceId, TypeId};
+use wc_texts::Refused;
 use wc_validate::laws::records_in_range;
 use wc_validate::{ImportMap, ValidatedModule, validate_module_explained};
 
@@ -89,7 +91,10 @@ fn adapter_uses_slot_1<'a>(adapters: &Map<&'a str, WorldAdapter<'a>>) -> bool
 }
 
 /// What the main module of an encoder imports and exports.
-fn main_record(alloc: Global, encoder: &ComponentEncoder) -> Result<ValidatedModule, RefusedWorld>
+fn main_record(
+    alloc: Global,
+    encoder: &ComponentEncoder,
+) -> Result<ValidatedModule, Refused<WorldFault, WorldPlace>>
     ensures recorded { IfOk result (λ v. IsMainRecord encoder.now (module_record v)) }
     ensures fault { IfErr result
         (λ x. IsMemory encoder.now x.fault ⊎ IsComponentWorldCause encoder.now x.fault) }
@@ -207,17 +212,19 @@ impl<'a> ComponentWorld<'a> {
         }
     }
 
-    /// As [`ComponentWorld::new`]; but a call that fails says what its fault is about, as [`explain`](crate::explain)
-    /// does. No module is validated again for it.
+    /// As [`ComponentWorld::new`]; but a call that fails says what its fault is about: an import or an export of the
+    /// main module, or of the adapter or the library that the fault names; a section, or a body of a function, of an
+    /// adapter that can't be trimmed; the byte where one of them stops being a module; or the sizes of pages. No module
+    /// is validated again for it.
     ///
     /// # Errors
     ///
-    /// As those of `new`. Where there is no memory for the place of a fault, it comes without one.
+    /// As those of `new`. Where there is no memory for the place of a fault, it is `Memory`.
     pub fn new_explained<O: ImportOptions>(
         alloc: Global,
         encoder: &'a ComponentEncoder,
         options: &O,
-    ) -> Result<ComponentWorld<'a>, RefusedWorld>
+    ) -> Result<ComponentWorld<'a>, Refused<WorldFault, WorldPlace>>
         ensures world { IfOk result (λ w.
             IsWorldOf (O.options_of options.now) encoder.now (world_view w)) }
         ensures fault { IfErr result

@@ -1,21 +1,22 @@
 //! Why nothing was written.
 
-ghost use Rattle.std.specs.Prelude.{◌≡◌, Some};
+ghost use Rattle.std.specs.Prelude.{◌≡◌};
 ghost use Rattle.wc_write.specs.declared.fault.WriteFault.TheVariants.{Memory};
 ghost use Rattle.wc_write.specs.Fault.{write_fault_text};
 
 use std::alloc::{AllocError, AllocFailed};
-use std::error::Error as StdError;
-use std::fmt;
-use wc_texts::{FaultText, OUT_OF_MEMORY, Pieces, PutFailed, show};
+use thiserror::Error;
+use wc_texts::{FaultText, OUT_OF_MEMORY, Pieces, PutFailed};
 
 /// Why a section, a body or a module was not written.
-#[derive(Clone, Copy, Debug, PartialEq, Eq)]
+#[derive(Clone, Copy, Debug, PartialEq, Eq, Error)]
 pub enum WriteFault {
     /// An allocation failed.
+    #[error("out of memory")]
     Memory,
     /// The content of a section, or a body, has 2^32 bytes or more: its size is no number of 32 bits (WebAssembly core
     /// specification, 5.5.2 and 5.5.13).
+    #[error("TooLarge")]
     TooLarge,
 }
 
@@ -34,16 +35,6 @@ impl FaultText for WriteFault {
         }
     }
 }
-
-impl fmt::Display for WriteFault {
-    ghost output = { λ fault. Some (write_fault_text fault) };
-
-    fn fmt<W: fmt::Write>(&self, f: &mut fmt::Formatter<W>) -> fmt::Result {
-        show(self, f)
-    }
-}
-
-impl StdError for WriteFault {}
 
 impl From<AllocError> for WriteFault {
     ghost from_gives = { λ _ e. e ≡ Memory };

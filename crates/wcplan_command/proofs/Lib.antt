@@ -6,7 +6,6 @@ mod WorldsLemmas
 mod ProgramLemmas
 mod RunLemmas
 mod NearestLemmas
-mod JsonPlaceLemmas
-mod RepeatedMemberLemmas
-mod RepeatsLawLemmas
+mod AskedLemmas
 pub mod DetailsLemmas
+mod WarningLemmas

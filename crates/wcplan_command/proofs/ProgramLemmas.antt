@@ -16,34 +16,41 @@ use Rattle.wc_selection.specs.Keys.{NamedKey, texts_of}
 use Rattle.wc_selection.specs.ModuleKeys.{required_keys}
 use Rattle.wc_selection.specs.Texts.{first_parts, second_parts, text_pair}
 use Rattle.wcplan_command.specs.declared.fault.SelectionFault.{SelectionFault}
-use Rattle.wcplan_command.specs.declared.fault.SelectionFault.TheVariants.{Request}
+use Rattle.wcplan_command.specs.declared.fault.SelectionFault.TheVariants.{Request, UnknownAdapter}
 use Rattle.wc_selection.specs.declared.fault.RequestFault.TheVariants.{UnknownKey}
 use Rattle.std.proofs.lemmas.List.{map-append}
 use Rattle.std.specs.List.{AllPairs, AllZip}
 use Rattle.std.proofs.lemmas.Bool.{cases_Bool}
 use Rattle.std.proofs.lemmas.List.Elements.{All-contains}
 use Rattle.indexmap.specs.IndexMap.{insert_entry}
-use Rattle.wc_dedupe.specs.Dedupe.{IsDedupeCause}
+use Rattle.wc_dedupe.specs.Dedupe.{IsDedupeCause, IsDedupePlace}
 use Rattle.wc_dedupe.specs.declared.fault.DedupeFault.{DedupeFault}
-use Rattle.wc_dedupe.specs.declared.fault.DedupeFault.TheVariants.{Memory as dedupe_memory}
+use Rattle.wc_read.specs.declared.place.ReadPlace.{ReadPlace}
+use Rattle.wc_texts.specs.declared.refused.Refused.{Refused}
 use Rattle.wc_adapters.specs.Adapters.{AdapterView, adapter_entry, library_view}
 use Rattle.wc_adapters.specs.declared.adapters.Adapter.{Adapter}
 use Rattle.wc_adapters.proofs.PairLemmas.{pairs_head, pairs_tail}
 use Rattle.wc_resolve.proofs.KeyLemmas.{texts_law}
 use Rattle.wc_resolve.proofs.SearchLemmas.{contains_cons, contains_head, contains_none, contains_tail}
-use Rattle.wcplan_command.specs.Fault.{of_dedupe, of_encoder}
-use Rattle.wcplan_command.specs.ModuleKeys.{AreNamesThere, IsMeant, IsNamesCause, request_of}
+use Rattle.wcplan_command.specs.Fault.{of_encoder}
+use Rattle.wcplan_command.specs.Private.Runs.{IsOfMain}
+use Rattle.wcplan_command.specs.ModuleKeys.{AreNamesThere, IsMeant, IsNamesCause, adapter_names, request_of}
 use Rattle.wc_program.specs.Files.{Held}
 use Rattle.wcplan_command.specs.Arguments.{CommandView}
+use Rattle.wcplan_command.specs.AdapterNames.{IsNoAdapter}
+use Rattle.wcplan_command.specs.Asked.{IsAskedCause, IsAskedThere, IsUnasked}
+use Rattle.wcplan_command.specs.Listing.{IsListedNear}
 use Rattle.wcplan_command.specs.Program.{AreWorldsIn, HoldsInput, IsAdapterIn, IsAdaptersCause, IsChosen, IsDocumentIn, IsListed, IsListedCause, IsMainCause, IsModulesCause, IsNoExport, IsPartsOf, IsPartsWith, IsPlanCause, IsReadFault, Reads}
 use Rattle.wcplan_command.specs.declared.fault.ProgramFault.{ProgramFault}
-use Rattle.wcplan_command.specs.declared.fault.ProgramFault.TheVariants.{Memory, CannotRead, Selection, NoExport, Dedupe}
+use Rattle.wcplan_command.specs.declared.fault.ProgramFault.TheVariants.{Memory, CannotRead, Selection, NoAdapter, NoExport, NoImport, Dedupe}
 
 -- a fault of renaming is the cause of a fault of the main module
-pub main_cause : (before : Option Held) (fails : Reads) (path bytes : List ℕ) (f : DedupeFault) → HoldsInput before path bytes → IsDedupeCause bytes f
-    → IsMainCause before fails path (of_dedupe f)
-main_cause before fails path bytes dedupe_memory read cause = tt
-main_cause before fails path bytes f read cause = (bytes, read, (λ e. cc), cause)
+pub main_cause : (before : Option Held) (fails : Reads) (path bytes : List ℕ) (x : Refused DedupeFault ReadPlace) (g : ProgramFault)
+    → HoldsInput before path bytes → IsDedupeCause bytes x.fault → IsDedupePlace bytes x.fault x.place → IsOfMain x g → IsMainCause before fails path g
+main_cause before fails path bytes x Memory read cause place is = tt
+main_cause before fails path bytes x (Dedupe y) read cause place is =
+    subst (λ z. IsMainCause before fails path (Dedupe z)) (sym is.0) (bytes, read, is.1, cause, place)
+main_cause before fails path bytes x g read cause place is = absurd is
 
 -- and so is that of its reading
 pub unread_main : (before : Option Held) (fails : Reads) (path : List ℕ) (f : ProgramFault) → IsReadFault path fails f → IsMainCause before fails path f
@@ -155,6 +162,7 @@ pub names_cause : (c : CommandView) (before : Option Held) (fails : Reads) (d : 
     → IsListedCause c (request_keys (request_of c) d.parts world) f → IsPlanCause c before fails f
 names_cause c before fails d world Memory document selected formed cause = tt
 names_cause c before fails d world (Selection f) document selected formed cause = inr (d, world, document, selected, formed, cause)
+names_cause c before fails d world (NoAdapter name listing nearest) document selected formed cause = (d, world, document, selected, formed, cause)
 names_cause c before fails d world (NoExport key listing) document selected formed cause = (d, world, document, selected, formed, cause)
 names_cause c before fails d world f document selected formed cause = absurd cause
 
@@ -165,15 +173,27 @@ unknown_listed c keys key Memory cause h = tt
 unknown_listed c keys key (NoExport k listing) cause h = (subst (λ z. IsNamesCause c keys (Request (UnknownKey z))) (sym h.0) cause, h.1)
 unknown_listed c keys key g cause h = absurd h
 
+-- an adapter that isn't there
+unknown_adapter : (c : CommandView) (keys : List NamedKey) (name : Bor (List ℕ)) (g : ProgramFault) → IsNamesCause c keys (UnknownAdapter name)
+    → IsNoAdapter (adapter_names c) name g → IsListedCause c keys g
+unknown_adapter c keys name Memory cause h = tt
+unknown_adapter c keys name (NoAdapter n listing nearest) cause h = (
+  subst (λ z. IsNamesCause c keys (UnknownAdapter z)) (sym h.0) cause,
+  subst (λ z. IsListedNear (adapter_names c) z.now listing nearest) (sym h.0) h.1,
+)
+unknown_adapter c keys name g cause h = absurd h
+
 -- another fault of names
-selection_listed : (c : CommandView) (keys : List NamedKey) (f g : SelectionFault) → IsNamesCause c keys f → IsListed f keys (Selection g)
+selection_listed : (c : CommandView) (keys : List NamedKey) (f g : SelectionFault) → IsNamesCause c keys f → IsListed c f keys (Selection g)
     → IsListedCause c keys (Selection g)
 selection_listed c keys (Request (UnknownKey key)) g cause listed = absurd listed
+selection_listed c keys (UnknownAdapter name) g cause listed = absurd listed
 selection_listed c keys f g cause listed = subst (λ s. IsListedCause c keys (Selection s)) (sym listed) cause
 
 pub listed_cause : (c : CommandView) (keys : List NamedKey) (f : SelectionFault) (g : ProgramFault) → IsNamesCause c keys f
-    → IsListed f keys g → IsListedCause c keys g
+    → IsListed c f keys g → IsListedCause c keys g
 listed_cause c keys (Request (UnknownKey key)) g cause listed = unknown_listed c keys key g cause listed
+listed_cause c keys (UnknownAdapter name) g cause listed = unknown_adapter c keys name g cause listed
 listed_cause c keys f Memory cause listed = tt
 listed_cause c keys f (Selection g) cause listed = selection_listed c keys f g cause listed
 listed_cause c keys f g cause listed = absurd listed
@@ -182,7 +202,7 @@ pub modules_cause : (c : CommandView) (before : Option Held) (fails : Reads) (d 
     → IsChosen c before d world → IsModulesCause c before fails f → IsPlanCause c before fails f
 modules_cause c before fails d world Memory chosen h = tt
 modules_cause c before fails d world (CannotRead path p) chosen h = inr ((d, world, chosen), h)
-modules_cause c before fails d world (Dedupe f) chosen h = ((d, world, chosen), h)
+modules_cause c before fails d world (Dedupe x) chosen h = ((d, world, chosen), h)
 modules_cause c before fails d world f chosen h = absurd h
 
 pub encoder_cause : (c : CommandView) (before : Option Held) (fails : Reads) (e : EncoderView) (f : EncoderFault) → IsPartsOf c before e → IsEncoderCause e f
@@ -210,12 +230,21 @@ module _ (c : CommandView) (before : Option Held) (r : ResolveView) (world : ℕ
   listed_worlds fails keys f keyed cause =
       names_cause c before fails there.0 world f there.1 there.2 there.3 (subst (λ (k : List NamedKey). IsListedCause c k f) (keys_of keys keyed) cause)
 
-  pub chosen_worlds : (keys : List NamedKey) → keys ≡ request_keys (request_of c) r world → AreNamesThere c keys → IsChosen c before there.0 world
-  chosen_worlds keys keyed named = record {
+  -- no import is asked about
+  pub asked_worlds : (fails : Reads) (f : ProgramFault) → IsAskedCause c.why r world f → IsPlanCause c before fails f
+  asked_worlds fails Memory h = tt
+  asked_worlds fails (NoImport key listing nearest) h =
+      (there.0, world, there.1, there.2, there.3, subst (λ q. IsUnasked c.why q world key listing nearest) there.4 h)
+  asked_worlds fails f h = absurd h
+
+  pub chosen_worlds : (keys : List NamedKey) → keys ≡ request_keys (request_of c) r world → AreNamesThere c keys → IsAskedThere c.why r world
+      → IsChosen c before there.0 world
+  chosen_worlds keys keyed named asked = record {
     worlds = there.1;
     selected = there.2;
     resolve = there.3;
     named = subst (AreNamesThere c) (keys_of keys keyed) named;
+    asked = subst (λ q. IsAskedThere c.why q world) there.4 asked;
   }
 
   pub parts_with : (keys : List NamedKey) (e : EncoderView) → IsChosen c before there.0 world → keys ≡ request_keys (request_of c) r world → e.world ≡ world

@@ -1,12 +1,12 @@
 -- A run of a command: why it could not be run where nothing was printed, and what became of its files where it was.
-use Rattle.std.proofs.Common.{◌≡◌, ◌⊎◌, ℕ, List, [], ◌∷◌, Option, Result, Ok, Err, IfErr, OnOk, IfSome, refl, sym, subst, string_bytes, inl, inr, map, String, Global, length, take, drop, get_or, suc, arith, ◌<◌, ◌++◌, ap, ◌∙◌, zero}
+use Rattle.std.proofs.Common.{◌≡◌, ◌≢◌, ◌⊎◌, ℕ, List, [], ◌∷◌, Option, Ok, IfSome, refl, sym, subst, string_bytes, inl, inr, map, String, Global, length, take, drop, get_or, suc, arith, ◌<◌, ◌++◌, ap, ◌∙◌, zero}
 use Rattle.std.specs.Borrow.{Bor}
+use Rattle.std.specs.declared.io.ErrorKind.{ErrorKind}
 use Rattle.std.proofs.lemmas.List.{map-append}
 use Rattle.wc_encoder.specs.EncoderParts.{EncoderView}
-use Rattle.wc_plan.specs.Fault.{IsFaultNamed, IsFirstFault, UseFault, no_lowering, no_memory, no_realloc}
-use Rattle.wc_plan.specs.declared.fault.PlanFault.{PlanFault}
-use Rattle.wc_plan.specs.declared.fault.PlanFault.TheVariants.{Memory as plan_memory, Output as plan_output}
-use Rattle.wc_program.specs.Files.{FailsFrom, Held, StoreChange, Writes}
+use Rattle.wc_plan.specs.Fault.{IsPlanRefusal, RefusedPlan}
+use Rattle.wc_program.specs.Files.{FailsFrom, Held, IsProblemOf, StoreChange, Writes}
+use Rattle.wc_program.specs.declared.files.FileProblem.{FileProblem}
 use Rattle.wc_world.specs.Causes.{IsComponentWorldCause, IsMemory as IsWorldMemory}
 use Rattle.wc_world.specs.Options.{plain_options}
 use Rattle.wc_world.specs.Views.{ComponentWorldView}
@@ -14,6 +14,7 @@ use Rattle.wc_world.specs.World.{IsWorldOf}
 use Rattle.wc_world.specs.declared.fault.WorldFault.{WorldFault}
 use Rattle.wc_world.specs.declared.fault.WorldFault.TheVariants.{Memory as world_memory}
 use Rattle.wcplan_command.specs.Arguments.{CommandView, IsStop, Reading, wrong_view}
+use Rattle.wcplan_command.specs.Details.{IsExplanation}
 use Rattle.wcplan_command.specs.Reading.{AsksMemory, read_arguments}
 use Rattle.wc_program.specs.Screen.{Printing, nothing, printed}
 use Rattle.wcplan_command.specs.declared.arguments.NoCommand.{NoCommand}
@@ -21,11 +22,12 @@ use Rattle.wcplan_command.specs.declared.arguments.NoCommand.TheVariants.{Memory
 use Rattle.wc_gc.specs.declared.fault.GcFault.{GcFault}
 use Rattle.wc_gc.specs.declared.fault.GcFault.TheVariants.{Memory as gc_memory}
 use Rattle.wc_ways.specs.WaysFaults.{IsWaysFault}
-use Rattle.wcplan_command.specs.Fault.{of_gc, of_plan, program_fault_text}
-use Rattle.wcplan_command.specs.Program.{CommandEnds, EndsWell, EndsWith, IsEncoderOf, IsPlanCause, IsPlanned, IsPrintedText, IsReported, IsRunCause, IsUnwrittenFile, ReadingEnds, Reads, WritesAll, file_view, files_of}
-use Rattle.wcplan_command.specs.Private.Runs.{AnswersStop, IsDescriptionFault, IsOfWorld, IsReportedWith, IsWritingFault}
+use Rattle.wcplan_command.specs.Fault.{of_gc}
+use Rattle.wcplan_command.specs.Program.{CommandEnds, EndsWell, EndsWith, IsEncoderOf, IsPlanCause, IsPlanned, IsPrintedText, IsRunCause, IsUnwrittenFile, ReadingEnds, Reads, Writing, WritesAll, file_view, files_of}
+use Rattle.wcplan_command.specs.Private.Runs.{AnswersStop, IsDescriptionFault, IsOfPlan, IsOfWorld, IsWritingFault}
+use Rattle.wcplan_command.specs.Warnings.{warnings_text}
 use Rattle.wcplan_command.specs.declared.fault.ProgramFault.{ProgramFault}
-use Rattle.wcplan_command.specs.declared.fault.ProgramFault.TheVariants.{CannotMake, CannotWrite, Output, Ways, World, Memory as program_memory}
+use Rattle.wcplan_command.specs.declared.fault.ProgramFault.TheVariants.{CannotMake, CannotWrite, Output, Plan, Ways, World, Memory as program_memory}
 
 -- paths with the bytes of their files
 abbrev Files : Type 0
@@ -34,8 +36,8 @@ Files = List (String Global × Bor (List ℕ))
 -- before files are written nothing is printed
 pub quiet : (c : CommandView) (files : StoreChange) (out : Printing → Type 0) (f : ProgramFault) → files.after ≡ files.before → out nothing
     → IsPlanCause c files.before files.IsFailedRead f → IsRunCause c files out f
-quiet c files out (CannotMake path) kept still h = absurd h
-quiet c files out (CannotWrite path) kept still h = absurd h
+quiet c files out (CannotMake path p) kept still h = absurd h
+quiet c files out (CannotWrite path p) kept still h = absurd h
 quiet c files out Output kept still h = absurd h
 quiet c files out f kept still h = (h, kept, still)
 
@@ -43,27 +45,20 @@ module _ (c : CommandView) (before : Option Held) (fails : Reads) where
   -- a fault of the component's world
   pub world_cause : (e : EncoderView) (f : WorldFault) (g : ProgramFault) → IsEncoderOf c before e → IsWorldMemory e f ⊎ IsComponentWorldCause e f
       → IsOfWorld e f g → IsPlanCause c before fails g
-  world_cause e world_memory g encodes h is = subst (IsPlanCause c before fails) (sym is) tt
-  world_cause e f (World g x) encodes h is =
-      subst (λ k. IsPlanCause c before fails (World k x)) (sym is.0) (e, encodes, (λ same. cc), h, is.1)
+  world_cause e f program_memory encodes h is = tt
+  world_cause e f (World x) encodes h is =
+      let here : (f ≢ world_memory) × (IsWorldMemory e f ⊎ IsComponentWorldCause e f) × IsExplanation e f x.place = (is.1, h, is.2) in
+      let moved = subst (λ k. (k ≢ world_memory) × (IsWorldMemory e k ⊎ IsComponentWorldCause e k) × IsExplanation e k x.place) (sym is.0) here in
+      (e, encodes, moved.0, moved.1, moved.2)
   world_cause e f g encodes h is = absurd is
 
   -- a fault of its plan
-  no_output : (w : ComponentWorldView) (p : IsFirstFault w plan_output) (k : UseFault) → p.kind ≡ k → ⊥
-  no_output w p no_memory is = subst (λ k. IsFaultNamed k p.at.0.name plan_output) is p.named
-  no_output w p no_realloc is = subst (λ k. IsFaultNamed k p.at.0.name plan_output) is p.named
-  no_output w p no_lowering is = subst (λ k. IsFaultNamed k p.at.0.name plan_output) is p.named
-
-  first_cause : (e : EncoderView) (w : ComponentWorldView) (f : PlanFault) → IsEncoderOf c before e → IsWorldOf plain_options e w → IsFirstFault w f
-      → IsPlanCause c before fails (of_plan f)
-  first_cause e w plan_memory encodes world h = tt
-  first_cause e w plan_output encodes world h = absurd (no_output w h h.kind refl)
-  first_cause e w f encodes world h = (e, w, encodes, world, h)
-
-  pub plan_cause : (e : EncoderView) (w : ComponentWorldView) (f : PlanFault) → IsEncoderOf c before e → IsWorldOf plain_options e w
-      → (f ≡ plan_memory) ⊎ IsFirstFault w f → IsPlanCause c before fails (of_plan f)
-  plan_cause e w f encodes world (inl is) = subst (λ g. IsPlanCause c before fails (of_plan g)) (sym is) tt
-  plan_cause e w f encodes world (inr h) = first_cause e w f encodes world h
+  pub plan_cause : (e : EncoderView) (w : ComponentWorldView) (x : RefusedPlan) (g : ProgramFault) → IsEncoderOf c before e → IsWorldOf plain_options e w
+      → IsPlanRefusal w x → IsOfPlan x g → IsPlanCause c before fails g
+  plan_cause e w x program_memory encodes world h is = tt
+  plan_cause e w x (Plan y) encodes world (inl memory) is = absurd (is.1 memory.0)
+  plan_cause e w x (Plan y) encodes world (inr h) is = subst (λ z. IsPlanCause c before fails (Plan z)) (sym is.0) (e, w, encodes, world, h.0, h.1)
+  plan_cause e w x g encodes world h is = absurd is
 
 -- a fault of ways, and of what is printed
 pub ways_fault : (w : ComponentWorldView) (f : GcFault) → IsWaysFault w f → IsDescriptionFault w (of_gc f)
@@ -80,30 +75,26 @@ module _ (c : CommandView) (change : StoreChange) (out : Printing → Type 0) (w
     (files : Files) (outputs : map file_view files ≡ files_of c.out w)
   where
     -- all files were written, and the lines printed
-    pub all_written : {T : Type 0} (text : List ℕ) (r : Result T ProgramFault) → IsPrintedText c w text
-        → OnOk r (IfSome c.out change.Makes) → OnOk r (WritesAll change.before change.after (map file_view files))
-        → OnOk r (out (printed text)) → OnOk r (EndsWell c change out)
-    all_written text (Ok x) is made written shown = (
+    pub all_written : (text warnings : List ℕ) → IsPrintedText c w text → IfSome c.out change.Makes
+        → WritesAll change.before change.after (map file_view files) → out (printed text) → warnings ≡ warnings_text c w
+        → EndsWell c change out warnings
+    all_written text warnings is made written shown warned = (
       w,
       text,
       record { planned = planned; made = made; written = subst (WritesAll change.before change.after) outputs written },
       is,
       shown,
+      warned,
     )
-    all_written text (Err f) is made written shown = tt
 
     -- the directory could not be made, a file not be written, or the lines not be printed
-    unwritten : (f : ProgramFault) → IsWritingFault c.out change files out f → IsRunCause c change out f
-    unwritten (CannotMake path) h = (record { world = w; planned = planned; directory = h.0; failed = h.1; kept = h.2 }, h.3)
-    unwritten (CannotWrite path) h =
-        let stopped = subst (λ fs. IsUnwrittenFile change.before change.after change.IsFailedWrite fs (string_bytes path)) outputs h.1 in
+    pub unwritten : (f : ProgramFault) → IsWritingFault c.out change files out f → IsRunCause c change out f
+    unwritten (CannotMake path p) h = (record { world = w; planned = planned; directory = h.0; failed = h.1; kept = h.2 }, h.3)
+    unwritten (CannotWrite path p) h =
+        let stopped = subst (λ fs. IsUnwrittenFile change.before change.after change.IsFailedWrite fs (string_bytes path) p) outputs h.1 in
         (record { world = w; planned = planned; made = h.0; stopped = stopped }, h.2)
     unwritten Output h = (w, record { planned = planned; made = h.0; written = subst (WritesAll change.before change.after) outputs h.1 }, h.2)
     unwritten f h = absurd h
-
-    pub some_unwritten : {T : Type 0} (r : Result T ProgramFault) → IfErr r (IsWritingFault c.out change files out) → IfErr r (IsRunCause c change out)
-    some_unwritten (Ok x) h = tt
-    some_unwritten (Err f) h = unwritten f h
 
 -- how the program ends by what its arguments are read as
 
@@ -141,11 +132,11 @@ map_id [] = refl
 map_id (x ∷ xs) = ap (λ l. x ∷ l) (map_id xs)
 
 -- one could not be, after those before it
-pub unwritten_at : (before after : Option Held) (fails : Option Held → List ℕ → List ℕ → Type 0) (files front : Files) (file : String Global × Bor (List ℕ))
+pub unwritten_at : (before after : Option Held) (fails : Writing) (files front : Files) (file : String Global × Bor (List ℕ)) (p : FileProblem)
     → (length front < length files) × (file ≡ get_or files (length front) file) → map (λ f. f) front ≡ take (length front) files
     → WritesAll before after (map file_view front)
-    → fails after (string_bytes file.0) file.1.now → IsUnwrittenFile before after fails (map file_view files) (string_bytes file.0)
-unwritten_at before after fails files front file at passed written failed =
+    → fails after (string_bytes file.0) file.1.now p → IsUnwrittenFile before after fails (map file_view files) (string_bytes file.0) p
+unwritten_at before after fails files front file p at passed written failed =
     let cut : files ≡ front ++ file ∷ drop (suc (length front)) files = cut_at files (length front) file at.0
     ∙ (λ i. sym passed i ++ sym at.1 i ∷ drop (suc (length front)) files) ∙ ap (λ l. l ++ file ∷ drop (suc (length front)) files) (map_id front) in
     record {
@@ -158,15 +149,6 @@ unwritten_at before after fails files front file at passed written failed =
     }
 
 -- a write that failed, of files that stay as they were
-pub failed_from : {S : Type 0} (held : S → Option Held) (fails : S → S → List ℕ → List ℕ → Type 0) (s after : S) (path bytes : List ℕ)
-    → held after ≡ held s → fails s after path bytes → FailsFrom held fails after (held after) path bytes
-failed_from held fails s after path bytes kept failed = (s, sym kept, failed)
-
--- how a fault is printed
-
-pub reported_with : (fault : ProgramFault) (text : List ℕ) (err : Printing → Type 0) (status : ℕ) → text ≡ program_fault_text fault
-    → IsReportedWith fault text err status → IsReported fault err status
-reported_with fault text err status is (lines, inl all, prints) =
-    (text ++ lines, inl ((λ i. is i ++ all i)), prints)
-reported_with fault text err status is (lines, inr (some, none), prints) =
-    (text ++ lines, inr (inl (some, (λ i. is i ++ none i))), prints)
+pub failed_from : {S : Type 0} (held : S → Option Held) (fails : S → S → List ℕ → List ℕ → ErrorKind → Type 0) (s after : S) (path bytes : List ℕ)
+    (k : ErrorKind) (p : FileProblem) → held after ≡ held s → fails s after path bytes k → IsProblemOf k p → FailsFrom held fails after (held after) path bytes p
+failed_from held fails s after path bytes k p kept failed is = (s, sym kept, (k, failed, is))

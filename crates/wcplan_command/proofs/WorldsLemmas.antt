@@ -1,14 +1,13 @@
 -- Why there are no worlds, or none of the name, in the file of a command.
-use Rattle.std.proofs.Common.{◌≡◌, ◌<◌, ℕ, List, length, Option, Some, None, Result, Ok, Err, IfOk, IfErr, sym, ◌∙◌, ap, subst, inl, inr}
+use Rattle.std.proofs.Common.{◌≡◌, ◌≢◌, ◌<◌, ℕ, List, length, Option, Some, None, Result, Ok, Err, IfOk, IfErr, sym, ◌∙◌, ap, subst, inl, inr}
 use Rattle.std.proofs.lemmas.Option.{same_Some}
 use Rattle.json.specs.Json.{document}
 use Rattle.wc_json.specs.Document.{DocumentView}
 use Rattle.wc_resolve.specs.Fault.{IsResolveCause}
 use Rattle.wc_resolve.specs.Explain.{IsPlace}
-use Rattle.wc_resolve.specs.Refusals.{IsRefusal}
+use Rattle.wc_resolve.specs.Refusals.{IsRefusal, Refusal}
 use Rattle.wc_resolve.specs.Kinds.{ResolveView}
 use Rattle.wc_resolve.specs.declared.explain.Part.{Part}
-use Rattle.wc_resolve.specs.declared.explain.Refusal.{Refusal}
 use Rattle.wc_resolve.specs.declared.fault.ResolveFault.{ResolveFault}
 use Rattle.wc_resolve.specs.declared.fault.ResolveFault.TheVariants.{Memory as resolve_memory}
 use Rattle.wc_selection.proofs.WorldLemmas.{selected_there}
@@ -23,7 +22,7 @@ use Rattle.wcplan_command.specs.Private.Runs.{AreWorldsOf, IsExplainedPlace, IsM
 use Rattle.wcplan_command.specs.Program.{AreWorldsIn, HoldsInput, IsDocumentIn, IsDocumentOf, IsPlanCause, IsReadFault, IsTextCause, Reads}
 use Rattle.wcplan_command.specs.declared.explained_part.ExplainedPart.{ExplainedPart}
 use Rattle.wcplan_command.specs.declared.fault.ProgramFault.{ProgramFault}
-use Rattle.wcplan_command.specs.declared.fault.ProgramFault.TheVariants.{Memory, CannotRead, NotText, NotJson, RepeatedMember, Json as json_fault, Selection, NoWorld, NoExport, Resolve, Dedupe, Encoder, World, Plan, Ways, CannotMake, CannotWrite, Output}
+use Rattle.wcplan_command.specs.declared.fault.ProgramFault.TheVariants.{Memory, CannotRead, NotText, NotJson, RepeatedMember, Json as json_fault, Selection, NoAdapter, NoWorld, NoExport, NoImport, Resolve, Dedupe, Encoder, World, Plan, Ways, CannotMake, CannotWrite, Output}
 
 -- a file that could not be read, or is no text
 pub unread : (c : CommandView) (before : Option Held) (fails : Reads) (f : ProgramFault) → IsReadFault c.worlds fails f → IsPlanCause c before fails f
@@ -36,7 +35,7 @@ pub text_cause : (c : CommandView) (text : List ℕ) (f : ProgramFault) → IsTe
 text_cause c text Memory h = tt
 text_cause c text (Selection f) h = absurd h
 text_cause c text (NoWorld name listing) h = absurd h
-text_cause c text (Resolve f x) h = absurd h
+text_cause c text (Resolve x) h = absurd h
 text_cause c text f h = h
 
 -- no world is meant, or it can't be told which one has the name
@@ -65,35 +64,34 @@ meant_there d None world is = is.0.0
 meant_there d (Some name) world is = selected_there d name world is
 
 -- they are not well-formed: what the fault is about
-about_place : (r : ResolveView) (f : ResolveFault) (place : Option Part) (x : Option ExplainedPart) (p : Part) → place ≡ Some p → IsResolveCause r f → IsPlace r f p
-    → IsExplainedPlace r place x → IsPartExplanation r f x
-about_place r f None x p is cause at h = absurd (let bad : ⊥ = cc is in bad)
-about_place r f (Some part) None p is cause at h = absurd h
-about_place r f (Some part) (Some x) p is cause at h = record {
-  place = let same : part ≡ p = same_Some part p is in (cause, subst (IsPlace r f) (sym (h.0 ∙ same)) at);
+about_part : (r : ResolveView) (f : ResolveFault) (place : Option Part) (x : Option ExplainedPart) (p : Part) → place ≡ Some p → IsResolveCause r f
+    → IsPlace r f p → IsExplainedPlace r place x → IsPartExplanation r f x
+about_part r f None x p is cause at h = absurd (let bad : ⊥ = cc is in bad)
+about_part r f (Some part) None p is cause at h = absurd h
+about_part r f (Some part) (Some x) p is cause at h = record {
+  cause = cause;
+  place = let same : part ≡ p = same_Some part p is in subst (IsPlace r f) (sym (h.0 ∙ same)) at;
   named = h.1 ∙ ap (part_name r) (sym h.0);
 }
-
-about_parts : {E : Type 0} (r : ResolveView) (f : ResolveFault) (place : Option Part) (x : Result (Option ExplainedPart) E) (p : Part) → place ≡ Some p
-    → IsResolveCause r f → IsPlace r f p → IfOk x (IsExplainedPlace r place) → IfOk x (IsPartExplanation r f)
-about_parts r f place (Ok x) p is cause at h = about_place r f place x p is cause at h
-about_parts r f place (Err e) p is cause at h = tt
 
 of_fault : (c : CommandView) (text : List ℕ) (d : DocumentView) (world : ℕ) (f : ResolveFault) (place : Option Part) (p : Part) (g : ProgramFault)
     → IsDocumentOf (document text) d → IsMeant d c.world world → place ≡ Some p → IsResolveCause d.parts f → IsPlace d.parts f p → IsOfFault d.parts f place g
     → IsWorldsCause c text g
-of_fault c text d world resolve_memory place p g read meant is cause at h = subst (IsWorldsCause c text) (sym h) tt
-of_fault c text d world f place p (Resolve g x) read meant is cause at h =
-    subst (λ k. IsWorldsCause c text (Resolve k x)) (sym h.0)
-    (d, world, read, meant, (λ same. cc), cause, about_parts d.parts f place x p is cause at h.1)
+of_fault c text d world f place p Memory read meant is cause at h = tt
+of_fault c text d world f place p (Resolve x) read meant is cause at h =
+    let named = about_part d.parts f place x.place p is cause at h.2 in
+    let here : (f ≢ resolve_memory) × IsResolveCause d.parts f × IsPartExplanation d.parts f x.place = (h.1, cause, named) in
+    let moved = subst (λ k. (k ≢ resolve_memory) × IsResolveCause d.parts k × IsPartExplanation d.parts k x.place) (sym h.0) here in
+    (d, world, read, meant, moved.0, moved.1, moved.2)
 of_fault c text d world f place p g read meant is cause at h = absurd h
 
 pub resolve_cause : (c : CommandView) (text : List ℕ) (d : DocumentView) (world : ℕ) (x : Refusal) (g : ProgramFault) → IsDocumentOf (document text) d
     → IsMeant d c.world world → IsRefusal d.parts x → IsOfRefused d.parts x g → IsWorldsCause c text g
-resolve_cause c text d world x g read meant (inl memory) is =
-    let none : g ≡ Memory = subst (λ k. IsOfFault d.parts k x.place g) memory.0 is in
-    subst (IsWorldsCause c text) (sym none) tt
-resolve_cause c text d world x g read meant (inr (p, at, cause, place)) is = of_fault c text d world x.fault x.place p g read meant at cause place is
+resolve_cause c text d world x Memory read meant h is = tt
+resolve_cause c text d world x (Resolve y) read meant (inl memory) is = absurd (is.1 memory.0)
+resolve_cause c text d world x (Resolve y) read meant (inr (p, at, cause, place)) is =
+    of_fault c text d world x.fault x.place p (Resolve y) read meant at cause place is
+resolve_cause c text d world x g read meant h is = absurd is
 
 -- the worlds of a text, where this is that of the command's file
 
@@ -108,22 +106,24 @@ pub file_cause : (c : CommandView) (before : Option Held) (fails : Reads) (text 
     → IsWorldsCause c text f → IsPlanCause c before fails f
 file_cause c before fails text Memory held h = tt
 file_cause c before fails text (CannotRead path p) held h = absurd h
-file_cause c before fails text NotText held h = absurd h
-file_cause c before fails text (NotJson at) held h = (text, held, h)
+file_cause c before fails text (NotText likeness) held h = absurd h
+file_cause c before fails text (NotJson at likeness) held h = (text, held, h)
 file_cause c before fails text (RepeatedMember path) held h = (text, held, h)
 file_cause c before fails text (json_fault f) held h = (text, held, h)
 file_cause c before fails text (Selection f) held h = inl (h.0, in_file before c.worlds text h.0 held h.1, h.2)
 file_cause c before fails text (NoWorld name listing) held h = (h.0, in_file before c.worlds text h.0 held h.1, h.2)
+file_cause c before fails text (NoAdapter name listing nearest) held h = absurd h
 file_cause c before fails text (NoExport key listing) held h = absurd h
-file_cause c before fails text (Resolve f x) held (d, world, read, selected, real, cause, about) =
+file_cause c before fails text (NoImport key listing nearest) held h = absurd h
+file_cause c before fails text (Resolve x) held (d, world, read, selected, real, cause, about) =
     (d, world, in_file before c.worlds text d held read, selected, real, cause, about)
-file_cause c before fails text (Dedupe f) held h = absurd h
+file_cause c before fails text (Dedupe x) held h = absurd h
 file_cause c before fails text (Encoder f) held h = absurd h
-file_cause c before fails text (World f x) held h = absurd h
-file_cause c before fails text (Plan f) held h = absurd h
+file_cause c before fails text (World x) held h = absurd h
+file_cause c before fails text (Plan x) held h = absurd h
 file_cause c before fails text (Ways f) held h = absurd h
-file_cause c before fails text (CannotMake path) held h = absurd h
-file_cause c before fails text (CannotWrite path) held h = absurd h
+file_cause c before fails text (CannotMake path p) held h = absurd h
+file_cause c before fails text (CannotWrite path p) held h = absurd h
 file_cause c before fails text Output held h = absurd h
 
 -- the same of an answer

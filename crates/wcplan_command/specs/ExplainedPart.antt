@@ -1,8 +1,9 @@
 -- What a fault of worlds that are not well-formed is about, and how that is printed.
-use Rattle.std.specs.Prelude.{◌≡◌, ℕ, List, ◌++◌, codes, decimal, Option, Some, None, MatchOption, string_bytes, slice_get}
+use Rattle.std.specs.Prelude.{◌≡◌, ℕ, List, ◌++◌, codes, decimal, IsSomeAnd, Option, Some, None, string_bytes, slice_get}
 use Rattle.std.specs.Option.{option_and_then, option_map}
 use Rattle.semver.specs.Identifiers.{parts_text}
-use Rattle.wc_resolve.specs.Explain.{IsExplained}
+use Rattle.wc_resolve.specs.Explain.{IsPlace}
+use Rattle.wc_resolve.specs.Fault.{IsResolveCause}
 use Rattle.wc_resolve.specs.Resolve.{versioned}
 use Rattle.wc_resolve.specs.Views.{InterfaceView, PackageNameView, PackageView, TypeView, WorldView}
 use Rattle.wc_resolve.specs.Kinds.{ResolveView}
@@ -29,12 +30,13 @@ part_name r p = declared_name r p
 
 -- a fault is about a part, which has this name
 pub record IsAboutPart (r : ResolveView) (f : ResolveFault) (x : ExplainedPart) : Type 0 where
-  pub place : IsExplained r f (Some x.part)
+  pub cause : IsResolveCause r f
+  pub place : IsPlace r f x.part
   pub named : option_map string_bytes x.name ≡ part_name r x.part
 
--- what is answered of a fault; nothing only where it is about no part
+-- what is answered of a fault
 abbrev pub IsPartExplanation : ResolveView → ResolveFault → Option ExplainedPart → Type 0
-IsPartExplanation r f answer = MatchOption answer (IsExplained r f None) (IsAboutPart r f)
+IsPartExplanation r f answer = IsSomeAnd answer (IsAboutPart r f)
 
 -- the path of a part in the JSON text of the worlds
 abbrev pub path_text : Part → List ℕ

@@ -5,8 +5,6 @@ use Rattle.wc_program.specs.Files.{problem_text}
 use Rattle.wc_json.specs.Escape.{escaped}
 use Rattle.wc_json.specs.Fault.{json_fault_text}
 use Rattle.wc_dedupe.specs.Fault.{dedupe_fault_text}
-use Rattle.wc_dedupe.specs.declared.fault.DedupeFault.{DedupeFault}
-use Rattle.wc_dedupe.specs.declared.fault.DedupeFault.TheVariants.{Memory as dedupe_memory}
 use Rattle.wc_encoder.specs.Fault.{encoder_fault_text}
 use Rattle.wc_encoder.specs.declared.fault.EncoderFault.{EncoderFault}
 use Rattle.wc_encoder.specs.declared.fault.EncoderFault.TheVariants.{Memory as encoder_memory}
@@ -16,9 +14,7 @@ use Rattle.wc_gc.specs.declared.fault.GcFault.TheVariants.{Memory as gc_memory}
 use Rattle.wc_json.specs.declared.fault.JsonFault.{JsonFault}
 use Rattle.wc_json.specs.declared.fault.JsonFault.TheVariants.{Memory as json_memory}
 use Rattle.wc_plan.specs.Fault.{plan_fault_text}
-use Rattle.wc_plan.specs.declared.fault.PlanFault.{PlanFault}
 use Rattle.wc_resolve.specs.Fault.{resolve_fault_text}
-use Rattle.wc_plan.specs.declared.fault.PlanFault.TheVariants.{Memory as plan_memory, Output as plan_output}
 use Rattle.wc_selection.specs.Fault.{quoted, request_fault_text}
 use Rattle.wc_selection.specs.Texts.{text_of}
 use Rattle.wc_selection.specs.declared.fault.RequestFault.{RequestFault}
@@ -30,7 +26,7 @@ use Rattle.wc_world.specs.declared.fault.WorldFault.TheVariants.{PageSize}
 use Rattle.wcplan_command.specs.declared.fault.SelectionFault.{SelectionFault}
 use Rattle.wcplan_command.specs.declared.fault.SelectionFault.TheVariants.{Memory as selection_memory, Request, RepeatedAdapter, UnknownAdapter, EmptyDirectory, FileName, MainFile}
 use Rattle.wcplan_command.specs.declared.fault.ProgramFault.{ProgramFault}
-use Rattle.wcplan_command.specs.declared.fault.ProgramFault.TheVariants.{Memory, CannotRead, NotText, NotJson, RepeatedMember, Json, Selection, NoWorld, NoExport, Resolve, Dedupe, Encoder, World, Plan, Ways, CannotMake, CannotWrite, Output}
+use Rattle.wcplan_command.specs.declared.fault.ProgramFault.TheVariants.{Memory, CannotRead, NotText, NotJson, RepeatedMember, Json, Selection, NoAdapter, NoWorld, NoExport, NoImport, Resolve, Dedupe, Encoder, World, Plan, Ways, CannotMake, CannotWrite, Output}
 
 abbrev pub of_json : JsonFault → ProgramFault
 of_json json_memory = Memory
@@ -44,18 +40,9 @@ abbrev pub of_selection : SelectionFault → ProgramFault
 of_selection selection_memory = Memory
 of_selection f = Selection f
 
-abbrev pub of_dedupe : DedupeFault → ProgramFault
-of_dedupe dedupe_memory = Memory
-of_dedupe f = Dedupe f
-
 abbrev pub of_encoder : EncoderFault → ProgramFault
 of_encoder encoder_memory = Memory
 of_encoder f = Encoder f
-
-abbrev pub of_plan : PlanFault → ProgramFault
-of_plan plan_memory = Memory
-of_plan plan_output = Output
-of_plan f = Plan f
 
 abbrev pub of_gc : GcFault → ProgramFault
 of_gc gc_memory = Memory
@@ -75,9 +62,17 @@ abbrev pub no_world_text : Option (List ℕ) → List ℕ → List ℕ
 no_world_text None listing = codes "missing WORLD; worlds:" ++ listing
 no_world_text (Some name) listing = codes "no world `" ++ (name ++ (codes "`; worlds:" ++ listing))
 
+-- there is no adapter of a name, and what adapters there are
+abbrev pub no_adapter_text : List ℕ → List ℕ → List ℕ
+no_adapter_text name listing = codes "no adapter `" ++ (name ++ (codes "`; adapters:" ++ listing))
+
 -- there is no export with a key, and what exports there are
 abbrev pub no_export_text : List ℕ → List ℕ → List ℕ
 no_export_text key listing = codes "no export `" ++ (key ++ (codes "`; exports:" ++ listing))
+
+-- no import is asked about by a key, and what imports there are
+abbrev pub no_import_text : List ℕ → List ℕ → List ℕ
+no_import_text key listing = codes "no import `" ++ (key ++ (codes "`; imports:" ++ listing))
 
 -- a member is there twice: its path, escaped
 abbrev pub repeated_text : List ℕ → List ℕ
@@ -100,26 +95,28 @@ unprinted_text = codes "cannot print"
 abbrev pub program_fault_text : ProgramFault → List ℕ
 program_fault_text Memory = memory_text
 program_fault_text (CannotRead path p) = codes "cannot read " ++ (escaped path.now ++ problem_text p)
-program_fault_text NotText = codes "Json: not UTF-8"
-program_fault_text (NotJson at) = codes "Json: not JSON at byte " ++ decimal at
+program_fault_text (NotText likeness) = codes "Json: not UTF-8"
+program_fault_text (NotJson at likeness) = codes "Json: not JSON at byte " ++ decimal at
 program_fault_text (RepeatedMember path) = repeated_text (string_bytes path)
 program_fault_text (Json f) = codes "Json: " ++ json_fault_text f
 program_fault_text (Selection f) = escaped (selection_fault_text f)
+program_fault_text (NoAdapter name listing nearest) = escaped (no_adapter_text name.now (string_bytes listing))
 program_fault_text (NoWorld name listing) = escaped (no_world_text (option_map text_of name) (string_bytes listing))
 program_fault_text (NoExport key listing) = escaped (no_export_text key.now (string_bytes listing))
-program_fault_text (Resolve f x) = carried_text (codes "Resolve") (escaped (resolve_fault_text f))
-program_fault_text (Dedupe f) = carried_text (codes "Dedupe") (escaped (dedupe_fault_text f))
+program_fault_text (NoImport key listing nearest) = escaped (no_import_text key.now (string_bytes listing))
+program_fault_text (Resolve x) = carried_text (codes "Resolve") (escaped (resolve_fault_text x.fault))
+program_fault_text (Dedupe x) = carried_text (codes "Main module") (escaped (dedupe_fault_text x.fault))
 program_fault_text (Encoder f) = carried_text (codes "Encoder") (escaped (encoder_fault_text f))
-program_fault_text (World f x) = world_text f
-program_fault_text (Plan f) = carried_text (codes "Plan") (escaped (plan_fault_text f))
+program_fault_text (World x) = world_text x.fault
+program_fault_text (Plan x) = carried_text (codes "Plan") (escaped (plan_fault_text x.fault))
 program_fault_text (Ways f) = carried_text (codes "Ways") (escaped (gc_fault_text f))
-program_fault_text (CannotMake path) = codes "cannot make directory " ++ escaped path.now
-program_fault_text (CannotWrite path) = codes "cannot write " ++ escaped (string_bytes path)
+program_fault_text (CannotMake path p) = codes "cannot make directory " ++ (escaped path.now ++ problem_text p)
+program_fault_text (CannotWrite path p) = codes "cannot write " ++ (escaped (string_bytes path) ++ problem_text p)
 program_fault_text Output = unprinted_text
 
 -- memory is needed for the text of a fault, unless it is always the same
 abbrev pub NeedsText : ProgramFault → Type 0
 NeedsText Memory = ⊥
-NeedsText NotText = ⊥
+NeedsText (NotText None) = ⊥
 NeedsText Output = ⊥
 NeedsText f = ⊤

@@ -4,13 +4,14 @@ pub mod Usage
 pub mod Fault
 pub mod Nearest
 pub mod ExplainedPart
+pub mod Listing
+pub mod AdapterNames
 pub mod Details
 pub mod FileNames
 pub mod Lines
 pub mod ModuleKeys
-pub mod Listing
+pub mod Asked
 pub mod JsonFaults
-pub mod JsonPlace
-pub mod RepeatedMembers
+pub mod Warnings
 pub mod Program
 pub mod Private

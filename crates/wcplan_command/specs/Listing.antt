@@ -1,8 +1,11 @@
--- The keys of a world's exports, and the worlds of a document, as a text.
-use Rattle.std.specs.Prelude.{ℕ, ◌-◌, ◌==◌, nat_le, List, ◌++◌, length, take, codes, decimal, if◌then◌else◌}
+-- The keys of a world's exports, names, and the worlds of a document, as a text.
+use Rattle.std.specs.Prelude.{◌≡◌, ℕ, ◌-◌, ◌==◌, nat_le, List, ◌++◌, length, take, codes, decimal, if◌then◌else◌, Option, String, string_bytes}
 use Rattle.std.specs.List.{flat_map, range_with_len}
+use Rattle.std.specs.Option.{option_map}
+use Rattle.std.specs.declared.alloc.Global.{Global}
 use Rattle.wc_json.specs.Document.{DocumentView}
 use Rattle.wc_selection.specs.Worlds.{world_name}
+use Rattle.wcplan_command.specs.Nearest.{first_near}
 
 -- a key in quotes, after a blank
 abbrev pub listed_key : List ℕ → List ℕ
@@ -24,6 +27,10 @@ listing_text keys =
     if length keys == 0 then codes " none"
     else if nat_le (length keys) most_listed then listed_keys keys
     else (listed_keys (take most_listed keys) ++ more_text (length keys - most_listed))
+
+-- what names there are is said in place of one that there is not, and which is the first that is near it
+abbrev pub IsListedNear : List (List ℕ) → List ℕ → String Global → Option (String Global) → Type 0
+IsListedNear names name listing nearest = (string_bytes listing ≡ listing_text names) × (option_map string_bytes nearest ≡ first_near name names)
 
 -- so many of the first worlds, by their full names
 abbrev pub listed_worlds : DocumentView → ℕ → List ℕ

@@ -9,7 +9,7 @@ use Rattle.wc_encoder.specs.EncoderParts.{EncoderView, world_exports, world_impo
 use Rattle.wc_resolve.specs.Resolve.{key_text}
 use Rattle.wc_resolve.specs.Views.{FunctionView, InterfaceView, ItemView, KeyView}
 use Rattle.wc_resolve.specs.Kinds.{ResolveView}
-use Rattle.wc_json.specs.Keys.{rest_after}
+use Rattle.wc_texts.specs.Prefixes.{rest_after}
 use Rattle.wc_names.specs.Keys.{as_interface}
 use Rattle.wc_selection.specs.KeyNames.{unversioned_text}
 use Rattle.wc_selection.specs.Keys.{named_keys, texts_of}
@@ -139,7 +139,7 @@ nearest e (Adapter name f) x = near_subject e f x
 nearest e (Minimized name f) x = near_subject e f x
 nearest e f x = None
 
--- and of a place in a module; in place of none in what trimming refuses
+-- and of a place in a module; nothing of what trimming refuses, and of sizes of pages
 abbrev pub near_place : EncoderView → WorldFault → ModulePlace → Option (List ℕ)
 near_place e f (place.Validation p) = nearest e f (subject_view p.subject)
-near_place e f (place.Trim p) = None
+near_place e f p = None

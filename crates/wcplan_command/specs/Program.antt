@@ -1,12 +1,13 @@
 -- The program: what it prints, what becomes of files, and its exit status.
-use Rattle.std.specs.Prelude.{◌≡◌, ◌≢◌, ◌⊎◌, ℕ, Bool, List, [], ◌∷◌, ◌++◌, map, codes, true, false, MatchOption, Option, Some, None, IfOk, IfSome, IsSomeAnd, cond, if◌then◌else◌, Ok, Err, Contains, String, string_bytes}
+use Rattle.std.specs.Prelude.{◌≡◌, ◌≢◌, ◌⊎◌, ℕ, Bool, List, [], ◌∷◌, ◌++◌, map, codes, true, false, MatchOption, Option, Some, None, IfSome, IsSomeAnd, cond, if◌then◌else◌, Ok, Err, Contains, String, string_bytes}
 use Rattle.std.specs.declared.alloc.Global.{Global}
 use Rattle.std.specs.Borrow.{Bor}
 use Rattle.std.specs.List.{AllZip}
+use Rattle.std.specs.Option.{option_map}
 use Rattle.std.specs.Str.{IsUtf8}
 use Rattle.json.specs.Json.{Json as JsonValue, document}
 use Rattle.json.specs.Strict.{HasUniqueKeys}
-use Rattle.wc_dedupe.specs.Dedupe.{IsDeduped, IsDedupeCause, renames_in}
+use Rattle.wc_dedupe.specs.Dedupe.{IsDeduped, IsDedupeCause, IsDedupePlace, renames_in}
 use Rattle.wc_dedupe.specs.Renaming.{RenameView}
 use Rattle.wc_dedupe.specs.declared.fault.DedupeFault.TheVariants.{Memory as dedupe_memory}
 use Rattle.wc_adapters.specs.Adapters.{AdapterView}
@@ -15,9 +16,13 @@ use Rattle.wc_encoder.specs.Fault.{IsEncoderCause}
 use Rattle.wc_encoder.specs.WellFormed.{IsWellFormed}
 use Rattle.wc_encoder.specs.declared.fault.EncoderFault.TheVariants.{Memory as encoder_memory}
 use Rattle.wc_json.specs.Escape.{escaped}
+use Rattle.wc_json.specs.JsonPlace.{json_end}
+use Rattle.wc_json.specs.Likeness.{looks_like}
+use Rattle.wc_json.specs.RepeatedMembers.{IsRepeatedPath}
+use Rattle.wc_json.specs.declared.likeness.Likeness.{Likeness}
 use Rattle.wc_json.specs.Document.{DocumentView, document_of, IsJsonCause}
 use Rattle.wc_json.specs.declared.fault.JsonFault.TheVariants.{NotJson as json_invalid, RepeatedMember as json_repeated, Wrong as json_wrong}
-use Rattle.wc_plan.specs.Fault.{HasNoFault, IsFirstFault}
+use Rattle.wc_plan.specs.Fault.{HasNoFault, IsFirstFault, place_view as plan_place_view}
 use Rattle.wc_plan.specs.Plans.{plan_of}
 use Rattle.wc_record.specs.Texts.{planned_world_text}
 use Rattle.wc_resolve.specs.Fault.{IsResolveCause}
@@ -27,8 +32,8 @@ use Rattle.wc_resolve.specs.declared.fault.ResolveFault.TheVariants.{Memory as r
 use Rattle.wc_texts.specs.FaultTexts.{memory_text}
 use Rattle.wc_program.specs.Files.{Held, Holds, StoreChange, Writes}
 use Rattle.wc_program.specs.Program.{Prints, EndsByArguments, EndsByReason, failure, success, wrong_arguments}
-use Rattle.wc_program.specs.declared.files.ReadProblem.{ReadProblem}
-use Rattle.wc_program.specs.declared.files.ReadProblem.TheVariants.{Memory as no_memory}
+use Rattle.wc_program.specs.declared.files.FileProblem.{FileProblem}
+use Rattle.wc_program.specs.declared.files.FileProblem.TheVariants.{Memory as no_memory}
 use Rattle.wc_program.specs.declared.program.NoArguments.{NoArguments}
 use Rattle.wc_program.specs.declared.program.NoArguments.TheVariants.{Empty, NoMemory, NoText}
 use Rattle.wc_world.specs.Causes.{IsComponentWorldCause, IsMemory as IsWorldMemory}
@@ -37,32 +42,33 @@ use Rattle.wc_world.specs.Views.{ComponentWorldView, NamedWorldAdapter}
 use Rattle.wc_world.specs.World.{IsWorldOf}
 use Rattle.wc_world.specs.declared.fault.WorldFault.TheVariants.{Memory as world_memory}
 use Rattle.wc_gc.specs.declared.fault.GcFault.TheVariants.{Memory as gc_memory}
+use Rattle.wc_ways.specs.Steps.{IsWaysJson}
 use Rattle.wc_ways.specs.Ways.{IsWaysText}
 use Rattle.wc_ways.specs.WaysFaults.{IsWaysFault}
 use Rattle.wc_ways.specs.Nodes.{IsWaysGraph}
-use Rattle.wc_ways.specs.Steps.{IsWaysJson}
 use Rattle.wc_selection.specs.KeyNames.{request_keys}
 use Rattle.wc_selection.specs.Keys.{NamedKey, texts_of}
 use Rattle.wc_selection.specs.ModuleKeys.{required_keys}
 use Rattle.wc_selection.specs.Texts.{second_parts}
+use Rattle.wcplan_command.specs.AdapterNames.{IsNoAdapter}
+use Rattle.wcplan_command.specs.Asked.{IsAskedThere, IsUnasked}
 use Rattle.wcplan_command.specs.Arguments.{CommandView, Reading, Stop, WrongView, help, version, wrong}
-use Rattle.wcplan_command.specs.Details.{IsExplanation, fault_lines, unplaced_line}
+use Rattle.wcplan_command.specs.Details.{IsExplanation, fault_lines}
 use Rattle.wcplan_command.specs.Fault.{NeedsText, program_fault_text, unprinted_text}
 use Rattle.wcplan_command.specs.JsonFaults.{IsReportedJson}
-use Rattle.wcplan_command.specs.JsonPlace.{json_end}
 use Rattle.wcplan_command.specs.Lines.{lines_text}
-use Rattle.wcplan_command.specs.Listing.{listing_text}
+use Rattle.wcplan_command.specs.Listing.{IsListedNear, listing_text}
 use Rattle.wcplan_command.specs.ExplainedPart.{IsPartExplanation}
-use Rattle.wcplan_command.specs.RepeatedMembers.{IsRepeatedPath}
 use Rattle.wcplan_command.specs.Reading.{AsksMemory, is_standard, read_arguments}
-use Rattle.wcplan_command.specs.ModuleKeys.{AreNamesThere, IsMeant, IsNamesCause, IsNotMeant, IsSelectionCause, hook_of, request_of}
+use Rattle.wcplan_command.specs.ModuleKeys.{AreNamesThere, IsMeant, IsNamesCause, IsNotMeant, IsSelectionCause, adapter_names, hook_of, request_of}
 use Rattle.wc_program.specs.Screen.{Printing, nothing, printed, failed}
 use Rattle.wcplan_command.specs.Usage.{fault_and_usage, fault_line, help_text, no_text, usage_text, version_text, wrong_text}
+use Rattle.wcplan_command.specs.Warnings.{AreWarned, warnings_text}
 use Rattle.wcplan_command.specs.declared.fault.SelectionFault.{SelectionFault}
-use Rattle.wcplan_command.specs.declared.fault.SelectionFault.TheVariants.{Request}
+use Rattle.wcplan_command.specs.declared.fault.SelectionFault.TheVariants.{Request, UnknownAdapter}
 use Rattle.wc_selection.specs.declared.fault.RequestFault.TheVariants.{UnknownKey}
 use Rattle.wcplan_command.specs.declared.fault.ProgramFault.{ProgramFault}
-use Rattle.wcplan_command.specs.declared.fault.ProgramFault.TheVariants.{Memory, CannotRead, NotText, NotJson, RepeatedMember, Json, Selection, NoWorld, NoExport, Resolve, Dedupe, Encoder, World, Plan, Ways, CannotMake, CannotWrite, Output}
+use Rattle.wcplan_command.specs.declared.fault.ProgramFault.TheVariants.{Memory, CannotRead, NotText, NotJson, RepeatedMember, Json, Selection, NoAdapter, NoWorld, NoExport, NoImport, Resolve, Dedupe, Encoder, World, Plan, Ways, CannotMake, CannotWrite, Output}
 
 -- the path of a file that is read: `-` stands for standard input
 abbrev pub input_path : List ℕ → List ℕ
@@ -93,12 +99,14 @@ abbrev pub AreWorldsIn : CommandView → Option Held → ResolveView → ℕ →
 AreWorldsIn c before r world =
     (d : DocumentView) × IsDocumentIn before c.worlds d × IsMeant d c.world world × IsResolve d.parts × (r ≡ d.parts)
 
--- the world that a command means, of the worlds in its file, which are well-formed; and its names and keys are there
+-- the world that a command means, of the worlds in its file, which are well-formed; and its names and keys are there, and what
+-- it asks about
 pub record IsChosen (c : CommandView) (before : Option Held) (d : DocumentView) (world : ℕ) : Type 0 where
   pub worlds : IsDocumentIn before c.worlds d
   pub selected : IsMeant d c.world world
   pub resolve : IsResolve d.parts
   pub named : AreNamesThere c (request_keys (request_of c) d.parts world)
+  pub asked : IsAskedThere c.why d.parts world
 
 -- the main module in its file, with its repeated imports renamed
 pub record IsMainIn (before : Option Held) (path text : List ℕ) (renames : List RenameView) : Type 0 where
@@ -186,40 +194,44 @@ pub record IsWritten (c : CommandView) (files : StoreChange) (world : ComponentW
 abbrev pub file_view : String Global × Bor (List ℕ) → List ℕ × List ℕ
 file_view f = (string_bytes f.0, f.1.now)
 
+-- the writes of files that fail: of the files before, of a path and of bytes, for a problem
+abbrev pub Writing : Type 1
+Writing = Option Held → List ℕ → List ℕ → FileProblem → Type 0
+
 -- of files one could not be written, and those before it were: the write of this one failed, and no other file is changed
-pub record IsUnwrittenFile (before after : Option Held) (fails : Option Held → List ℕ → List ℕ → Type 0) (files : List (List ℕ × List ℕ)) (path : List ℕ) : Type 0 where
+pub record IsUnwrittenFile (before after : Option Held) (fails : Writing) (files : List (List ℕ × List ℕ)) (path : List ℕ) (p : FileProblem) : Type 0 where
   pub front : List (List ℕ × List ℕ)
   pub back : List (List ℕ × List ℕ)
   pub bytes : List ℕ
   pub cut : files ≡ front ++ (path, bytes) ∷ back
   pub written : WritesAll before after front
-  pub failed : fails after path bytes
+  pub failed : fails after path bytes p
 
-abbrev pub IsFileFault : Option Held → Option Held → (Option Held → List ℕ → List ℕ → Type 0) → List (List ℕ × List ℕ) → ProgramFault → Type 0
-IsFileFault before after fails files (CannotWrite path) = IsUnwrittenFile before after fails files (string_bytes path)
+abbrev pub IsFileFault : Option Held → Option Held → Writing → List (List ℕ × List ℕ) → ProgramFault → Type 0
+IsFileFault before after fails files (CannotWrite path p) = IsUnwrittenFile before after fails files (string_bytes path) p
 IsFileFault before after fails files f = ⊥
 
 -- the directory of a command could not be made
-pub record IsUnmade (c : CommandView) (files : StoreChange) (path : List ℕ) : Type 0 where
+pub record IsUnmade (c : CommandView) (files : StoreChange) (path : List ℕ) (p : FileProblem) : Type 0 where
   pub world : ComponentWorldView
   pub planned : IsPlanned c files.before world
   pub directory : c.out ≡ Some path
-  pub failed : files.IsFailedMake path
+  pub failed : files.IsFailedMake path p
   pub kept : files.after ≡ files.before
 
 -- it could, and after some files one could not be written
-pub record IsUnwritten (c : CommandView) (files : StoreChange) (path : List ℕ) : Type 0 where
+pub record IsUnwritten (c : CommandView) (files : StoreChange) (path : List ℕ) (p : FileProblem) : Type 0 where
   pub world : ComponentWorldView
   pub planned : IsPlanned c files.before world
   pub made : IfSome c.out files.Makes
-  pub stopped : IsUnwrittenFile files.before files.after files.IsFailedWrite (files_of c.out world) path
+  pub stopped : IsUnwrittenFile files.before files.after files.IsFailedWrite (files_of c.out world) path p
 
 -- why reads of paths fail
 abbrev pub Reads : Type 1
-Reads = List ℕ → ReadProblem → Type 0
+Reads = List ℕ → FileProblem → Type 0
 
 -- the file of a path could not be read, for a problem other than memory
-abbrev pub IsUnreadable : Reads → List ℕ → ReadProblem → Type 0
+abbrev pub IsUnreadable : Reads → List ℕ → FileProblem → Type 0
 IsUnreadable fails path p = fails (input_path path) p × (p ≢ no_memory)
 
 -- why a file, the worlds in it, or the main module in it, could not be read
@@ -228,11 +240,15 @@ IsReadFault path fails Memory = fails (input_path path) no_memory
 IsReadFault path fails (CannotRead at p) = (at.now ≡ path) × IsUnreadable fails at.now p
 IsReadFault path fails f = ⊥
 
--- why a text has no worlds: it is not JSON, and the byte that is named is where it stops to be; or an object has a member
--- twice, and the path that is named leads to the first such member; or a value is wrong
+-- why a text has no worlds: it is not JSON, and the byte that is named is where it stops to be, and what it looks like is said;
+-- or an object has a member twice, and the path that is named leads to the first such member; or a value is wrong
+
+abbrev pub IsJsonEnd : List ℕ → ℕ → Option Likeness → Type 0
+IsJsonEnd text at likeness = (at ≡ json_end text) × (likeness ≡ looks_like text)
+
 abbrev pub IsNotJson : List ℕ → ProgramFault → Type 0
 IsNotJson text Memory = Unit {0}
-IsNotJson text (NotJson at) = at ≡ json_end text
+IsNotJson text (NotJson at likeness) = IsJsonEnd text at likeness
 IsNotJson text f = ⊥
 
 abbrev pub IsRepeatedMember : List ℕ → ProgramFault → Type 0
@@ -242,20 +258,22 @@ IsRepeatedMember text f = ⊥
 
 abbrev pub IsTextCause : List ℕ → ProgramFault → Type 0
 IsTextCause text Memory = Unit {0}
-IsTextCause text (NotJson at) = IsJsonCause (document text) json_invalid × (at ≡ json_end text)
+IsTextCause text (NotJson at likeness) = IsJsonCause (document text) json_invalid × IsJsonEnd text at likeness
 IsTextCause text (RepeatedMember path) = IsJsonCause (document text) json_repeated × IsRepeatedPath (document text) (string_bytes path)
 IsTextCause text (Json (json_wrong path problem)) = IsJsonCause (document text) (json_wrong path problem)
 IsTextCause text f = ⊥
 
 abbrev pub IsDocumentCause : Option Held → List ℕ → ProgramFault → Type 0
 IsDocumentCause before path Memory = Unit {0}
-IsDocumentCause before path NotText = (text : List ℕ) × HoldsInput before path text × ¬ IsUtf8 text
+IsDocumentCause before path (NotText likeness) =
+    (text : List ℕ) × HoldsInput before path text × ¬ IsUtf8 text × (likeness ≡ looks_like text)
 IsDocumentCause before path f = (text : List ℕ) × HoldsInput before path text × IsTextCause text f
 
 abbrev pub IsMainCause : Option Held → Reads → List ℕ → ProgramFault → Type 0
 IsMainCause before fails path Memory = Unit {0}
 IsMainCause before fails path (CannotRead at p) = IsReadFault path fails (CannotRead at p)
-IsMainCause before fails path (Dedupe f) = (bytes : List ℕ) × HoldsInput before path bytes × (f ≢ dedupe_memory) × IsDedupeCause bytes f
+IsMainCause before fails path (Dedupe x) =
+    (bytes : List ℕ) × HoldsInput before path bytes × (x.fault ≢ dedupe_memory) × IsDedupeCause bytes x.fault × IsDedupePlace bytes x.fault x.place
 IsMainCause before fails path f = ⊥
 
 -- why adapters could not be
@@ -281,17 +299,21 @@ IsNoExport texts key (NoExport k listing) = (k ≡ key) × (string_bytes listing
 IsNoExport texts key f = ⊥
 
 -- the fault of a program for a fault of names
-abbrev pub IsListed : SelectionFault → List NamedKey → ProgramFault → Type 0
-IsListed (Request (UnknownKey key)) keys g = IsNoExport (texts_of keys) key g
-IsListed f keys Memory = Unit {0}
-IsListed f keys (Selection g) = g ≡ f
-IsListed f keys g = ⊥
+abbrev pub IsListed : CommandView → SelectionFault → List NamedKey → ProgramFault → Type 0
+IsListed c (Request (UnknownKey key)) keys g = IsNoExport (texts_of keys) key g
+IsListed c (UnknownAdapter name) keys g = IsNoAdapter (adapter_names c) name g
+IsListed c f keys Memory = Unit {0}
+IsListed c f keys (Selection g) = g ≡ f
+IsListed c f keys g = ⊥
 
 abbrev pub IsListedCause : CommandView → List NamedKey → ProgramFault → Type 0
 IsListedCause c keys Memory = Unit {0}
 IsListedCause c keys (NoExport key listing) =
     IsNamesCause c keys (Request (UnknownKey key)) × (string_bytes listing ≡ listing_text (texts_of keys))
+IsListedCause c keys (NoAdapter name listing nearest) =
+    IsNamesCause c keys (UnknownAdapter name) × IsListedNear (adapter_names c) name.now listing nearest
 IsListedCause c keys (Selection (Request (UnknownKey key))) = ⊥
+IsListedCause c keys (Selection (UnknownAdapter name)) = ⊥
 IsListedCause c keys (Selection f) = IsNamesCause c keys f
 IsListedCause c keys f = ⊥
 
@@ -306,48 +328,50 @@ abbrev pub IsPlanCause : CommandView → Option Held → Reads → ProgramFault 
 IsPlanCause c before fails Memory = Unit {0}
 IsPlanCause c before fails (CannotRead path p) =
     ((path.now ≡ c.worlds) × IsUnreadable fails path.now p) ⊎ (IsAnyChosen c before × IsModulesCause c before fails (CannotRead path p))
-IsPlanCause c before fails NotText = IsDocumentCause before c.worlds NotText
-IsPlanCause c before fails (NotJson at) = IsDocumentCause before c.worlds (NotJson at)
+IsPlanCause c before fails (NotText likeness) = IsDocumentCause before c.worlds (NotText likeness)
+IsPlanCause c before fails (NotJson at likeness) = IsDocumentCause before c.worlds (NotJson at likeness)
 IsPlanCause c before fails (RepeatedMember path) = IsDocumentCause before c.worlds (RepeatedMember path)
 IsPlanCause c before fails (Json f) = IsDocumentCause before c.worlds (Json f)
 IsPlanCause c before fails (Selection f) =
     ((d : DocumentView) × IsDocumentIn before c.worlds d × IsSelectionCause d c.world f) ⊎ IsUnnamed c before (Selection f)
 IsPlanCause c before fails (NoWorld name listing) = (d : DocumentView) × IsDocumentIn before c.worlds d × IsNotMeant d c.world name listing
+IsPlanCause c before fails (NoAdapter name listing nearest) = IsUnnamed c before (NoAdapter name listing nearest)
 IsPlanCause c before fails (NoExport key listing) = IsUnnamed c before (NoExport key listing)
-IsPlanCause c before fails (Resolve f x) =
+IsPlanCause c before fails (NoImport key listing nearest) =
+    (d : DocumentView) × (world : ℕ) × IsDocumentIn before c.worlds d × IsMeant d c.world world × IsResolve d.parts
+    × IsUnasked c.why d.parts world key listing nearest
+IsPlanCause c before fails (Resolve x) =
     (d : DocumentView) × (world : ℕ) × IsDocumentIn before c.worlds d × IsMeant d c.world world
-    × (f ≢ resolve_memory) × IsResolveCause d.parts f × IfOk x (IsPartExplanation d.parts f)
-IsPlanCause c before fails (Dedupe f) = IsAnyChosen c before × IsMainCause before fails c.main (Dedupe f)
+    × (x.fault ≢ resolve_memory) × IsResolveCause d.parts x.fault × IsPartExplanation d.parts x.fault x.place
+IsPlanCause c before fails (Dedupe x) = IsAnyChosen c before × IsMainCause before fails c.main (Dedupe x)
 IsPlanCause c before fails (Encoder f) = (e : EncoderView) × IsPartsOf c before e × (f ≢ encoder_memory) × IsEncoderCause e f
-IsPlanCause c before fails (World f x) =
-    (e : EncoderView) × IsEncoderOf c before e × (f ≢ world_memory) × (IsWorldMemory e f ⊎ IsComponentWorldCause e f)
-    × IfOk x (IsExplanation e f)
-IsPlanCause c before fails (Plan f) =
-    (e : EncoderView) × (w : ComponentWorldView) × IsEncoderOf c before e × IsWorldOf plain_options e w × IsFirstFault w f
+IsPlanCause c before fails (World x) =
+    (e : EncoderView) × IsEncoderOf c before e × (x.fault ≢ world_memory) × (IsWorldMemory e x.fault ⊎ IsComponentWorldCause e x.fault)
+    × IsExplanation e x.fault x.place
+IsPlanCause c before fails (Plan x) =
+    (e : EncoderView) × (w : ComponentWorldView) × IsEncoderOf c before e × IsWorldOf plain_options e w
+    × (first : IsFirstFault w x.fault) × (option_map plan_place_view x.place ≡ Some first.at.0)
 IsPlanCause c before fails (Ways f) = (w : ComponentWorldView) × IsPlanned c before w × (f ≢ gc_memory) × IsWaysFault w f
-IsPlanCause c before fails (CannotMake path) = ⊥
-IsPlanCause c before fails (CannotWrite path) = ⊥
+IsPlanCause c before fails (CannotMake path p) = ⊥
+IsPlanCause c before fails (CannotWrite path p) = ⊥
 IsPlanCause c before fails Output = ⊥
 
 -- why a command could not be run; before all its files are written nothing is printed
 abbrev pub IsRunCause : CommandView → StoreChange → (Printing → Type 0) → ProgramFault → Type 0
-IsRunCause c files out (CannotMake path) = IsUnmade c files path.now × out nothing
-IsRunCause c files out (CannotWrite path) = IsUnwritten c files (string_bytes path) × out nothing
+IsRunCause c files out (CannotMake path p) = IsUnmade c files path.now p × out nothing
+IsRunCause c files out (CannotWrite path p) = IsUnwritten c files (string_bytes path) p × out nothing
 IsRunCause c files out Output = (world : ComponentWorldView) × IsWritten c files world × out failed
 IsRunCause c files out f = IsPlanCause c files.before files.IsFailedRead f × (files.after ≡ files.before) × out nothing
 
--- the command did its work: all its files are written, and then what it asks for is printed
-abbrev pub EndsWell : CommandView → StoreChange → (Printing → Type 0) → Type 0
-EndsWell c files out =
+-- the command did its work: all its files are written, and then what it asks for is printed; and its warnings are these
+abbrev pub EndsWell : CommandView → StoreChange → (Printing → Type 0) → List ℕ → Type 0
+EndsWell c files out warnings =
     (world : ComponentWorldView) × (text : List ℕ) × IsWritten c files world × IsPrintedText c world text × out (printed text)
+    × (warnings ≡ warnings_text c world)
 
--- what is printed of a fault: its text, and under it its lines, or that there was no memory for them; or that there was none
--- for the text
+-- what is printed of a fault: its text, and under it its lines; or that there was no memory for them
 abbrev pub IsPrintedOf : ProgramFault → List ℕ → Type 0
-IsPrintedOf fault text =
-    (text ≡ program_fault_text fault ++ fault_lines fault)
-    ⊎ ((fault_lines fault ≢ []) × (text ≡ program_fault_text fault ++ unplaced_line))
-    ⊎ (NeedsText fault × (text ≡ memory_text))
+IsPrintedOf fault text = (text ≡ program_fault_text fault ++ fault_lines fault) ⊎ (NeedsText fault × (text ≡ memory_text))
 
 -- a fault is printed in a line, and under it the lines that say what it is about
 abbrev pub IsReported : ProgramFault → (Printing → Type 0) → ℕ → Type 0
@@ -367,10 +391,10 @@ abbrev pub PrintsAsked : List ℕ → (Printing → Type 0) → (Printing → Ty
 PrintsAsked text out err status =
     (out (printed text) × err nothing × (status ≡ success)) ⊎ (out failed × Prints (fault_line unprinted_text) failure err status)
 
--- a command did its work, or could not be run, and then its fault is printed to the other output
+-- a command did its work, and its warnings are printed to the other output; or it could not be run, and its fault is
 abbrev pub CommandEnds : CommandView → StoreChange → (Printing → Type 0) → (Printing → Type 0) → ℕ → Type 0
 CommandEnds c files out err status =
-    (EndsWell c files out × err nothing × (status ≡ success))
+    ((warnings : List ℕ) × EndsWell c files out warnings × AreWarned warnings err × (status ≡ success))
     ⊎ ((fault : ProgramFault) × IsRunCause c files out fault × IsReportedAs c.json fault err status)
 
 -- there is no command: what is asked for is printed; or what is wrong, and the usage text, to the other output

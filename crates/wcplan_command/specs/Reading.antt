@@ -181,6 +181,10 @@ starts_with_hyphen (c ∷ cs) = c == hyphen
 abbrev pub begins_option : List ℕ → Bool
 begins_option argument = starts_with_hyphen argument && not (bytes_eq argument (codes "-"))
 
+-- an option comes where the key of `--why` should be
+abbrev pub is_no_key : List ℕ → List ℕ → Bool
+is_no_key option argument = bytes_eq option (codes "--why") && begins_option argument
+
 -- the next argument
 abbrev pub take_free : CommandView → DraftView → List ℕ → Reading (CommandView × DraftView)
 take_free c d argument =
@@ -189,7 +193,8 @@ take_free c d argument =
 
 abbrev pub take_pending : CommandView → DraftView → List ℕ → Option (List ℕ) → Reading (CommandView × DraftView)
 take_pending c d argument None = take_free c d argument
-take_pending c d argument (Some option) = with_draft (with_pending d None) (add_value c option argument)
+take_pending c d argument (Some option) =
+    cond (is_no_key option argument) (Err (wrong (missing_value option))) (with_draft (with_pending d None) (add_value c option argument))
 
 abbrev pub take_up : CommandView → DraftView → List ℕ → Reading (CommandView × DraftView)
 take_up c d argument = cond d.is_ended (with_command c (add_path d argument)) (take_pending c d argument d.pending)

@@ -3,7 +3,7 @@
 ghost use Rattle.std.specs.Prelude.{◌≡◌, IfErr, OnOk, None, Some, false, filter, is_some, length, map, string_bytes, true};
 ghost use Rattle.std.specs.Option.{option_map};
 ghost use Rattle.wcplan_command.specs.Arguments.{IsRead, IsReadWithoutMemory, IsStopOf, command_view, option_view};
-ghost use Rattle.wcplan_command.specs.Reading.{AsksMemory, HasMoreOptions, HasMorePaths, KeepsMore, adapter_file_of, add_option, add_path, add_value, are_inputs_apart, draft_view, file_name, finish, fitting, flag_of, is_standard, module_valued_of, pair_of, plain_command, read_arguments, stem, take_flag, take_option, take_up, take_valued, takes_module_value, takes_value, valued_of};
+ghost use Rattle.wcplan_command.specs.Reading.{AsksMemory, HasMoreOptions, HasMorePaths, KeepsMore, adapter_file_of, add_option, add_path, add_value, are_inputs_apart, begins_option, draft_view, file_name, finish, fitting, flag_of, is_no_key, is_standard, module_valued_of, pair_of, plain_command, read_arguments, stem, take_flag, take_option, take_up, take_valued, takes_module_value, takes_value, valued_of};
 ghost use Rattle.wcplan_command.specs.declared.arguments.NoCommand.TheVariants.{Memory};
 
 use std::alloc::{AllocFailed, Global};
@@ -111,8 +111,8 @@ struct Draft<'a> {
 /// `MAIN.wasm` in this order, of which `WORLD` may be left out, and options before, between and after them. `--adapt
 /// NAME=FILE`, `--export KEY` and `--adapter-export NAME=KEY` may come several times, `--reject-legacy-names`,
 /// `--realloc-via-memory-grow`, `--task-hook NAME`, `--json`, `--why KEY`, `--dot` and `--out DIR` once. What comes
-/// after the name of an option that has a value is its value, whatever it is; in one argument there is a `=` between
-/// them, as in `--out=DIR`. NAME of an adapter ends at the first `=`. Without a `=` the value of `--adapt` is FILE, and
+/// after the name of an option that has a value is its value, whatever it is, but that no option is the key of `--why`; in
+/// one argument there is a `=` between them, as in `--out=DIR`. NAME of an adapter ends at the first `=`. Without a `=` the value of `--adapt` is FILE, and
 /// NAME is the name of this file up to its first `.`. `--` is not an argument, and says that those after it are no
 /// options. No option is `-` alone, nor what begins with another character. `--dot` comes with `--why`, and without
 /// `--json`. Of `WORLDS.json`, `MAIN.wasm` and the FILEs one is `-` at most, which is standard input.
@@ -178,6 +178,9 @@ fn take_up<'a>(
         return add_path(draft, argument);
     }
     if let Some(option) = draft.pending {
+        if is_no_key(option, argument) {
+            return Err(NoCommand::Wrong(WrongArgument::MissingValue(option)));
+        }
         draft.pending = None;
         return add_value(command, option, argument);
     }
@@ -185,11 +188,25 @@ fn take_up<'a>(
         draft.is_ended = true;
         return Ok(());
     }
-    if argument.starts_with('-') && argument != "-" {
+    if begins_option(argument) {
         take_option(command, draft, argument)
     } else {
         add_path(draft, argument)
     }
+}
+
+/// Whether an argument begins as options do.
+fn begins_option(argument: &str) -> bool
+    ensures { result ≡ begins_option argument.now }
+{
+    argument.starts_with('-') && argument != "-"
+}
+
+/// Whether an option comes where the key of `--why` should be.
+fn is_no_key(option: &str, argument: &str) -> bool
+    ensures { result ≡ is_no_key option.now argument.now }
+{
+    option == "--why" && begins_option(argument)
 }
 
 /// Takes up an argument that is no option.

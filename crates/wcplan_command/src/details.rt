@@ -4,38 +4,43 @@ ghost use Rattle.std.specs.Prelude.{◌≡◌, ◌≢◌, ◌++◌, [], Some, If
 ghost use Rattle.std.specs.Option.{option_map};
 ghost use Rattle.wc_validate.specs.Explain.{an_export, an_import, difference_view, missing_export, missing_function, place_view, subject_view};
 ghost use Rattle.wc_gc.specs.TrimPlace.{place_text as trim_place_text};
+ghost use Rattle.wc_read.specs.Place.{read_place_text};
 ghost use Rattle.wc_validate.specs.Texts.{difference_text};
-ghost use Rattle.wcplan_command.specs.Details.{detail_line, fault_lines, function_line, lines_or_memory, module_place_lines, named_part, nearest_line, nearest_text, part_line, part_lines, place_lines, plan_fault_lines, subject_line, types_line, unplaced_line, world_fault_lines};
+ghost use Rattle.wcplan_command.specs.Fault.{program_fault_text};
+ghost use Rattle.wcplan_command.specs.Details.{adapters_line, detail_line, fault_lines, function_line, importer_line, likeness_line, likeness_text, named_part, nearest_line, nearest_text, part_line, part_lines, place_lines, plan_fault_lines, plan_place_lines, read_lines, subject_line, types_line, world_fault_lines};
 
 use crate::explained::Explained;
 use crate::explained_part::{ExplainedPart, PartPath};
 use crate::fault::ProgramFault;
 use std::alloc::{AllocError, Global};
 use wc_gc::TrimPlace;
-use wc_json::{escaped, quoted};
-use wc_plan::PlanFault;
+use wc_json::{Likeness, escaped, quoted};
+use wc_plan::PlanPlace;
+use wc_read::ReadPlace;
 use wc_validate::{Place, Subject, TypeDifference};
 use wc_world::ModulePlace;
 
-/// What is printed under the text of a fault where there is no memory for what it is about.
-pub(crate) const UNPLACED: &str = "\n  out of memory for what it is about";
-
 impl ProgramFault<'_> {
     /// The lines that the program prints under the text of the fault, each after the end of the line before and two
-    /// blanks, and without the last end; the empty text where there are none. For worlds that are not well-formed, if it is
-    /// known what the fault is about, it is `PATH "NAME"` or `PATH`: a world, an interface, a type or a package, by its path
-    /// in the JSON text and its name, if it has one. For a component without a world, if this is known:
+    /// blanks, and without the last end; the empty text where there are none. For worlds that are not text or not JSON it is what these
+    /// look like, if that is known, and what prints JSON of it. For a name of no adapter, and for a key that asks about no
+    /// import, it is `is there: NAME`, if one is the same but for its version or for the case of letters. For a main module that can't be
+    /// read it is where its bytes stop to be right, as `byte 57, in the import section`. For worlds that are not well-formed it is
+    /// `PATH "NAME"` or `PATH`: a world, an interface, a type or a package, by its path in the JSON text and its name, if it
+    /// has one. For a component without a world:
     ///
+    /// - where reading a module stopped, as `byte 57, in the import section`;
     /// - a section of an adapter, or the body of a function, for a fault of trimming;
     /// - else the import or the export, as `import "MODULE" "NAME"`, `export "NAME"`, `missing "INTERFACE" "NAME"` or
     ///   `missing export "NAME"`;
     /// - where two core types differ, `wanted TYPE, found TYPE`;
     /// - where a name isn't there, and one is that is the same but for its version or for the case of letters,
-    ///   `is there: NAME`.
+    ///   `is there: NAME`;
+    /// - where the main module imports of a module that is unknown, `adapters:` and their names, or that none is given.
     ///
-    /// For a component's world without a plan it is `function "NAME"`. Texts from outside are escaped
-    /// (`wc_json::escaped`), and so are quotes in names between quotes (`wc_json::quoted`). Where there was no memory for
-    /// what the fault is about, the line says that.
+    /// For a component's world without a plan it is `function "NAME"`, and then `imported by main` or `imported by adapter
+    /// "NAME"`. Texts from outside are escaped (`wc_json::escaped`), and so are quotes in names between quotes
+    /// (`wc_json::quoted`).
     ///
     /// # Errors
     ///
@@ -45,27 +50,73 @@ impl ProgramFault<'_> {
         ensures lines { IsErr result → fault_lines self.now ≢ [] }
     {
         match self {
-            ProgramFault::Resolve(_, explained) => resolve_lines(alloc, explained),
-            ProgramFault::World(_, explained) => world_lines(alloc, explained),
-            ProgramFault::Plan(fault) => plan_lines(alloc, fault),
+            ProgramFault::NotText(likeness) => likeness_line(alloc, *likeness),
+            ProgramFault::NotJson(_, likeness) => likeness_line(alloc, *likeness),
+            ProgramFault::NoAdapter(_, _, nearest) => nearest_line(alloc, nearest),
+            ProgramFault::NoImport(_, _, nearest) => nearest_line(alloc, nearest),
+            ProgramFault::Resolve(refused) => resolve_lines(alloc, &refused.place),
+            ProgramFault::Dedupe(refused) => read_lines(alloc, refused.place),
+            ProgramFault::World(refused) => world_lines(alloc, &refused.place),
+            ProgramFault::Plan(refused) => plan_lines(alloc, &refused.place),
             _ => Ok(String::new(alloc)),
         }
     }
+
+    /// The text of the fault, and its lines under it.
+    ///
+    /// # Errors
+    ///
+    /// `AllocError`: an allocation failed.
+    pub(crate) fn text_and_details(&self, alloc: Global) -> Result<String, AllocError>
+        ensures { IfOk result (λ text. string_bytes text
+            ≡ program_fault_text self.now ++ fault_lines self.now) }
+    {
+        let text = self.text(alloc)?;
+        let lines = self.details(alloc)?;
+        format!(in alloc; "{text}{lines}")
+    }
+}
+
+/// The line of what worlds look like that are not text or not JSON.
+fn likeness_line(alloc: Global, likeness: Option<Likeness>) -> Result<String, AllocError>
+    ensures text { IfOk result (λ text. string_bytes text ≡ likeness_line likeness) }
+    ensures lines { IsErr result → likeness_line likeness ≢ [] }
+{
+    match likeness {
+        Some(likeness) => line_of(alloc, likeness_text(likeness)),
+        None => Ok(String::new(alloc)),
+    }
+}
+
+/// What worlds look like that are not text or not JSON, and what prints JSON of them.
+fn likeness_text(likeness: Likeness) -> &'static str
+    ensures { result.now ≡ likeness_text likeness }
+{
+    match likeness {
+        Likeness::WebAssembly => {
+            "it is WebAssembly: `wasm-tools component wit --json FILE` prints its worlds as JSON"
+        }
+        Likeness::ByteOrderMark => "it begins with a byte order mark, which JSON has not",
+        Likeness::Empty => "it is empty",
+        Likeness::Wit => "it is WIT: `wasm-tools component wit --json FILE` prints it as JSON",
+    }
+}
+
+/// A line under the text of a fault.
+fn line_of(alloc: Global, text: &str) -> Result<String, AllocError>
+    ensures { IfOk result (λ line. string_bytes line ≡ codes "\n  " ++ text.now) }
+{
+    format!(in alloc; "\n  {text}")
 }
 
 /// The lines of a fault of worlds that are not well-formed.
-fn resolve_lines(
-    alloc: Global,
-    explained: &Result<Option<ExplainedPart>, AllocError>,
-) -> Result<String, AllocError>
-    ensures text { IfOk result (λ text. string_bytes text
-        ≡ lines_or_memory part_lines explained.now) }
-    ensures lines { IsErr result → lines_or_memory part_lines explained.now ≢ [] }
+fn resolve_lines(alloc: Global, part: &Option<ExplainedPart>) -> Result<String, AllocError>
+    ensures text { IfOk result (λ text. string_bytes text ≡ part_lines part.now) }
+    ensures lines { IsErr result → part_lines part.now ≢ [] }
 {
-    match explained {
-        Ok(Some(explained)) => part_line(alloc, explained),
-        Ok(None) => Ok(String::new(alloc)),
-        Err(AllocError) => unplaced_line(alloc),
+    match part {
+        Some(part) => part_line(alloc, part),
+        None => Ok(String::new(alloc)),
     }
 }
 
@@ -89,50 +140,59 @@ fn named_line(alloc: Global, path: PartPath, name: &str) -> Result<String, Alloc
     format!(in alloc; "\n  {path} {name}")
 }
 
-/// The lines of a fault of a component's world.
-#[tactic(auto, using(crate::proofs::DetailsLemmas::world_some))]
-fn world_lines(
-    alloc: Global,
-    explained: &Result<Option<Explained>, AllocError>,
-) -> Result<String, AllocError>
-    ensures text { IfOk result (λ text. string_bytes text
-        ≡ lines_or_memory world_fault_lines explained.now) }
-    ensures lines { IsErr result → lines_or_memory world_fault_lines explained.now ≢ [] }
+/// The line of where reading a module stopped, if it did.
+fn read_lines(alloc: Global, place: Option<ReadPlace>) -> Result<String, AllocError>
+    ensures text { IfOk result (λ text. string_bytes text ≡ read_lines place) }
+    ensures lines { IsErr result → read_lines place ≢ [] }
 {
-    match explained {
-        Ok(Some(explained)) => explained_lines(alloc, explained),
-        Ok(None) => Ok(String::new(alloc)),
-        Err(AllocError) => unplaced_line(alloc),
+    match place {
+        Some(place) => bytes_line(alloc, place),
+        None => Ok(String::new(alloc)),
     }
 }
 
-/// The line where there was no memory for what a fault is about.
-fn unplaced_line(alloc: Global) -> Result<String, AllocError>
-    ensures { IfOk result (λ text. string_bytes text ≡ unplaced_line) }
+/// The lines of a fault of a component's world.
+fn world_lines(alloc: Global, explained: &Option<Explained>) -> Result<String, AllocError>
+    ensures text { IfOk result (λ text. string_bytes text ≡ world_fault_lines explained.now) }
+    ensures lines { IsErr result → world_fault_lines explained.now ≢ [] }
 {
-    String::from_str(alloc, UNPLACED)
+    match explained {
+        Some(explained) => explained_lines(alloc, explained),
+        None => Ok(String::new(alloc)),
+    }
 }
 
 /// The lines of what a fault is about.
+#[tactic(auto, using(crate::proofs::DetailsLemmas::placed, crate::proofs::DetailsLemmas::trimmed))]
 fn explained_lines(alloc: Global, explained: &Explained) -> Result<String, AllocError>
-    ensures { IfOk result (λ text. string_bytes text ≡ module_place_lines
-        explained.now.place.place (option_map string_bytes explained.now.nearest)) }
+    ensures text { IfOk result (λ text. string_bytes text
+        ≡ world_fault_lines (Some explained.now)) }
+    ensures lines { IsErr result → world_fault_lines (Some explained.now) ≢ [] }
 {
     match &explained.place.place {
-        ModulePlace::Validation(place) => place_lines(alloc, place, &explained.nearest),
+        ModulePlace::Validation(place) => {
+            place_lines(alloc, place, &explained.nearest, &explained.adapters)
+        }
         ModulePlace::Trim(place) => trim_line(alloc, place),
+        ModulePlace::PageSizes { .. } => Ok(String::new(alloc)),
     }
 }
 
 /// The lines of an import or an export.
-fn place_lines(alloc: Global, place: &Place, nearest: &Option<String>) -> Result<String, AllocError>
-    ensures { IfOk result (λ text. string_bytes text
-        ≡ place_lines (place_view place.now) (option_map string_bytes nearest.now)) }
+fn place_lines(
+    alloc: Global,
+    place: &Place,
+    nearest: &Option<String>,
+    adapters: &Option<String>,
+) -> Result<String, AllocError>
+    ensures { IfOk result (λ text. string_bytes text ≡ place_lines (place_view place.now)
+        (option_map string_bytes nearest.now) (option_map string_bytes adapters.now)) }
 {
     let subject = subject_line(alloc, &place.subject)?;
     let types = types_line(alloc, &place.types)?;
     let nearest = nearest_line(alloc, nearest)?;
-    format!(in alloc; "{subject}{types}{nearest}")
+    let adapters = adapters_line(alloc, adapters)?;
+    format!(in alloc; "{subject}{types}{nearest}{adapters}")
 }
 
 /// The line of a section or of the body of a function.
@@ -156,7 +216,16 @@ fn subject_line(alloc: Global, subject: &Subject) -> Result<String, AllocError>
         Subject::Export(name) => export_line(alloc, name),
         Subject::MissingFunction { module_name, name } => missing_line(alloc, module_name, name),
         Subject::MissingExport(name) => missing_export_line(alloc, name),
+        Subject::Bytes(place) => bytes_line(alloc, *place),
     }
+}
+
+/// The line of where reading a module stopped.
+fn bytes_line(alloc: Global, place: ReadPlace) -> Result<String, AllocError>
+    ensures { IfOk result (λ text. string_bytes text ≡ detail_line (read_place_text place)) }
+{
+    let text = format!(in alloc; "{place}")?;
+    detail_line(alloc, &text)
 }
 
 /// The line of an import.
@@ -215,10 +284,11 @@ fn types_line(alloc: Global, types: &Option<TypeDifference>) -> Result<String, A
     }
 }
 
-/// The line of a name that is there, if there is one.
+/// The line of a name that is there in place of one that isn't, if there is one.
 fn nearest_line(alloc: Global, nearest: &Option<String>) -> Result<String, AllocError>
-    ensures { IfOk result (λ text. string_bytes text
+    ensures text { IfOk result (λ text. string_bytes text
         ≡ nearest_line (option_map string_bytes nearest.now)) }
+    ensures lines { IsErr result → nearest_line (option_map string_bytes nearest.now) ≢ [] }
 {
     match nearest {
         Some(name) => near_line(alloc, name),
@@ -226,25 +296,35 @@ fn nearest_line(alloc: Global, nearest: &Option<String>) -> Result<String, Alloc
     }
 }
 
-/// The lines of a fault of a plan.
-fn plan_lines(alloc: Global, fault: &PlanFault) -> Result<String, AllocError>
-    ensures text { IfOk result (λ text. string_bytes text ≡ plan_fault_lines fault.now) }
-    ensures lines { IsErr result → plan_fault_lines fault.now ≢ [] }
+/// The line of what adapters there are, if that is said.
+fn adapters_line(alloc: Global, adapters: &Option<String>) -> Result<String, AllocError>
+    ensures { IfOk result (λ text. string_bytes text
+        ≡ adapters_line (option_map string_bytes adapters.now)) }
 {
-    match fault {
-        PlanFault::NoMemory(name) => function_line(alloc, name),
-        PlanFault::NoRealloc(name) => function_line(alloc, name),
-        PlanFault::NoLowering(name) => function_line(alloc, name),
-        _ => Ok(String::new(alloc)),
+    match adapters {
+        Some(text) => detail_line(alloc, text),
+        None => Ok(String::new(alloc)),
     }
 }
 
-/// The line of a name that is there.
-fn near_line(alloc: Global, name: &str) -> Result<String, AllocError>
-    ensures { IfOk result (λ text. string_bytes text ≡ detail_line (nearest_text name.now)) }
+/// The lines of a fault of a plan.
+fn plan_lines(alloc: Global, place: &Option<PlanPlace>) -> Result<String, AllocError>
+    ensures text { IfOk result (λ text. string_bytes text ≡ plan_fault_lines place.now) }
+    ensures lines { IsErr result → plan_fault_lines place.now ≢ [] }
 {
-    let text = format!(in alloc; "is there: {name}")?;
-    detail_line(alloc, &text)
+    match place {
+        Some(place) => plan_place_lines(alloc, place),
+        None => Ok(String::new(alloc)),
+    }
+}
+
+/// The lines of a function that a module imports.
+fn plan_place_lines(alloc: Global, place: &PlanPlace) -> Result<String, AllocError>
+    ensures { IfOk result (λ text. string_bytes text ≡ plan_place_lines place.now) }
+{
+    let function = function_line(alloc, &place.name)?;
+    let importer = importer_line(alloc, &place.adapter)?;
+    format!(in alloc; "{function}{importer}")
 }
 
 /// The line of a function.
@@ -253,6 +333,33 @@ fn function_line(alloc: Global, name: &str) -> Result<String, AllocError>
 {
     let name = quoted(alloc, name)?;
     format!(in alloc; "\n  function {name}")
+}
+
+/// The line of the module that imports a function: the main module, or the adapter of a name.
+fn importer_line(alloc: Global, adapter: &Option<String>) -> Result<String, AllocError>
+    ensures { IfOk result (λ text. string_bytes text
+        ≡ importer_line (option_map string_bytes adapter.now)) }
+{
+    match adapter {
+        Some(name) => adapter_line(alloc, name),
+        None => String::from_str(alloc, "\n  imported by main"),
+    }
+}
+
+/// The line of an adapter that imports a function.
+fn adapter_line(alloc: Global, name: &str) -> Result<String, AllocError>
+    ensures { IfOk result (λ text. string_bytes text ≡ importer_line (Some name.now)) }
+{
+    let name = quoted(alloc, name)?;
+    format!(in alloc; "\n  imported by adapter {name}")
+}
+
+/// The line of a name that is there.
+fn near_line(alloc: Global, name: &str) -> Result<String, AllocError>
+    ensures { IfOk result (λ text. string_bytes text ≡ detail_line (nearest_text name.now)) }
+{
+    let text = format!(in alloc; "is there: {name}")?;
+    detail_line(alloc, &text)
 }
 
 /// A line under the text of a fault, escaped.

@@ -14,14 +14,12 @@ ghost use Rattle.wcplan_command.specs.Private.Runs.{AreWorldsOf, IsMeaningCause,
 use crate::arguments::{Command, is_standard};
 use crate::explained_part::resolve_fault;
 use crate::fault::ProgramFault;
-use crate::json_place::json_end;
 use crate::listing::world_listing;
-use crate::repeated_members::repeated_member;
 use std::alloc::{AllocError, Global};
 use wc_encoder::Metadata;
-use wc_json::{Document, JsonFault, document_from_json};
+use wc_json::{Document, JsonFault, document_from_json, json_end, looks_like, repeated_member};
 use wc_maps::Seed;
-use wc_program::{FileStore, ReadProblem};
+use wc_program::{FileProblem, FileStore};
 use wc_resolve::{Resolve, WorldId};
 use wc_selection::{RequestFault, select_world, whole_world};
 
@@ -40,7 +38,7 @@ pub(crate) fn read_worlds<'a, F: FileStore>(
     let bytes = read_file(command.worlds, files)?;
     match str::from_utf8(&bytes) {
         Ok(text) => worlds_in(alloc, seed, command, text),
-        Err(_) => Err(ProgramFault::NotText),
+        Err(_) => Err(ProgramFault::NotText(looks_like(&bytes))),
     }
 }
 
@@ -59,7 +57,7 @@ fn worlds_in<'a>(
     let world = meant_world(alloc, &document, command.world)?;
     match Resolve::build_explained(alloc, document.parts) {
         Ok(resolve) => Ok(Metadata { resolve, world }),
-        Err(refused) => Err(resolve_fault(alloc, &refused)),
+        Err(refused) => Err(resolve_fault(alloc, refused)),
     }
 }
 
@@ -159,7 +157,7 @@ fn not_json<'a>(alloc: Global, text: &str) -> ProgramFault<'a>
     ensures { IsNotJson text.now result }
 {
     match json_end(alloc, text) {
-        Ok(at) => ProgramFault::NotJson(at),
+        Ok(at) => ProgramFault::NotJson(at, looks_like(text.as_bytes())),
         Err(AllocError) => ProgramFault::Memory,
     }
 }
@@ -184,7 +182,7 @@ pub(crate) fn read_file<'a, F: FileStore>(
 {
     match wc_program::read_file(files, input_path(path)) {
         Ok(bytes) => Ok(bytes),
-        Err(ReadProblem::Memory) => Err(ProgramFault::Memory),
+        Err(FileProblem::Memory) => Err(ProgramFault::Memory),
         Err(problem) => Err(ProgramFault::CannotRead(path, problem)),
     }
 }

@@ -1,16 +1,18 @@
 //! What a fault of a component's world is about.
 
 ghost use Rattle.std.specs.Prelude.{IfOk};
-ghost use Rattle.wc_world.specs.Places.{IsWorldPlace};
-ghost use Rattle.wc_world.specs.Refused.{IsRefusedAt};
+ghost use Rattle.wc_world.specs.Refused.{IsPlaceOrNone, IsRefusedAt};
 ghost use Rattle.wcplan_command.specs.Details.{IsExplanation};
-ghost use Rattle.wcplan_command.specs.Private.Runs.{IsOfWorld};
+ghost use Rattle.wcplan_command.specs.Private.Runs.{IsOfPlan, IsOfWorld};
 
+use crate::adapter_names::given_adapters;
 use crate::fault::ProgramFault;
 use crate::nearest::near_place;
 use std::alloc::{AllocError, Global};
 use wc_encoder::ComponentEncoder;
-use wc_world::{RefusedWorld, WorldFault, WorldPlace};
+use wc_plan::{PlanFault, PlanPlace};
+use wc_texts::Refused;
+use wc_world::{WorldFault, WorldPlace};
 
 /// What a fault of a component's world is about.
 #[derive(Debug, Drop)]
@@ -20,33 +22,31 @@ pub struct Explained {
     /// The first name that is there in place of one that isn't, and is the same but for its version or for the case of
     /// letters: of an interface, of what the world imports, or of a function of an interface. `None` where there is none.
     pub nearest: Option<String>,
+    /// What adapters there are, or that none is given, where the main module imports of a module that is unknown.
+    pub adapters: Option<String>,
 }
 
 /// The fault of a command whose component has no world, for what `ComponentWorld::new_explained` answered: with what it is
-/// about, or that there was no memory for this.
+/// about; `Memory` where there is no memory for this.
 pub(crate) fn world_fault<'a>(
     alloc: Global,
     encoder: &ComponentEncoder,
-    refused: RefusedWorld,
+    refused: Refused<WorldFault, WorldPlace>,
 ) -> ProgramFault<'a>
     requires { IsRefusedAt encoder.now refused }
     ensures { IsOfWorld encoder.now refused.fault result }
 {
-    let RefusedWorld { fault, place } = refused;
+    let Refused { fault, place } = refused;
     if let WorldFault::Memory = fault {
         return ProgramFault::Memory;
     }
-    match place {
-        Ok(Some(place)) => {
-            let explained = with_nearest(alloc, encoder, &fault, place);
-            ProgramFault::World(fault, explained)
-        }
-        Ok(None) => ProgramFault::World(fault, Ok(None)),
-        Err(AllocError) => ProgramFault::World(fault, Err(AllocError)),
+    match with_nearest(alloc, encoder, &fault, place) {
+        Ok(place) => ProgramFault::World(Refused { fault, place }),
+        Err(AllocError) => ProgramFault::Memory,
     }
 }
 
-/// A place, with what is there in place of a name that isn't.
+/// What a fault is about, by its place.
 ///
 /// # Errors
 ///
@@ -55,11 +55,31 @@ fn with_nearest(
     alloc: Global,
     encoder: &ComponentEncoder,
     fault: &WorldFault,
-    place: WorldPlace,
+    place: Option<WorldPlace>,
 ) -> Result<Option<Explained>, AllocError>
-    requires { IsWorldPlace encoder.now fault.now place }
+    requires { IsPlaceOrNone encoder.now fault.now place }
     ensures { IfOk result (IsExplanation encoder.now fault.now) }
 {
-    let nearest = near_place(alloc, encoder, fault, &place.place)?;
-    Ok(Some(Explained { place, nearest }))
+    match place {
+        Some(place) => {
+            let nearest = near_place(alloc, encoder, fault, &place.place)?;
+            let adapters = given_adapters(alloc, encoder, fault)?;
+            Ok(Some(Explained {
+                place,
+                nearest,
+                adapters,
+            }))
+        }
+        None => Ok(None),
+    }
+}
+
+/// The fault of a command whose component's world has no plan, for what `plan_explained` answered.
+pub(crate) fn plan_fault<'a>(refused: Refused<PlanFault, PlanPlace>) -> ProgramFault<'a>
+    ensures { IsOfPlan refused result }
+{
+    match refused.fault {
+        PlanFault::Memory => ProgramFault::Memory,
+        _ => ProgramFault::Plan(refused),
+    }
 }

@@ -11,6 +11,7 @@ use crate::fault::ProgramFault;
 use std::alloc::{AllocError, Global};
 use std::fmt;
 use wc_resolve::{PackageName, Part, Parts, RefusedParts, ResolveFault};
+use wc_texts::Refused;
 
 /// The part that a fault of worlds is about: a world, an interface, a type or a package.
 #[derive(Debug, Drop)]
@@ -57,16 +58,16 @@ impl fmt::Display for PartPath {
     }
 }
 
-/// The fault of the program for parts that `Resolve::build_explained` refused: with what it is about, or that there was no
-/// memory for this.
-pub(crate) fn resolve_fault<'a>(alloc: Global, refused: &RefusedParts) -> ProgramFault<'a>
-    ensures { IsOfRefused (parts_view refused.now.parts) refused.now.refusal result }
+/// The fault of the program for parts that `Resolve::build_explained` refused: with what it is about; `Memory` where there
+/// is no memory for its name.
+pub(crate) fn resolve_fault<'a>(alloc: Global, refused: RefusedParts) -> ProgramFault<'a>
+    ensures { IsOfRefused (parts_view refused.parts) refused.refusal result }
 {
-    let refusal = refused.refusal;
-    fault_about(alloc, &refused.parts, refusal.fault, refusal.place)
+    let RefusedParts { parts, refusal } = refused;
+    fault_about(alloc, &parts, refusal.fault, refusal.place)
 }
 
-/// The fault of the program for this one of parts, with what it is about, or that there was no memory for this.
+/// The fault of the program for this one of parts, with what it is about.
 fn fault_about<'a>(
     alloc: Global,
     parts: &Parts,
@@ -79,8 +80,8 @@ fn fault_about<'a>(
         return ProgramFault::Memory;
     }
     match explained(alloc, parts, place) {
-        Ok(explained) => ProgramFault::Resolve(fault, Ok(explained)),
-        Err(AllocError) => ProgramFault::Resolve(fault, Err(AllocError)),
+        Ok(place) => ProgramFault::Resolve(Refused { fault, place }),
+        Err(AllocError) => ProgramFault::Memory,
     }
 }
 

@@ -1,71 +1,95 @@
 //! Why the program could not do what its arguments say.
 
-ghost use Rattle.std.specs.Prelude.{◌≡◌, ◌++◌, IfNone, IfOk, IfSome, Some, codes, string_bytes};
+ghost use Rattle.std.specs.Prelude.{◌≡◌, ◌++◌, IfNone, IfOk, IfSome, codes, string_bytes};
 ghost use Rattle.std.specs.Option.{option_map};
 ghost use Rattle.wc_json.specs.Escape.{escaped};
+ghost use Rattle.wc_json.specs.Fault.{json_fault_text};
 ghost use Rattle.wc_program.specs.Files.{problem_text};
+ghost use Rattle.wc_selection.specs.Fault.{quoted};
 ghost use Rattle.wc_selection.specs.Texts.{text_of};
 ghost use Rattle.wc_texts.specs.FaultTexts.{carried_text};
+ghost use Rattle.wc_texts.specs.Pieces.{IsPut};
 ghost use Rattle.wcplan_command.specs.Details.{fault_lines};
-ghost use Rattle.wcplan_command.specs.Fault.{NeedsText, no_export_text, no_world_text, page_size_text, program_fault_text, repeated_text, selection_fault_text, world_text};
+ghost use Rattle.wcplan_command.specs.Fault.{NeedsText, no_adapter_text, no_export_text, no_import_text, no_world_text, page_size_text, program_fault_text, repeated_text, selection_fault_text, world_text};
 
 use crate::explained::Explained;
 use crate::explained_part::ExplainedPart;
 use std::alloc::{AllocError, AllocFailed, Global};
-use std::error::Error as StdError;
-use std::fmt;
+use thiserror::Error;
 use wc_dedupe::DedupeFault;
 use wc_encoder::EncoderFault;
 use wc_gc::GcFault;
-use wc_json::{JsonFault, escaped};
-use wc_plan::PlanFault;
-use wc_program::{OUT_OF_MEMORY, ReadProblem, problem_text};
+use wc_json::{JsonFault, Likeness, escaped};
+use wc_plan::{PlanFault, PlanPlace};
+use wc_program::{FileProblem, Text, TextBetween, problem_text};
+use wc_read::ReadPlace;
 use wc_resolve::ResolveFault;
 use wc_selection::RequestFault;
-use wc_texts::{FaultText, PutFailed, text_of};
+use wc_texts::{FaultText, OUT_OF_MEMORY, Pieces, PutFailed, Refused, text_of};
 use wc_world::WorldFault;
 
 /// Why the worlds don't have what the arguments name, or why adapters or their files can't be named so. `run_command`
 /// says which of several causes is named; `Memory` may come in place of any.
-#[derive(Clone, Copy, Debug, PartialEq, Eq)]
+#[derive(Clone, Copy, Debug, PartialEq, Eq, Error)]
 pub enum SelectionFault<'a> {
     /// An allocation failed.
+    #[error("out of memory")]
     Memory,
     /// The world or a key is not there, or several are, or a key is given twice. It carries why, never `Memory`.
+    #[error("{0}")]
     Request(RequestFault<'a>),
     /// Two adapters have this name.
+    #[error("adapter `{0}` twice")]
     RepeatedAdapter(&'a str),
     /// No adapter has the name of one that has to export something.
+    #[error("no adapter `{0}`")]
     UnknownAdapter(&'a str),
     /// The path of the directory that files are written to is empty.
+    #[error("empty path of --out")]
     EmptyDirectory,
     /// The adapter of this name would be written to a file, and no file has this name.
+    #[error("adapter `{0}` is no file's name")]
     FileName(&'a str),
     /// This adapter would be written to the file of the main module.
+    #[error("adapter `{0}` in the main module's file")]
     MainFile(&'a str),
 }
 
-impl fmt::Display for SelectionFault<'_> {
+impl FaultText for SelectionFault<'_> {
     ghost use Rattle.wcplan_command.specs.Fault.{selection_fault_text};
 
-    ghost output = { λ fault. Some (selection_fault_text fault) };
+    ghost text = { selection_fault_text };
 
-    fn fmt<W: fmt::Write>(&self, f: &mut fmt::Formatter<W>) -> fmt::Result {
+    fn put_pieces<P: Pieces>(&self, out: &mut P) -> Result<(), PutFailed> {
         match self {
-            SelectionFault::Memory => f.write_str("out of memory"),
-            SelectionFault::Request(fault) => write!(f, "{fault}"),
-            SelectionFault::RepeatedAdapter(name) => write!(f, "adapter `{name}` twice"),
-            SelectionFault::UnknownAdapter(name) => write!(f, "no adapter `{name}`"),
-            SelectionFault::EmptyDirectory => f.write_str("empty path of --out"),
-            SelectionFault::FileName(name) => write!(f, "adapter `{name}` is no file's name"),
+            SelectionFault::Memory => out.put_piece(OUT_OF_MEMORY),
+            SelectionFault::Request(fault) => fault.put_pieces(out),
+            SelectionFault::RepeatedAdapter(name) => put_named(out, "adapter `", name, "` twice"),
+            SelectionFault::UnknownAdapter(name) => put_named(out, "no adapter `", name, "`"),
+            SelectionFault::EmptyDirectory => out.put_piece("empty path of --out"),
+            SelectionFault::FileName(name) => {
+                put_named(out, "adapter `", name, "` is no file's name")
+            }
             SelectionFault::MainFile(name) => {
-                write!(f, "adapter `{name}` in the main module's file")
+                put_named(out, "adapter `", name, "` in the main module's file")
             }
         }
     }
 }
 
-impl StdError for SelectionFault<'_> {}
+/// Puts a name, with what is said of it before and after it.
+fn put_named<P: Pieces>(out: &mut P, before: &str, name: &str, after: &str) -> Result<(), PutFailed>
+    ensures { IsPut P.puts P.fails out.old out.new
+        (quoted before.now name.now after.now) result }
+{
+    let text = &Text(name);
+    TextBetween {
+        before,
+        text,
+        after,
+    }
+    .put_pieces(out)
+}
 
 impl From<AllocError> for SelectionFault<'_> {
     ghost use Rattle.wcplan_command.specs.declared.fault.SelectionFault.TheVariants.{Memory};
@@ -107,42 +131,49 @@ pub enum ProgramFault<'a> {
     /// An allocation failed.
     Memory,
     /// The file of this path could not be read, and why.
-    CannotRead(&'a str, ReadProblem),
-    /// The file of the worlds is not text.
-    NotText,
+    CannotRead(&'a str, FileProblem),
+    /// The file of the worlds is not text. It carries what the file looks like, if that is known.
+    NotText(Option<Likeness>),
     /// The file of the worlds is not JSON, or nests deeper than 128. It carries the byte at which the first token begins that
-    /// a JSON text can't have there, or where a comma is one too many; the length of a text that only ends early.
-    NotJson(usize),
+    /// a JSON text can't have there, or where a comma is one too many; the length of a text that only ends early; and what the
+    /// file looks like, if that is known.
+    NotJson(usize, Option<Likeness>),
     /// An object in the file of the worlds has two members of one name. It carries the path of the second; of several that of
     /// the first in the order of the text.
     RepeatedMember(String),
     /// The worlds could not be read. It carries why, a value that is wrong.
     Json(JsonFault),
-    /// The arguments name a world or an adapter that isn't there, or a key or an adapter twice, or files can't be named.
-    /// It carries why, never `Memory`, nor that a world or a key is unknown.
+    /// It can't be told which world or which key is named, or a key or an adapter is twice, or files can't be named.
+    /// It carries why, never `Memory`, nor that a world, an adapter or a key is unknown.
     Selection(SelectionFault<'a>),
+    /// No adapter has the name of one that has to export something. It carries what adapters there are, as a text, and the
+    /// first that the name differs from only in its version or in the case of letters.
+    NoAdapter(&'a str, String, Option<String>),
     /// No world has this name; without a name none has all others for parts. It carries what worlds there are, as a text.
     NoWorld(Option<&'a str>, String),
     /// The world has no export with this key. It carries what exports it has, as a text.
     NoExport(&'a str, String),
-    /// The worlds are not well-formed. It carries why, never `Memory`, and what that is about, if it is about a part, or that
-    /// there was no memory for this.
-    Resolve(ResolveFault, Result<Option<ExplainedPart>, AllocError>),
-    /// The imports of the main module could not be renamed. It carries why, never `Memory`.
-    Dedupe(DedupeFault),
+    /// The world has no import that this key asks about. It carries what imports it has, as a text, and the first that the key
+    /// differs from only in its version or in the case of letters.
+    NoImport(&'a str, String, Option<String>),
+    /// The worlds are not well-formed. It carries why, never `Memory`, and the part that this is about.
+    Resolve(Refused<ResolveFault, ExplainedPart>),
+    /// The imports of the main module could not be renamed. It carries why, never `Memory`, and where its bytes stop to be
+    /// right.
+    Dedupe(Refused<DedupeFault, ReadPlace>),
     /// Modules can't be encoded for the world. It carries why, never `Memory`.
     Encoder(EncoderFault),
-    /// The component has no world. It carries why, never `Memory` itself, and what that is about, if it is about an import,
-    /// an export or a part of an adapter, or that there was no memory for this.
-    World(WorldFault, Result<Option<Explained>, AllocError>),
-    /// The component's world has no plan. It carries why, never `Memory`.
-    Plan(PlanFault),
+    /// The component has no world. It carries why, never `Memory` itself, and what this is about, which only a fault of
+    /// trimming may lack.
+    World(Refused<WorldFault, Explained>),
+    /// The component's world has no plan. It carries why, never `Memory`, and the function that this is about.
+    Plan(Refused<PlanFault, PlanPlace>),
     /// It can't be said why something is imported. It carries why, never `Memory`.
     Ways(GcFault),
-    /// The directory of this path could not be made.
-    CannotMake(&'a str),
-    /// The file of this path could not be written.
-    CannotWrite(String),
+    /// The directory of this path could not be made, and why.
+    CannotMake(&'a str, FileProblem),
+    /// The file of this path could not be written, and why.
+    CannotWrite(String, FileProblem),
     /// The lines could not be printed.
     Output,
 }
@@ -159,78 +190,95 @@ impl ProgramFault<'_> {
         ensures { IfOk result (λ text. string_bytes text ≡ program_fault_text self.now) }
     {
         match self {
-            ProgramFault::Memory => String::from_str(alloc, "out of memory"),
-            ProgramFault::CannotRead(path, problem) => unread_text(alloc, path, *problem),
-            ProgramFault::NotText => String::from_str(alloc, "Json: not UTF-8"),
-            ProgramFault::NotJson(at) => format!(in alloc; "Json: not JSON at byte {at}"),
+            ProgramFault::Memory => String::from_str(alloc, OUT_OF_MEMORY),
+            ProgramFault::CannotRead(path, problem) => {
+                path_text(alloc, "cannot read ", path, *problem)
+            }
+            ProgramFault::NotText(_) => String::from_str(alloc, NOT_TEXT),
+            ProgramFault::NotJson(at, _) => format!(in alloc; "Json: not JSON at byte {at}"),
             ProgramFault::RepeatedMember(path) => repeated_text(alloc, path),
-            ProgramFault::Json(fault) => format!(in alloc; "Json: {fault}"),
+            ProgramFault::Json(fault) => json_text(alloc, fault),
             ProgramFault::Selection(fault) => selection_text(alloc, fault),
+            ProgramFault::NoAdapter(name, listing, _) => no_adapter_text(alloc, name, listing),
             ProgramFault::NoWorld(name, listing) => no_world_text(alloc, *name, listing),
             ProgramFault::NoExport(key, listing) => no_export_text(alloc, key, listing),
-            ProgramFault::Resolve(fault, _) => carried_text(alloc, "Resolve", fault),
-            ProgramFault::Dedupe(fault) => carried_text(alloc, "Dedupe", fault),
+            ProgramFault::NoImport(key, listing, _) => no_import_text(alloc, key, listing),
+            ProgramFault::Resolve(refused) => carried_text(alloc, "Resolve", &refused.fault),
+            ProgramFault::Dedupe(refused) => carried_text(alloc, "Main module", &refused.fault),
             ProgramFault::Encoder(fault) => carried_text(alloc, "Encoder", fault),
-            ProgramFault::World(fault, _) => world_text(alloc, fault),
-            ProgramFault::Plan(fault) => carried_text(alloc, "Plan", fault),
+            ProgramFault::World(refused) => world_text(alloc, &refused.fault),
+            ProgramFault::Plan(refused) => carried_text(alloc, "Plan", &refused.fault),
             ProgramFault::Ways(fault) => carried_text(alloc, "Ways", fault),
-            ProgramFault::CannotMake(path) => path_text(alloc, "cannot make directory ", path),
-            ProgramFault::CannotWrite(path) => path_text(alloc, "cannot write ", path),
-            ProgramFault::Output => String::from_str(alloc, "cannot print"),
+            ProgramFault::CannotMake(path, problem) => {
+                path_text(alloc, "cannot make directory ", path, *problem)
+            }
+            ProgramFault::CannotWrite(path, problem) => {
+                path_text(alloc, "cannot write ", path, *problem)
+            }
+            ProgramFault::Output => String::from_str(alloc, UNPRINTED),
         }
     }
 
     /// The text of the fault, where it is always the same; such a fault has no lines under it.
-    pub(crate) fn fixed_text(&self) -> Option<&'static [u8]>
+    pub(crate) fn fixed_text(&self) -> Option<&'static str>
         ensures whole { IfSome result (λ text. text.now
             ≡ program_fault_text self.now ++ fault_lines self.now) }
         ensures none { IfNone result (NeedsText self.now) }
     {
         match self {
             ProgramFault::Memory => Some(OUT_OF_MEMORY),
-            ProgramFault::NotText => Some(NOT_TEXT),
+            ProgramFault::NotText(None) => Some(NOT_TEXT),
             ProgramFault::Output => Some(UNPRINTED),
             ProgramFault::CannotRead(_, _)
-            | ProgramFault::NotJson(_)
+            | ProgramFault::NotText(Some(_))
+            | ProgramFault::NotJson(_, _)
             | ProgramFault::RepeatedMember(_)
             | ProgramFault::Json(_)
             | ProgramFault::Selection(_)
+            | ProgramFault::NoAdapter(_, _, _)
             | ProgramFault::NoWorld(_, _)
             | ProgramFault::NoExport(_, _)
-            | ProgramFault::Resolve(_, _)
+            | ProgramFault::NoImport(_, _, _)
+            | ProgramFault::Resolve(_)
             | ProgramFault::Dedupe(_)
             | ProgramFault::Encoder(_)
-            | ProgramFault::World(_, _)
+            | ProgramFault::World(_)
             | ProgramFault::Plan(_)
             | ProgramFault::Ways(_)
-            | ProgramFault::CannotMake(_)
-            | ProgramFault::CannotWrite(_) => None,
+            | ProgramFault::CannotMake(_, _)
+            | ProgramFault::CannotWrite(_, _) => None,
         }
     }
 }
 
 /// The text of `NotText`.
-const NOT_TEXT: &[u8] = b"Json: not UTF-8";
+const NOT_TEXT: &str = "Json: not UTF-8";
 
 /// The text where what was to be printed could not be.
-pub(crate) const UNPRINTED: &[u8] = b"cannot print";
+pub(crate) const UNPRINTED: &str = "cannot print";
 
-/// The text of a path that could not be used: what could not be done, and the path, escaped.
-fn path_text(alloc: Global, problem: &str, path: &str) -> Result<String, AllocError>
-    ensures { IfOk result (λ text. string_bytes text ≡ problem.now ++ escaped path.now) }
-{
-    let path = escaped(alloc, path)?;
-    format!(in alloc; "{problem}{path}")
-}
-
-/// The text of a file that could not be read: its path, and why.
-fn unread_text(alloc: Global, path: &str, problem: ReadProblem) -> Result<String, AllocError>
+/// The text of a path that could not be used: what could not be done, the path, escaped, and why.
+fn path_text(
+    alloc: Global,
+    undone: &str,
+    path: &str,
+    problem: FileProblem,
+) -> Result<String, AllocError>
     ensures { IfOk result (λ text. string_bytes text
-        ≡ codes "cannot read " ++ (escaped path.now ++ problem_text problem)) }
+        ≡ undone.now ++ (escaped path.now ++ problem_text problem)) }
 {
     let path = escaped(alloc, path)?;
     let problem = problem_text(problem);
-    format!(in alloc; "cannot read {path}{problem}")
+    format!(in alloc; "{undone}{path}{problem}")
+}
+
+/// The text of a value in the worlds' text that is wrong; its path is escaped already.
+fn json_text(alloc: Global, fault: &JsonFault) -> Result<String, AllocError>
+    ensures { IfOk result (λ text. string_bytes text
+        ≡ codes "Json: " ++ json_fault_text fault.now) }
+{
+    let problem = text_of(alloc, fault)?;
+    format!(in alloc; "Json: {problem}")
 }
 
 /// The text of a member that is there twice: its path, escaped.
@@ -271,8 +319,8 @@ fn sizes_text(alloc: Global, name: &str, own: u64, main: u64) -> Result<String, 
 fn selection_text(alloc: Global, fault: &SelectionFault<'_>) -> Result<String, AllocError>
     ensures { IfOk result (λ text. string_bytes text ≡ escaped (selection_fault_text fault.now)) }
 {
-    let text = format!(in alloc; "{fault}")?;
-    escaped(alloc, &text)
+    let about = text_of(alloc, fault)?;
+    escaped(alloc, &about)
 }
 
 /// The text where no world is meant, by its name or without one, and what worlds there are; escaped.
@@ -295,12 +343,30 @@ fn unmeant_text(alloc: Global, name: Option<&str>, listing: &str) -> Result<Stri
     }
 }
 
+/// The text of a name that no adapter has, and of what adapters there are; escaped.
+fn no_adapter_text(alloc: Global, name: &str, listing: &str) -> Result<String, AllocError>
+    ensures { IfOk result (λ text. string_bytes text
+        ≡ escaped (no_adapter_text name.now listing.now)) }
+{
+    let text = format!(in alloc; "no adapter `{name}`; adapters:{listing}")?;
+    escaped(alloc, &text)
+}
+
 /// The text of a key that no export has, and of what exports there are; escaped.
 fn no_export_text(alloc: Global, key: &str, listing: &str) -> Result<String, AllocError>
     ensures { IfOk result (λ text. string_bytes text
         ≡ escaped (no_export_text key.now listing.now)) }
 {
     let text = format!(in alloc; "no export `{key}`; exports:{listing}")?;
+    escaped(alloc, &text)
+}
+
+/// The text of a key that asks about no import, and of what imports there are; escaped.
+fn no_import_text(alloc: Global, key: &str, listing: &str) -> Result<String, AllocError>
+    ensures { IfOk result (λ text. string_bytes text
+        ≡ escaped (no_import_text key.now listing.now)) }
+{
+    let text = format!(in alloc; "no import `{key}`; imports:{listing}")?;
     escaped(alloc, &text)
 }
 
@@ -370,19 +436,6 @@ impl<'a> From<RequestFault<'a>> for ProgramFault<'a> {
     }
 }
 
-impl From<DedupeFault> for ProgramFault<'_> {
-    ghost use Rattle.wcplan_command.specs.Fault.{of_dedupe};
-
-    ghost from_gives = { λ f e. e ≡ of_dedupe f };
-
-    fn from(e: DedupeFault) -> Self {
-        match e {
-            DedupeFault::Memory => ProgramFault::Memory,
-            _ => ProgramFault::Dedupe(e),
-        }
-    }
-}
-
 impl From<EncoderFault> for ProgramFault<'_> {
     ghost use Rattle.wcplan_command.specs.Fault.{of_encoder};
 
@@ -392,20 +445,6 @@ impl From<EncoderFault> for ProgramFault<'_> {
         match e {
             EncoderFault::Memory => ProgramFault::Memory,
             _ => ProgramFault::Encoder(e),
-        }
-    }
-}
-
-impl From<PlanFault> for ProgramFault<'_> {
-    ghost use Rattle.wcplan_command.specs.Fault.{of_plan};
-
-    ghost from_gives = { λ f e. e ≡ of_plan f };
-
-    fn from(e: PlanFault) -> Self {
-        match e {
-            PlanFault::Memory => ProgramFault::Memory,
-            PlanFault::Output => ProgramFault::Output,
-            _ => ProgramFault::Plan(e),
         }
     }
 }
@@ -420,15 +459,5 @@ impl From<GcFault> for ProgramFault<'_> {
             GcFault::Memory => ProgramFault::Memory,
             _ => ProgramFault::Ways(e),
         }
-    }
-}
-
-impl From<PutFailed> for ProgramFault<'_> {
-    ghost use Rattle.wcplan_command.specs.declared.fault.ProgramFault.TheVariants.{Output};
-
-    ghost from_gives = { λ _ e. e ≡ Output };
-
-    fn from(_e: PutFailed) -> Self {
-        ProgramFault::Output
     }
 }

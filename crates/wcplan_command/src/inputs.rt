@@ -9,21 +9,28 @@ ghost use Rattle.wc_selection.specs.Keys.{AreKeysApart, named_key, texts_of};
 ghost use Rattle.wc_selection.specs.Texts.{AreDistinct};
 ghost use Rattle.wc_program.specs.Files.{FailsToRead};
 ghost use Rattle.wcplan_command.specs.Arguments.{command_view};
+ghost use Rattle.wcplan_command.specs.Asked.{IsAskedThere};
 ghost use Rattle.wcplan_command.specs.ModuleKeys.{AreNamesThere, adapter_names, request_of};
 ghost use Rattle.wcplan_command.specs.Program.{AreAdaptersIn, AreWorldsIn, IsAdaptersCause, IsEncoderOf, IsListed, IsListedCause, IsMainCause, IsMainIn, IsModulesCause, IsNoExport, IsPartsWith, IsPlanCause};
+ghost use Rattle.wcplan_command.specs.Private.Runs.{IsOfMain};
 
+use crate::adapter_names::no_adapter;
 use crate::arguments::Command;
+use crate::asked::check_asked;
 use crate::documents::{read_file, read_worlds};
 use crate::fault::{ProgramFault, SelectionFault};
 use crate::listing::listing;
 use crate::module_keys::{adapter_keys, check_names, command_keys, required_keys, task_hook};
 use std::alloc::{AllocError, Global};
 use std::borrow::CowSlice;
+use wc_dedupe::DedupeFault;
 use wc_encoder::{Adapter, ComponentEncoder, EncoderParts, Metadata};
 use wc_maps::{Map, Seed};
 use wc_program::FileStore;
+use wc_read::ReadPlace;
 use wc_resolve::WorldKey;
 use wc_selection::{Exporter, MainModule, RequestFault};
+use wc_texts::Refused;
 
 /// The encoder of a command, from its files.
 pub(crate) fn read_encoder<'a, F: FileStore>(
@@ -64,17 +71,20 @@ fn chosen_world<'a, F: FileStore>(
     ensures differ { IfOk result (λ w. AreKeysApart (map named_key w.keys.items)) }
     ensures there { IfOk result (λ w. AreNamesThere (command_view command.now)
         (map named_key w.keys.items)) }
+    ensures asked { IfOk result (λ w. IsAskedThere (command_view command.now).why
+        w.metadata.resolve w.metadata.world.0) }
     ensures fault { IfErr result (IsPlanCause (command_view command.now) (F.held files.now)
         (FailsToRead F.read_fails files.now)) }
 {
     let metadata = read_worlds(alloc, seed, command, files)?;
     let keys = command_keys(alloc, seed, command, &metadata.resolve, metadata.world)?;
     check_listed(alloc, seed, command, &keys)?;
+    check_asked(alloc, command.why, &metadata.resolve, metadata.world)?;
     Ok(ChosenWorld { metadata, keys })
 }
 
 /// Checks the names of adapters and the keys of a command, as `check_names` does; the fault of a key that isn't there has
-/// what exports there are.
+/// what exports there are, and that of an adapter that isn't there what adapters there are.
 fn check_listed<'a>(
     alloc: Global,
     seed: Seed,
@@ -88,20 +98,23 @@ fn check_listed<'a>(
 {
     match check_names(alloc, seed, command, keys) {
         Ok(()) => Ok(()),
-        Err(fault) => Err(listed_fault(alloc, fault, keys)),
+        Err(fault) => Err(listed_fault(alloc, command, fault, keys)),
     }
 }
 
-/// A fault of names; for that of a key that isn't there the one of `no_export`.
+/// A fault of names; for that of a key that isn't there the one of `no_export`, and for that of an adapter that isn't there
+/// the one of `no_adapter`.
 fn listed_fault<'a>(
     alloc: Global,
+    command: &Command<'a>,
     fault: SelectionFault<'a>,
     keys: &[(WorldKey, String)],
 ) -> ProgramFault<'a>
-    ensures { IsListed fault.entry (map named_key keys.now) result }
+    ensures { IsListed (command_view command.now) fault.entry (map named_key keys.now) result }
 {
     match fault {
         SelectionFault::Request(RequestFault::UnknownKey(key)) => no_export(alloc, key, keys),
+        SelectionFault::UnknownAdapter(name) => no_adapter(alloc, &command.adapters, name),
         _ => ProgramFault::from(fault),
     }
 }
@@ -163,7 +176,20 @@ fn read_main<'a, F: FileStore>(
         (FailsToRead F.read_fails files.now) path.now) }
 {
     let bytes = read_file(path, files)?;
-    Ok(MainModule::new(alloc, CowSlice::Owned(bytes))?)
+    match MainModule::new_explained(alloc, CowSlice::Owned(bytes)) {
+        Ok(main) => Ok(main),
+        Err(refused) => Err(main_fault(refused)),
+    }
+}
+
+/// The fault of the program for a main module that is refused.
+fn main_fault<'a>(refused: Refused<DedupeFault, ReadPlace>) -> ProgramFault<'a>
+    ensures { IsOfMain refused result }
+{
+    match refused.fault {
+        DedupeFault::Memory => ProgramFault::Memory,
+        _ => ProgramFault::Dedupe(refused),
+    }
 }
 
 /// The adapters of a command, from their files. `seed`: the seed of the maps that are made.

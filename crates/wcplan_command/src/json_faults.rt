@@ -1,6 +1,6 @@
 //! Faults as JSON, for programs that call this one.
 
-ghost use Rattle.std.specs.Prelude.{◌≡◌, ◌++◌, IfNone, IfOk, IfSome, OnOk, codes, string_bytes};
+ghost use Rattle.std.specs.Prelude.{◌≡◌, ◌++◌, IfNone, IfOk, IfSome, OnOk, codes};
 ghost use Rattle.json.specs.Json.{string};
 ghost use Rattle.wc_program.specs.Program.{Prints, failure};
 ghost use Rattle.wc_program.specs.Screen.{Becomes};
@@ -8,67 +8,79 @@ ghost use Rattle.wc_record.specs.Objects.{PutsJson};
 ghost use Rattle.wc_record.specs.Texts.{text_of};
 ghost use Rattle.wcplan_command.specs.Details.{fault_lines};
 ghost use Rattle.wcplan_command.specs.Fault.{NeedsText, program_fault_text};
-ghost use Rattle.wcplan_command.specs.JsonFaults.{IsReportedJson, fault_json, fault_place, members_text, part_place, world_place};
+ghost use Rattle.wcplan_command.specs.JsonFaults.{IsReportedJson, fault_json, fault_place, members_text, part_place, plan_place, read_place, unplaced, world_place};
 
 use crate::explained::Explained;
 use crate::explained_part::ExplainedPart;
 use crate::fault::ProgramFault;
 use json::Writer;
 use std::alloc::{AllocError, Global};
-use wc_program::{FAILURE, Printable, Screen, TextBetween, print};
-use wc_record::{part_to_json, world_place_to_json};
-use wc_write::{PutFailed, Sink};
+use wc_gc::TrimPlace;
+use wc_plan::PlanPlace;
+use wc_program::{FAILURE, Screen, Text, TextBetween, print};
+use wc_read::ReadPlace;
+use wc_record::{
+    key_to_json, part_to_json, plan_place_to_json, trim_fault_to_json, trim_place_to_json,
+    world_place_to_json,
+};
+use wc_texts::{PutFailed, Refused};
+use wc_world::WorldFault;
 
 /// The object where there is no memory for a fault as JSON, and of the fault that an allocation failed.
-const MEMORY: &[u8] = b"{\"text\":\"out of memory\",\"place\":null}";
+const MEMORY: &str = "{\"text\":\"out of memory\",\"place\":null}";
 
-/// The object of worlds that are not text.
-const NOT_TEXT: &[u8] = b"{\"text\":\"Json: not UTF-8\",\"place\":null}";
+/// The object of worlds that are not text, and look like nothing that is known.
+const NOT_TEXT: &str = "{\"text\":\"Json: not UTF-8\",\"place\":null}";
 
 /// The object of an output that failed.
-const UNPRINTED: &[u8] = b"{\"text\":\"cannot print\",\"place\":null}";
+const UNPRINTED: &str = "{\"text\":\"cannot print\",\"place\":null}";
 
 /// A place that there is not.
 const NULL: &[u8] = b"null";
 
 /// Prints why the program failed as JSON in a line: an object with `text`, the text of the fault with its lines, and
-/// `place`, what it is about. That is as of `wc_record::part_to_json` for worlds that are not well-formed, and as of
-/// `wc_record::world_place_to_json` for a component without a world; else null. Where memory is needed for this, and there
-/// is none, it is the object of want of memory. The answer is the status of a failure.
+/// `place`, what it is about. That is as of `wc_record::part_to_json` for worlds that are not well-formed, as of
+/// `trim_place_to_json` for a main module that can't be read, as of `world_place_to_json` or `trim_fault_to_json` for a component
+/// without a world, as of `plan_place_to_json` for one without a
+/// plan, and as of `key_to_json` for a key that no export or import has; else null. Where memory is needed for this, and there is none,
+/// it is the object of want of memory. The answer is the status of a failure.
 pub(crate) fn report_json<E: Screen>(alloc: Global, err: &mut E, fault: &ProgramFault<'_>) -> u8
     ensures { IsReportedJson fault.now (Becomes E.ends err.old err.new) result }
 {
     match fixed_json(fault) {
-        Some(text) => print_json(err, &text),
+        Some(text) => print_text(err, text),
         None => report_made(alloc, err, fault),
     }
 }
 
 /// The object of a fault whose text is always the same.
 #[tactic(auto, unfolding(json::specs::Print::print_from, json::specs::Print::escape_byte))]
-fn fixed_json(fault: &ProgramFault<'_>) -> Option<&'static [u8]>
+fn fixed_json(fault: &ProgramFault<'_>) -> Option<&'static str>
     ensures whole { IfSome result (λ text. text.now ≡ fault_json fault.now) }
     ensures none { IfNone result (NeedsText fault.now) }
 {
     match fault {
         ProgramFault::Memory => Some(MEMORY),
-        ProgramFault::NotText => Some(NOT_TEXT),
+        ProgramFault::NotText(None) => Some(NOT_TEXT),
         ProgramFault::Output => Some(UNPRINTED),
         ProgramFault::CannotRead(_, _)
-        | ProgramFault::NotJson(_)
+        | ProgramFault::NotText(Some(_))
+        | ProgramFault::NotJson(_, _)
         | ProgramFault::RepeatedMember(_)
         | ProgramFault::Json(_)
         | ProgramFault::Selection(_)
+        | ProgramFault::NoAdapter(_, _, _)
         | ProgramFault::NoWorld(_, _)
         | ProgramFault::NoExport(_, _)
-        | ProgramFault::Resolve(_, _)
+        | ProgramFault::NoImport(_, _, _)
+        | ProgramFault::Resolve(_)
         | ProgramFault::Dedupe(_)
         | ProgramFault::Encoder(_)
-        | ProgramFault::World(_, _)
+        | ProgramFault::World(_)
         | ProgramFault::Plan(_)
         | ProgramFault::Ways(_)
-        | ProgramFault::CannotMake(_)
-        | ProgramFault::CannotWrite(_) => None,
+        | ProgramFault::CannotMake(_, _)
+        | ProgramFault::CannotWrite(_, _) => None,
     }
 }
 
@@ -77,32 +89,40 @@ fn report_made<E: Screen>(alloc: Global, err: &mut E, fault: &ProgramFault<'_>) 
     requires { NeedsText fault.now }
     ensures { IsReportedJson fault.now (Becomes E.ends err.old err.new) result }
 {
-    match members_of(alloc, fault) {
-        Ok(members) => print_members(err, &members),
-        Err(AllocError) => print_json(err, &MEMORY),
+    match fault_line(alloc, fault) {
+        Ok(line) => print_bytes(err, &line),
+        Err(AllocError) => print_text(err, MEMORY),
     }
 }
 
-/// The text of a fault with its lines, and what it is about, each as JSON.
-fn members_of(alloc: Global, fault: &ProgramFault<'_>) -> Result<(Vec<u8>, Vec<u8>), AllocError>
-    ensures text { IfOk result (λ p. p.0.items
-        ≡ text_of (string (program_fault_text fault.now ++ fault_lines fault.now))) }
-    ensures place { IfOk result (λ p. p.1.items ≡ fault_place fault.now) }
+/// A fault as JSON, in a line.
+fn fault_line(alloc: Global, fault: &ProgramFault<'_>) -> Result<Vec<u8>, AllocError>
+    ensures { IfOk result (λ v. v.items ≡ fault_json fault.now ++ codes "\n") }
 {
-    let text = whole_text(alloc, fault)?;
-    let text = string_to_json(alloc, &text)?;
+    let text = text_of(alloc, fault)?;
     let place = place_of(alloc, fault)?;
-    Ok((text, place))
+    members_line(alloc, &text, &place)
 }
 
-/// The text of a fault with its lines.
-fn whole_text(alloc: Global, fault: &ProgramFault<'_>) -> Result<String, AllocError>
-    ensures { IfOk result (λ text. string_bytes text
-        ≡ program_fault_text fault.now ++ fault_lines fault.now) }
+/// An object with these members, a text and a place, in a line.
+fn members_line(alloc: Global, text: &[u8], place: &[u8]) -> Result<Vec<u8>, AllocError>
+    ensures { IfOk result (λ v. v.items ≡ members_text text.now place.now ++ codes "\n") }
 {
-    let text = fault.text(alloc)?;
-    let lines = fault.details(alloc)?;
-    format!(in alloc; "{text}{lines}")
+    let mut line = Vec::from_slice(alloc, b"{\"text\":")?;
+    line.extend_from_slice(text)?;
+    line.extend_from_slice(b",\"place\":")?;
+    line.extend_from_slice(place)?;
+    line.extend_from_slice(b"}\n")?;
+    Ok(line)
+}
+
+/// The text of a fault with its lines, as JSON.
+fn text_of(alloc: Global, fault: &ProgramFault<'_>) -> Result<Vec<u8>, AllocError>
+    ensures { IfOk result (λ v. v.items
+        ≡ text_of (string (program_fault_text fault.now ++ fault_lines fault.now))) }
+{
+    let text = fault.text_and_details(alloc)?;
+    string_to_json(alloc, &text)
 }
 
 /// The place that a fault is about, as JSON.
@@ -110,37 +130,66 @@ fn place_of(alloc: Global, fault: &ProgramFault<'_>) -> Result<Vec<u8>, AllocErr
     ensures { IfOk result (λ v. v.items ≡ fault_place fault.now) }
 {
     match fault {
-        ProgramFault::Resolve(_, explained) => part_place(alloc, explained),
-        ProgramFault::World(_, explained) => world_place(alloc, explained),
+        ProgramFault::Resolve(refused) => part_place(alloc, &refused.place),
+        ProgramFault::Dedupe(refused) => read_place(alloc, refused.place),
+        ProgramFault::World(refused) => world_place(alloc, refused),
+        ProgramFault::Plan(refused) => plan_place(alloc, &refused.place),
+        ProgramFault::NoExport(key, _) => key_to_json(alloc, key),
+        ProgramFault::NoImport(key, _, _) => key_to_json(alloc, key),
         _ => Vec::from_slice(alloc, NULL),
     }
 }
 
 /// The part that a fault of worlds is about, as JSON.
-fn part_place(
-    alloc: Global,
-    explained: &Result<Option<ExplainedPart>, AllocError>,
-) -> Result<Vec<u8>, AllocError>
-    ensures { IfOk result (λ v. v.items ≡ part_place explained.now) }
+fn part_place(alloc: Global, part: &Option<ExplainedPart>) -> Result<Vec<u8>, AllocError>
+    ensures { IfOk result (λ v. v.items ≡ part_place part.now) }
 {
-    match explained {
-        Ok(Some(explained)) => part_to_json(alloc, explained.part),
-        Ok(None) => Vec::from_slice(alloc, NULL),
-        Err(AllocError) => Vec::from_slice(alloc, NULL),
+    match part {
+        Some(part) => part_to_json(alloc, part.part),
+        None => Vec::from_slice(alloc, NULL),
     }
 }
 
-/// The place that a fault of a component's world is about, as JSON.
+/// Where reading the main module stopped, as JSON.
+fn read_place(alloc: Global, place: Option<ReadPlace>) -> Result<Vec<u8>, AllocError>
+    ensures { IfOk result (λ v. v.items ≡ read_place place) }
+{
+    match place {
+        Some(place) => trim_place_to_json(alloc, TrimPlace::Bytes(place)),
+        None => Vec::from_slice(alloc, NULL),
+    }
+}
+
+/// The place that a fault of a component's world is about, as JSON; without one the adapter that it names.
 fn world_place(
     alloc: Global,
-    explained: &Result<Option<Explained>, AllocError>,
+    refused: &Refused<WorldFault, Explained>,
 ) -> Result<Vec<u8>, AllocError>
-    ensures { IfOk result (λ v. v.items ≡ world_place explained.now) }
+    ensures { IfOk result (λ v. v.items ≡ world_place refused.now) }
 {
-    match explained {
-        Ok(Some(explained)) => world_place_to_json(alloc, &explained.place),
-        Ok(None) => Vec::from_slice(alloc, NULL),
-        Err(AllocError) => Vec::from_slice(alloc, NULL),
+    match &refused.place {
+        Some(explained) => world_place_to_json(alloc, &explained.place),
+        None => unplaced(alloc, &refused.fault),
+    }
+}
+
+/// The adapter that a fault of trimming is about, as JSON.
+fn unplaced(alloc: Global, fault: &WorldFault) -> Result<Vec<u8>, AllocError>
+    ensures { IfOk result (λ v. v.items ≡ unplaced fault.now) }
+{
+    match fault {
+        WorldFault::Trim(adapter, fault) => trim_fault_to_json(alloc, adapter, fault),
+        _ => Vec::from_slice(alloc, NULL),
+    }
+}
+
+/// The function that a fault of a plan is about, as JSON.
+fn plan_place(alloc: Global, place: &Option<PlanPlace>) -> Result<Vec<u8>, AllocError>
+    ensures { IfOk result (λ v. v.items ≡ plan_place place.now) }
+{
+    match place {
+        Some(place) => plan_place_to_json(alloc, place),
+        None => Vec::from_slice(alloc, NULL),
     }
 }
 
@@ -160,43 +209,24 @@ fn put_string(out: &mut Writer, text: &str) -> Result<(), AllocError>
     out.string(text)
 }
 
-/// The members of an object.
-#[derive(Clone, Copy)]
-struct Members<'a> {
-    text: &'a [u8],
-    place: &'a [u8],
-}
-
-impl Printable for Members<'_> {
-    ghost text = { λ m. members_text m.text.now m.place.now };
-
-    fn put_text<S: Sink>(&self, out: &mut S) -> Result<(), PutFailed> {
-        out.put(b"{\"text\":")?;
-        out.put(self.text)?;
-        out.put(b",\"place\":")?;
-        out.put(self.place)?;
-        out.put(b"}")
+/// Prints bytes. The answer is the status of a failure.
+fn print_bytes<E: Screen>(err: &mut E, bytes: &[u8]) -> u8
+    ensures { Prints bytes.now failure (Becomes E.ends err.old err.new) result }
+{
+    match err.show_bytes(bytes) {
+        Ok(()) => FAILURE,
+        Err(PutFailed) => FAILURE,
     }
 }
 
-/// Prints an object with these members, a text and a place, in a line. The answer is the status of a failure.
-fn print_members<E: Screen>(err: &mut E, members: &(Vec<u8>, Vec<u8>)) -> u8
-    ensures { Prints (members_text members.now.0.items members.now.1.items ++ codes "\n") failure
-        (Becomes E.ends err.old err.new) result }
-{
-    let (text, place) = (members.0.as_slice(), members.1.as_slice());
-    print_json(err, &Members { text, place })
-}
-
-/// Prints JSON in a line. The answer is the status of a failure.
-fn print_json<E: Screen, T: Printable>(err: &mut E, text: &T) -> u8
-    ensures { Prints (T.text text.now ++ codes "\n") failure
-        (Becomes E.ends err.old err.new) result }
+/// Prints a text in a line. The answer is the status of a failure.
+fn print_text<E: Screen>(err: &mut E, text: &str) -> u8
+    ensures { Prints (text.now ++ codes "\n") failure (Becomes E.ends err.old err.new) result }
 {
     let line = TextBetween {
-        before: b"",
-        text,
-        after: b"\n",
+        before: "",
+        text: &Text(text),
+        after: "\n",
     };
     print(err, &line, FAILURE)
 }

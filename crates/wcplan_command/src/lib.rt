@@ -4,7 +4,9 @@
 //! `Screen`, and `run` is the program over these.
 #![tactic(auto)]
 
+mod adapter_names;
 mod arguments;
+mod asked;
 mod details;
 mod documents;
 mod explained;
@@ -13,16 +15,14 @@ mod fault;
 mod file_names;
 mod inputs;
 mod json_faults;
-mod json_place;
-pub mod laws;
 mod lines;
 mod listing;
 mod module_keys;
 mod nearest;
 mod outputs;
 mod program;
-mod repeated_members;
 mod usage;
+mod warnings;
 
 pub use arguments::{Command, NoCommand, WrongArgument, parse};
 pub use explained::Explained;

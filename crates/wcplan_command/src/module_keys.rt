@@ -7,10 +7,10 @@ ghost use Rattle.wc_selection.specs.KeyNames.{request_keys};
 ghost use Rattle.wc_selection.specs.Keys.{AreKeysApart, named_key, texts_of};
 ghost use Rattle.wc_selection.specs.Requests.{exporter_name, given_keys, request_value};
 ghost use Rattle.wc_selection.specs.ModuleKeys.{AreKeysThere, required_keys};
-ghost use Rattle.wc_selection.specs.Texts.{first_parts, text_of, text_pair};
 ghost use Rattle.wcplan_command.specs.Arguments.{command_view};
 ghost use Rattle.wcplan_command.specs.ModuleKeys.{AreNamesThere, IsGivenCause, IsNamesCause, hook_of, request_of};
 
+use crate::adapter_names::first_parts;
 use crate::arguments::Command;
 use crate::fault::SelectionFault;
 use crate::file_names::file_fault;
@@ -112,17 +112,6 @@ fn check_keys<'a>(
         Ok(()) => Ok(()),
         Err(fault) => Err(SelectionFault::from(fault)),
     }
-}
-
-/// The first of each pair.
-fn first_parts<'a>(alloc: Global, pairs: &[(&'a str, &'a str)]) -> Result<Vec<&'a str>, AllocError>
-    ensures { IfOk result (λ v. map text_of v.items ≡ first_parts (map text_pair pairs.now)) }
-{
-    let mut names = Vec::new(alloc);
-    for (name, _value) in pairs {
-        names.push(*name)?;
-    }
-    Ok(names)
 }
 
 /// The keys that a module of a command has to export, in the order of the world's exports (`wc_selection::required_keys`).

@@ -8,7 +8,6 @@ ghost use Rattle.wc_encoder.specs.EncoderParts.{world_exports, world_imports};
 ghost use Rattle.wc_resolve.specs.Resolve.{key_text};
 ghost use Rattle.wc_resolve.specs.Ranges.{IsItemIn, IsKeyIn};
 ghost use Rattle.wc_resolve.specs.Views.{interface_view, item_view, world_entry};
-ghost use Rattle.wc_json.specs.Keys.{rest_after};
 ghost use Rattle.wc_names.specs.Keys.{as_interface};
 ghost use Rattle.wc_selection.specs.KeyNames.{unversioned_text};
 ghost use Rattle.wc_validate.specs.Explain.{subject_view};
@@ -18,6 +17,7 @@ use std::alloc::{AllocError, Global};
 use wc_encoder::ComponentEncoder;
 use wc_maps::Map;
 use wc_resolve::{Interface, InterfaceId, Resolve, WorldItem, WorldKey};
+use wc_texts::strip_prefix;
 use wc_validate::{Subject, ValidateFault};
 use wc_world::{ModulePlace, WorldFault};
 
@@ -42,7 +42,7 @@ pub(crate) fn near_place(
 {
     match place {
         ModulePlace::Validation(place) => nearest(alloc, encoder, fault, &place.subject),
-        ModulePlace::Trim(_) => Ok(None),
+        ModulePlace::Trim(_) | ModulePlace::PageSizes { .. } => Ok(None),
     }
 }
 
@@ -130,7 +130,7 @@ fn exported_interface(module_name: &str) -> Option<&str>
 {
     match exported_name(module_name) {
         Some(name) => Some(name),
-        None => rest_after(imported_name(module_name), "_ex_"),
+        None => strip_prefix(imported_name(module_name), "_ex_"),
     }
 }
 
@@ -138,17 +138,10 @@ fn exported_interface(module_name: &str) -> Option<&str>
 fn function_name(name: &str) -> &str
     ensures { result.now ≡ function_name name.now }
 {
-    match rest_after(name, "[async-lower]") {
+    match strip_prefix(name, "[async-lower]") {
         Some(function) => function,
         None => name,
     }
-}
-
-/// What comes after a prefix.
-fn rest_after<'a>(text: &'a str, prefix: &str) -> Option<&'a str>
-    ensures { option_map (λ rest. rest.now) result ≡ rest_after prefix.now text.now }
-{
-    text.strip_prefix(prefix)
 }
 
 /// What the world exports in place of the function whose result a name is about.
@@ -354,7 +347,7 @@ fn near_name(alloc: Global, interface: &Interface, name: &str) -> Result<Option<
 }
 
 /// Whether names differ, and only in their versions and in the case of ASCII letters.
-fn is_near(name: &str, other: &str) -> bool
+pub(crate) fn is_near(name: &str, other: &str) -> bool
     ensures { result ≡ is_near name.now other.now }
 {
     if name == other {
@@ -365,7 +358,7 @@ fn is_near(name: &str, other: &str) -> bool
 }
 
 /// Whether names are the same but for their versions and for the case of ASCII letters.
-fn is_alike(name: &str, other: &str) -> bool
+pub(crate) fn is_alike(name: &str, other: &str) -> bool
     ensures { result ≡ is_alike name.now other.now }
 {
     same_letters(unversioned(name), unversioned(other))

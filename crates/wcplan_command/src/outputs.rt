@@ -7,7 +7,7 @@ ghost use Rattle.wc_plan.specs.Fault.{AreNameable};
 ghost use Rattle.wc_plan.specs.Plans.{plan_of};
 ghost use Rattle.wc_world.specs.WorldViews.{world_view};
 ghost use Rattle.wc_selection.specs.Texts.{text_of};
-ghost use Rattle.wc_program.specs.Files.{FailsFrom, store_change};
+ghost use Rattle.wc_program.specs.Files.{FailsBy, FailsFrom, store_change};
 ghost use Rattle.wc_program.specs.Screen.{Becomes};
 ghost use Rattle.wc_ways.specs.WaysFaults.{IsWaysFault};
 ghost use Rattle.wcplan_command.specs.Arguments.{command_view};
@@ -20,11 +20,11 @@ use crate::lines::plan_lines;
 use std::alloc::{AllocError, Global};
 use wc_gc::GcFault;
 use wc_plan::Plan;
-use wc_program::{DirectoryStore, Screen};
+use wc_program::{DirectoryStore, Screen, problem_of};
 use wc_record::planned_world_to_json;
+use wc_texts::PutFailed;
 use wc_ways::{ways_graph, ways_json, ways_text};
 use wc_world::ComponentWorld;
-use wc_write::PutFailed;
 
 /// The text that a command prints of its component's world, which has this plan.
 pub(crate) fn description_of<'a>(
@@ -116,7 +116,7 @@ pub(crate) fn write_and_print<'a, F: DirectoryStore, O: Screen>(
 {
     make_directory(directory, files)?;
     write_files(outputs, files)?;
-    match out.show(&text) {
+    match out.show_bytes(text) {
         Ok(()) => Ok(()),
         Err(PutFailed) => Err(ProgramFault::Output),
     }
@@ -129,7 +129,7 @@ fn make_directory<'a, F: DirectoryStore>(
 ) -> Result<(), ProgramFault<'a>>
     ensures made { OnOk result (IfSome (option_map text_of directory.entry) (F.makes files.old)) }
     ensures fault { IfErr result (IsMakingFault (option_map text_of directory.entry)
-        (F.make_fails files.old files.new)) }
+        (λ path. FailsBy (F.make_fails files.old files.new path))) }
     ensures kept { F.held files.new ≡ F.held files.old }
 {
     let Some(path) = directory else {
@@ -137,7 +137,7 @@ fn make_directory<'a, F: DirectoryStore>(
     };
     match files.make_directory(path) {
         Ok(()) => Ok(()),
-        Err(_) => Err(ProgramFault::CannotMake(path)),
+        Err(e) => Err(ProgramFault::CannotMake(path, problem_of(&e))),
     }
 }
 
@@ -191,9 +191,9 @@ fn write_files<'a, F: DirectoryStore>(
         (FailsFrom F.held F.write_fails files.new) (map file_view outputs.entry.items)) }
 {
     for (path, bytes) in outputs {
-        let Ok(()) = files.replace(&path, bytes) else {
-            return Err(ProgramFault::CannotWrite(path));
-        };
+        if let Err(e) = files.replace(&path, bytes) {
+            return Err(ProgramFault::CannotWrite(path, problem_of(&e)));
+        }
     }
     Ok(())
 }

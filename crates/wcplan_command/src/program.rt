@@ -1,6 +1,6 @@
 //! The program: its arguments, its files, what it prints, and its exit status.
 
-ghost use Rattle.std.specs.Prelude.{◌≡◌, ◌++◌, IfErr, IfOk, IsErr, OnOk};
+ghost use Rattle.std.specs.Prelude.{◌≡◌, IfErr, IfOk, IsErr, string_bytes};
 ghost use Rattle.std.specs.IoError.{error_kind};
 ghost use Rattle.wc_plan.specs.Fault.{AreNameable};
 ghost use Rattle.wc_uses.specs.PlanViews.{plan_view};
@@ -9,32 +9,33 @@ ghost use Rattle.wc_world.specs.WorldViews.{world_view};
 ghost use Rattle.wcplan_command.specs.Arguments.{command_view};
 ghost use Rattle.wc_program.specs.Files.{store_change};
 ghost use Rattle.wc_program.specs.Screen.{Becomes};
-ghost use Rattle.wc_program.specs.Program.{Prints, failure, wrong_arguments};
+ghost use Rattle.wc_program.specs.Program.{Prints, failure, success, wrong_arguments};
 ghost use Rattle.wcplan_command.specs.Fault.{NeedsText};
 ghost use Rattle.wcplan_command.specs.Program.{CommandEnds, EndsWell, EndsWith, EndsWithout, EndsWithoutArguments, IsEncoderOf, IsPlanned, IsReported, IsReportedAs, IsRunCause, PrintsAsked, ProgramEnds};
-ghost use Rattle.wcplan_command.specs.Private.Runs.{AnswersStop, IsMadeFor, IsReportedWith};
+ghost use Rattle.wcplan_command.specs.Private.Runs.{AnswersStop, IsMadeFor};
 ghost use Rattle.wcplan_command.specs.Usage.{fault_and_usage, fault_line, help_text};
+ghost use Rattle.wcplan_command.specs.Warnings.{AreWarned};
 
 use crate::arguments::{Command, NoCommand, parse};
-use crate::details::UNPLACED;
-use crate::explained::world_fault;
+use crate::explained::{plan_fault, world_fault};
 use crate::fault::{ProgramFault, UNPRINTED};
 use crate::inputs::read_encoder;
 use crate::json_faults::report_json;
 use crate::outputs::{description_of, outputs_of, write_and_print};
 use crate::usage::{AND_USAGE, NO_TEXT, OPTIONS, USAGE, VERSION};
+use crate::warnings::warnings_of;
 use std::alloc::{AllocError, Global};
 use std::io::{self, ErrorKind};
 use wc_encoder::ComponentEncoder;
 use wc_maps::Seed;
 use wc_plan::laws::worlds_nameable;
-use wc_plan::{Plan, plan};
+use wc_plan::{Plan, plan_explained};
 use wc_program::{
-    DirectoryStore, FAILURE, NoArguments, OUT_OF_MEMORY, Printable, Program, SUCCESS, Screen,
-    Shell, TextBetween, WRONG_ARGUMENTS, print, put_after,
+    DirectoryStore, FAILURE, NoArguments, Program, SUCCESS, Screen, Shell, Text, TextBetween,
+    WRONG_ARGUMENTS, print,
 };
+use wc_texts::{FaultText, OUT_OF_MEMORY, PutFailed};
 use wc_world::{ComponentWorld, PlainOptions};
-use wc_write::{PutFailed, Sink};
 
 /// Runs the program with these arguments, the first of them the one after the program's name. What is done is the same for
 /// every seed of the shell. The answer is its exit status:
@@ -43,19 +44,20 @@ use wc_write::{PutFailed, Sink};
 /// |---|---|---|
 /// | 0 | there are no arguments | the usage text, to `out` |
 /// | 0 | `parse` answers `Help` or `Version` | the help text or the version, to `out` |
-/// | 0 | the command was run | the lines of the plan, the record, or why a key is imported, to `out` |
+/// | 0 | the command was run | the lines of the plan, the record, or why a key is imported, to `out`; lines of warnings to `err` |
 /// | 1 | the command could not be run | the line `wcplan: TEXT`, and lines of what the fault is about, to `err` |
 /// | 1 | it could not, and has `--json` | the fault as JSON in a line, to `err` |
 /// | 1 | there was no memory for the arguments | the line `wcplan: out of memory`, to `err` |
 /// | 2 | an argument is wrong, or no text | the line `wcplan: TEXT` and the usage text, to `err` |
 /// | 1 | `out` failed | not known there; the line `wcplan: cannot print`, to `err` |
-/// | 1 | `err` failed | not known there |
+/// | 1 | `err` failed, but for warnings | not known there |
 ///
-/// TEXT is the text of `run_command`'s fault (`ProgramFault::text`) or of the wrong argument (`WrongArgument::text`), or
-/// `out of memory` where there was no memory for it; then the status is 1. The lines under it are those of
-/// `ProgramFault::details`, or one that says that there was no memory for them. All that is printed is flushed. Nothing is
-/// printed to the other output, unless `out` failed before: then the line `wcplan: cannot print` is. Files are as
-/// `run_command` leaves them; without a command they are unchanged.
+/// TEXT is the text of `run_command`'s fault (`ProgramFault::text`) or of the wrong argument (`WrongArgument::text`). The
+/// lines under it are those of `ProgramFault::details`. Where there was no memory for text and lines, the line is `wcplan: out
+/// of memory`, and the status 1. All that is printed is flushed. Nothing is printed to the other output, but for warnings, and
+/// unless `out` failed before: then the line `wcplan: cannot print` is. Warnings are those that `run_command` answers, each in a
+/// line; where they can't be printed, the status is 0 all the same. Files are as `run_command` leaves them; without a command
+/// they are unchanged.
 pub fn run<F: DirectoryStore, O: Screen, E: Screen>(
     arguments: &io::Result<Vec<String>>,
     shell: &mut Shell<F, O, E>,
@@ -95,7 +97,7 @@ impl<F: DirectoryStore, O: Screen, E: Screen> Program<F, O, E> for Wcplan {
 
     fn run_without(&self, why: NoArguments, shell: &mut Shell<F, O, E>) -> u8 {
         match why {
-            NoArguments::Empty => print_asked(&mut shell.out, &mut shell.err, &USAGE),
+            NoArguments::Empty => print_asked(&mut shell.out, &mut shell.err, &Text(USAGE)),
             NoArguments::NoMemory => print_fault(&mut shell.err, OUT_OF_MEMORY),
             NoArguments::NoText => print_usage_fault(&mut shell.err, NO_TEXT),
         }
@@ -115,9 +117,9 @@ fn answer_stop<O: Screen, E: Screen>(
     match stop {
         NoCommand::Memory => print_fault(err, OUT_OF_MEMORY),
         NoCommand::Help => print_help(out, err),
-        NoCommand::Version => print_asked(out, err, &VERSION),
+        NoCommand::Version => print_asked(out, err, &Text(VERSION)),
         NoCommand::Wrong(wrong) => match wrong.text(alloc) {
-            Ok(text) => print_usage_fault(err, text.as_bytes()),
+            Ok(text) => print_usage_fault(err, &text),
             Err(AllocError) => print_fault(err, OUT_OF_MEMORY),
         },
     }
@@ -141,7 +143,7 @@ fn run_and_report<F: DirectoryStore, O: Screen, E: Screen>(
         &mut shell.files,
         &mut shell.out,
     ) {
-        Ok(()) => SUCCESS,
+        Ok(warnings) => print_warnings(&mut shell.err, &warnings),
         Err(fault) => report_as(shell.alloc, &mut shell.err, &fault, command.json),
     }
 }
@@ -153,7 +155,10 @@ fn run_and_report<F: DirectoryStore, O: Screen, E: Screen>(
 /// `wc_plan::write_plan` writes them, but each escaped (`wc_json::escaped`); or with `--json` the record in a line
 /// (`wc_record::planned_world_to_json`); or with `--why` why the key is imported, by `wc_ways`: in lines (`ways_text`), with
 /// `--json` as JSON (`ways_json`), with `--dot` as a graph (`ways_graph`). A path `-` of a file that is read is
-/// that of `/dev/stdin`. `seed`: the seed of the maps that are made.
+/// that of `/dev/stdin`. The answer is the warnings, each in a line after `wcplan: warning: `: of each adapter of the command
+/// in order, that it has no name, or else that the component has none of its name, since the main module imports nothing from
+/// it and it has to export no function; and then, if the command names a task hook, that no export of the main module is
+/// one. `seed`: the seed of the maps that are made.
 ///
 /// # Errors
 ///
@@ -163,7 +168,8 @@ fn run_and_report<F: DirectoryStore, O: Screen, E: Screen>(
 /// - `NoWorld`, `Selection`: no world has the name, or without a name none has all others for parts; or it can't be told which
 ///   one has the name.
 /// - `Resolve`: the worlds are not well-formed.
-/// - `Selection`, `NoExport`: names of adapters, or keys, are not there, or are given twice; or files can't be named.
+/// - `Selection`, `NoAdapter`, `NoExport`: names of adapters, or keys, are not there, or are given twice; or files can't be named.
+/// - `NoImport`: the key that is asked about is that of no import.
 /// - `CannotRead`, `Dedupe`: the main module could not be read, or not renamed.
 /// - `CannotRead`: an adapter could not be read; they are read in order.
 /// - `Encoder`, `World`, `Plan`: there is no encoder, no component's world, or no plan.
@@ -181,11 +187,11 @@ pub fn run_command<'a, F: DirectoryStore, O: Screen>(
     command: &Command<'a>,
     files: &mut F,
     out: &mut O,
-) -> Result<(), ProgramFault<'a>>
-    ensures done { OnOk result (EndsWell
+) -> Result<String, ProgramFault<'a>>
+    ensures done { IfOk result (λ warnings. EndsWell
         (command_view command.now)
         (store_change F.held F.makes F.read_fails F.make_fails F.write_fails files.old files.new)
-        (Becomes O.ends out.old out.new)) }
+        (Becomes O.ends out.old out.new) (string_bytes warnings)) }
     ensures fault { IfErr result (IsRunCause
         (command_view command.now)
         (store_change F.held F.makes F.read_fails F.make_fails F.write_fails files.old files.new)
@@ -202,12 +208,12 @@ fn run_encoder<'a, F: DirectoryStore, O: Screen>(
     encoder: &ComponentEncoder,
     files: &mut F,
     out: &mut O,
-) -> Result<(), ProgramFault<'a>>
+) -> Result<String, ProgramFault<'a>>
     requires { IsEncoderOf (command_view command.now) (F.held files.old) encoder.now }
-    ensures done { OnOk result (EndsWell
+    ensures done { IfOk result (λ warnings. EndsWell
         (command_view command.now)
         (store_change F.held F.makes F.read_fails F.make_fails F.write_fails files.old files.new)
-        (Becomes O.ends out.old out.new)) }
+        (Becomes O.ends out.old out.new) (string_bytes warnings)) }
     ensures fault { IfErr result (IsRunCause
         (command_view command.now)
         (store_change F.held F.makes F.read_fails F.make_fails F.write_fails files.old files.new)
@@ -228,22 +234,22 @@ fn run_world<'a, F: DirectoryStore, O: Screen>(
     world: &ComponentWorld<'_>,
     files: &mut F,
     out: &mut O,
-) -> Result<(), ProgramFault<'a>>
+) -> Result<String, ProgramFault<'a>>
     requires made { IsMadeFor (command_view command.now) (F.held files.old)
         (world_view world.now) }
     requires nameable { AreNameable (world_view world.now) }
-    ensures done { OnOk result (EndsWell
+    ensures done { IfOk result (λ warnings. EndsWell
         (command_view command.now)
         (store_change F.held F.makes F.read_fails F.make_fails F.write_fails files.old files.new)
-        (Becomes O.ends out.old out.new)) }
+        (Becomes O.ends out.old out.new) (string_bytes warnings)) }
     ensures fault { IfErr result (IsRunCause
         (command_view command.now)
         (store_change F.held F.makes F.read_fails F.make_fails F.write_fails files.old files.new)
         (Becomes O.ends out.old out.new)) }
 {
-    match plan(alloc, world) {
+    match plan_explained(alloc, world) {
         Ok(plan) => run_plan(alloc, command, Planned { world, plan: &plan }, files, out),
-        Err(fault) => Err(ProgramFault::from(fault)),
+        Err(refused) => Err(plan_fault(refused)),
     }
 }
 
@@ -261,15 +267,15 @@ fn run_plan<'a, F: DirectoryStore, O: Screen>(
     planned: Planned<'_, '_>,
     files: &mut F,
     out: &mut O,
-) -> Result<(), ProgramFault<'a>>
+) -> Result<String, ProgramFault<'a>>
     requires planned { IsPlanned (command_view command.now) (F.held files.old)
         (world_view planned.world.now) }
     requires nameable { AreNameable (world_view planned.world.now) }
     requires plan { plan_view planned.plan.now ≡ plan_of (world_view planned.world.now) }
-    ensures done { OnOk result (EndsWell
+    ensures done { IfOk result (λ warnings. EndsWell
         (command_view command.now)
         (store_change F.held F.makes F.read_fails F.make_fails F.write_fails files.old files.new)
-        (Becomes O.ends out.old out.new)) }
+        (Becomes O.ends out.old out.new) (string_bytes warnings)) }
     ensures fault { IfErr result (IsRunCause
         (command_view command.now)
         (store_change F.held F.makes F.read_fails F.make_fails F.write_fails files.old files.new)
@@ -277,7 +283,25 @@ fn run_plan<'a, F: DirectoryStore, O: Screen>(
 {
     let outputs = outputs_of(alloc, command.out, planned.world)?;
     let description = description_of(alloc, command, planned.world, planned.plan)?;
-    write_and_print(command.out, outputs, &description, files, out)
+    let warnings = warnings_of(alloc, command, planned.world)?;
+    match write_and_print(command.out, outputs, &description, files, out) {
+        Ok(()) => Ok(warnings),
+        Err(fault) => Err(fault),
+    }
+}
+
+/// Prints the lines of warnings, if there are any. The answer is the status of a success, also where they can't be printed.
+fn print_warnings<E: Screen>(err: &mut E, warnings: &str) -> u8
+    ensures warned { AreWarned warnings.now (Becomes E.ends err.old err.new) }
+    ensures status { result ≡ success }
+{
+    if warnings.is_empty() {
+        return SUCCESS;
+    }
+    match err.show_bytes(warnings.as_bytes()) {
+        Ok(()) => SUCCESS,
+        Err(PutFailed) => SUCCESS,
+    }
 }
 
 /// Prints why a command failed: as JSON, if that is asked for; else in lines. The answer is the status of a failure.
@@ -301,47 +325,14 @@ fn report<E: Screen>(alloc: Global, err: &mut E, fault: &ProgramFault<'_>) -> u8
     }
 }
 
-/// Prints why the program failed, where memory is needed for the text. The answer is the status of a failure.
+/// Prints why the program failed, where memory is needed for this. The answer is the status of a failure.
 fn report_made<E: Screen>(alloc: Global, err: &mut E, fault: &ProgramFault<'_>) -> u8
     requires { NeedsText fault.now }
     ensures { IsReported fault.now (Becomes E.ends err.old err.new) result }
 {
-    match fault.text(alloc) {
-        Ok(text) => report_text(alloc, err, fault, &text),
+    match fault.text_and_details(alloc) {
+        Ok(text) => print_fault(err, &text),
         Err(AllocError) => print_fault(err, OUT_OF_MEMORY),
-    }
-}
-
-/// Prints the text of a fault in a line, and under it what the fault is about. The answer is the status of a failure.
-fn report_text<E: Screen>(alloc: Global, err: &mut E, fault: &ProgramFault<'_>, text: &str) -> u8
-    ensures { IsReportedWith fault.now text.now (Becomes E.ends err.old err.new) result }
-{
-    match fault.details(alloc) {
-        Ok(lines) => print_under(err, text, &lines),
-        Err(AllocError) => print_under(err, text, UNPLACED),
-    }
-}
-
-/// Prints the text of a fault in a line, and lines under it. The answer is the status of a failure.
-fn print_under<E: Screen>(err: &mut E, text: &str, lines: &str) -> u8
-    ensures { Prints (fault_line (text.now ++ lines.now)) failure
-        (Becomes E.ends err.old err.new) result }
-{
-    print_line(err, &Joined { text, lines })
-}
-
-/// A text, and lines under it.
-#[derive(Clone, Copy)]
-struct Joined<'a> {
-    text: &'a str,
-    lines: &'a str,
-}
-
-impl Printable for Joined<'_> {
-    ghost text = { λ j. j.text.now ++ j.lines.now };
-
-    fn put_text<S: Sink>(&self, out: &mut S) -> Result<(), PutFailed> {
-        put_after(out, self.text.as_bytes(), self.lines)
     }
 }
 
@@ -352,14 +343,14 @@ fn print_help<O: Screen, E: Screen>(out: &mut O, err: &mut E) -> u8
 {
     let text = TextBetween {
         before: USAGE,
-        text: &OPTIONS,
-        after: b"",
+        text: &Text(OPTIONS),
+        after: "",
     };
     print_asked(out, err, &text)
 }
 
 /// Prints a text that was asked for; or to `err` that it could not be. The answer is the exit status.
-fn print_asked<O: Screen, E: Screen, T: Printable>(out: &mut O, err: &mut E, text: &T) -> u8
+fn print_asked<O: Screen, E: Screen, T: FaultText>(out: &mut O, err: &mut E, text: &T) -> u8
     ensures { PrintsAsked (T.text text.now)
         (Becomes O.ends out.old out.new) (Becomes E.ends err.old err.new) result }
 {
@@ -370,33 +361,33 @@ fn print_asked<O: Screen, E: Screen, T: Printable>(out: &mut O, err: &mut E, tex
 }
 
 /// Prints the text of a fault in a line. The answer is the status of a failure.
-fn print_fault<E: Screen>(err: &mut E, text: &[u8]) -> u8
+fn print_fault<E: Screen>(err: &mut E, text: &str) -> u8
     ensures { Prints (fault_line text.now) failure (Becomes E.ends err.old err.new) result }
 {
-    print_line(err, &text)
+    print_line(err, &Text(text))
 }
 
 /// Prints the line of a fault, whose text is of any kind. The answer is the status of a failure.
-fn print_line<E: Screen, T: Printable>(err: &mut E, text: &T) -> u8
+fn print_line<E: Screen, T: FaultText>(err: &mut E, text: &T) -> u8
     ensures { Prints (fault_line (T.text text.now)) failure
         (Becomes E.ends err.old err.new) result }
 {
     let line = TextBetween {
-        before: b"wcplan: ",
+        before: "wcplan: ",
         text,
-        after: b"\n",
+        after: "\n",
     };
     print(err, &line, FAILURE)
 }
 
 /// Prints what is wrong with the arguments in a line, and the usage text. The answer is the exit status.
-fn print_usage_fault<E: Screen>(err: &mut E, text: &[u8]) -> u8
+fn print_usage_fault<E: Screen>(err: &mut E, text: &str) -> u8
     ensures { Prints (fault_and_usage text.now) wrong_arguments
         (Becomes E.ends err.old err.new) result }
 {
     let lines = TextBetween {
-        before: b"wcplan: ",
-        text: &text,
+        before: "wcplan: ",
+        text: &Text(text),
         after: AND_USAGE,
     };
     print(err, &lines, WRONG_ARGUMENTS)

@@ -10,8 +10,8 @@ use std::alloc::{AllocError, Global};
 use wc_json::escaped;
 
 /// The usage text.
-pub(crate) const USAGE: &[u8] =
-    b"usage: wcplan WORLDS.json [WORLD] MAIN.wasm [--adapt [NAME=]FILE]... [--export KEY]... \
+pub(crate) const USAGE: &str =
+    "usage: wcplan WORLDS.json [WORLD] MAIN.wasm [--adapt [NAME=]FILE]... [--export KEY]... \
       [--adapter-export NAME=KEY]...
               [--reject-legacy-names] [--realloc-via-memory-grow] [--task-hook NAME] [--json] \
       [--why KEY [--dot]] [--out DIR]
@@ -19,8 +19,8 @@ pub(crate) const USAGE: &[u8] =
 ";
 
 /// The part of the help text after the usage text: what each argument is.
-pub(crate) const OPTIONS: &[u8] =
-    b"  WORLDS.json                the worlds, as `wasm-tools component wit --json` prints them
+pub(crate) const OPTIONS: &str =
+    "  WORLDS.json                the worlds, as `wasm-tools component wit --json` prints them
   WORLD                      the world that is encoded for; it may be left out if all others are parts of it
   MAIN.wasm                  the main module
   --adapt [NAME=]FILE        an adapter, and its module; NAME is else FILE's name up to its first `.`
@@ -39,10 +39,10 @@ pub(crate) const OPTIONS: &[u8] =
 ";
 
 /// The program's name and version, in a line.
-pub(crate) const VERSION: &[u8] = b"wcplan 0.262.0\n";
+pub(crate) const VERSION: &str = "wcplan 0.262.0\n";
 
 /// The end of the line of a wrong argument, and the usage text.
-pub(crate) const AND_USAGE: &[u8] = b"
+pub(crate) const AND_USAGE: &str = "
 usage: wcplan WORLDS.json [WORLD] MAIN.wasm [--adapt [NAME=]FILE]... [--export KEY]... \
       [--adapter-export NAME=KEY]...
               [--reject-legacy-names] [--realloc-via-memory-grow] [--task-hook NAME] [--json] \
@@ -51,7 +51,7 @@ usage: wcplan WORLDS.json [WORLD] MAIN.wasm [--adapt [NAME=]FILE]... [--export K
 ";
 
 /// The text of an argument that is no text.
-pub(crate) const NO_TEXT: &[u8] = b"argument that is not UTF-8";
+pub(crate) const NO_TEXT: &str = "argument that is not UTF-8";
 
 impl WrongArgument<'_> {
     /// The text that says what is wrong, in a line without its end. Arguments in it are escaped (`wc_json::escaped`).

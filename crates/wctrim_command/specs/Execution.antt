@@ -1,10 +1,17 @@
 -- What a command makes of its input, and the causes of its faults.
 use Rattle.std.specs.Prelude.{◌≡◌, ◌≢◌, ◌↔◌, ℕ, List, [], Option, Some, None}
+use Rattle.std.specs.Option.{option_map}
+use Rattle.wc_read.specs.Place.{IsPlaced}
+use Rattle.wc_read.specs.declared.place.ReadPlace.{ReadPlace}
+use Rattle.wc_texts.specs.declared.refused.Refused.{Refused}
+use Rattle.wc_gc.specs.TrimPlace.{IsExplained}
+use Rattle.wc_gc.specs.declared.trim_place.TrimPlace.{TrimPlace}
+use Rattle.wc_gc.specs.declared.trim_place.TrimPlace.TheVariants.{Bytes}
 use Rattle.wc_read.specs.Sections.{IsComponent}
 use Rattle.wc_read.specs.Modules.{ModuleValue, SpellsModule}
 use Rattle.wc_read.specs.declared.fault.ReadFault.TheVariants.{Memory as read_memory, Component}
 use Rattle.wc_dedupe.specs.Renaming.{RenameView}
-use Rattle.wc_dedupe.specs.Dedupe.{IsDeduped, IsDedupeCause}
+use Rattle.wc_dedupe.specs.Dedupe.{IsDeduped, IsDedupeCause, IsDedupePlace}
 use Rattle.wc_dedupe.specs.declared.fault.DedupeFault.TheVariants.{Memory as dedupe_memory}
 use Rattle.wc_gc.specs.LiveItems.{TrimInput, trim_input_for_names}
 use Rattle.wc_gc.specs.Parts.{SettingsView}
@@ -14,11 +21,11 @@ use Rattle.wc_gc.specs.declared.fault.GcFault.TheVariants.{Memory as gc_memory}
 use Rattle.wctrim_command.specs.Command.{CommandView, dedupe, scan, trim}
 use Rattle.wctrim_command.specs.Lines.{lines_of}
 use Rattle.wctrim_command.specs.Scan.{scan_lines}
-use Rattle.wctrim_command.specs.declared.fault.ToolFault.{ToolFault}
-use Rattle.wctrim_command.specs.declared.fault.ToolFault.TheVariants.{Memory, Dedupe, Trim, Read, Output}
+use Rattle.wctrim_command.specs.declared.fault.CommandFault.{CommandFault}
+use Rattle.wctrim_command.specs.declared.fault.CommandFault.TheVariants.{Memory, Dedupe, Trim, Read, Output}
 
 -- the cause of a fault of trimming
-abbrev pub IsTrimsCause : SettingsView → TrimInput → ToolFault → Type 0
+abbrev pub IsTrimsCause : SettingsView → TrimInput → CommandFault → Type 0
 IsTrimsCause s w Memory = Unit {0}
 IsTrimsCause s w (Trim f) = (f ≢ gc_memory) × IsTrimFault s w f
 IsTrimsCause s w f = ⊥
@@ -37,15 +44,39 @@ Runs (trim source target realloc page_size_log2 exports) input lines answer =
     (bytes : List ℕ) × IsTrimmed (settings_of realloc page_size_log2) (trim_input_for_names input exports) bytes × (lines ≡ []) × (answer ≡ Some bytes)
 
 -- the cause of a fault. Memory and Output may come with any input: that a put failed is said of the sink
-abbrev pub IsToolCause : CommandView → List ℕ → ToolFault → Type 0
-IsToolCause c input Memory = Unit {0}
-IsToolCause (dedupe source target) input (Dedupe f) = (f ≢ dedupe_memory) × IsDedupeCause input f
-IsToolCause (dedupe source target) input (Read f) = ⊥
-IsToolCause (dedupe source target) input (Trim f) = ⊥
-IsToolCause (scan source) input (Dedupe f) = ⊥
-IsToolCause (scan source) input (Trim f) = ⊥
-IsToolCause (scan source) input (Read f) = (f ≢ read_memory) × ((f ≡ Component) ↔ IsComponent input) × ((m : ModuleValue) → ¬ (SpellsModule input m))
-IsToolCause (trim source target realloc page_size_log2 exports) input (Trim f) = IsTrimsCause (settings_of realloc page_size_log2) (trim_input_for_names input exports) (Trim f)
-IsToolCause (trim source target realloc page_size_log2 exports) input (Dedupe f) = ⊥
-IsToolCause (trim source target realloc page_size_log2 exports) input (Read f) = ⊥
-IsToolCause c input Output = Unit {0}
+abbrev pub IsCommandCause : CommandView → List ℕ → CommandFault → Type 0
+IsCommandCause c input Memory = Unit {0}
+IsCommandCause (dedupe source target) input (Dedupe f) = (f ≢ dedupe_memory) × IsDedupeCause input f
+IsCommandCause (dedupe source target) input (Read f) = ⊥
+IsCommandCause (dedupe source target) input (Trim f) = ⊥
+IsCommandCause (scan source) input (Dedupe f) = ⊥
+IsCommandCause (scan source) input (Trim f) = ⊥
+IsCommandCause (scan source) input (Read f) = (f ≢ read_memory) × ((f ≡ Component) ↔ IsComponent input) × ((m : ModuleValue) → ¬ (SpellsModule input m))
+IsCommandCause (trim source target realloc page_size_log2 exports) input (Trim f) = IsTrimsCause (settings_of realloc page_size_log2) (trim_input_for_names input exports) (Trim f)
+IsCommandCause (trim source target realloc page_size_log2 exports) input (Dedupe f) = ⊥
+IsCommandCause (trim source target realloc page_size_log2 exports) input (Read f) = ⊥
+IsCommandCause c input Output = Unit {0}
+
+-- a place in the bytes of the input
+abbrev pub IsBytesPlace : (Option ReadPlace → Type 0) → Option TrimPlace → Type 0
+IsBytesPlace P place = (p : Option ReadPlace) × P p × (place ≡ option_map Bytes p)
+
+-- what a fault of a trim is about
+abbrev pub IsTrimsPlace : TrimInput → CommandFault → Option TrimPlace → Type 0
+IsTrimsPlace w (Trim f) place = IsExplained w f place
+IsTrimsPlace w f place = place ≡ None
+
+-- what a fault is about: where reading the input stopped, or of a trim what `wc_gc` has; the others are about nothing
+abbrev pub IsCommandPlace : CommandView → List ℕ → CommandFault → Option TrimPlace → Type 0
+IsCommandPlace (dedupe source target) input (Dedupe f) place = IsBytesPlace (IsDedupePlace input f) place
+IsCommandPlace (scan source) input (Read f) place = IsBytesPlace (IsPlaced input f) place
+IsCommandPlace (trim source target realloc page_size_log2 exports) input f place = IsTrimsPlace (trim_input_for_names input exports) f place
+IsCommandPlace c input f place = place ≡ None
+
+-- why a command is refused, and what that is about
+abbrev pub CommandRefusal : Type 0
+CommandRefusal = Refused CommandFault TrimPlace
+
+pub record IsRefusalOf (c : CommandView) (input : List ℕ) (x : CommandRefusal) : Type 0 where
+  pub cause : IsCommandCause c input x.fault
+  pub place : IsCommandPlace c input x.fault x.place

@@ -1,22 +1,26 @@
 -- The program: what it prints, what becomes of files, and its exit status.
-use Rattle.std.specs.Prelude.{◌≡◌, ◌≢◌, ℕ, ◌⊎◌, List, [], ◌++◌, codes, String, Option, Some, None}
+use Rattle.std.specs.Prelude.{◌≡◌, ◌≢◌, ℕ, ◌⊎◌, List, [], ◌++◌, codes, String, string_bytes, Option, Some, None}
+use Rattle.std.specs.Option.{option_map}
 use Rattle.std.specs.declared.alloc.Global.{Global}
 use Rattle.wc_texts.specs.FaultTexts.{memory_text}
-use Rattle.wc_program.specs.Files.{Held, Holds, Writes, KeepsOthers, FileChange}
+use Rattle.wc_texts.specs.declared.refused.Refused.{Refused}
+use Rattle.wc_gc.specs.TrimPlace.{place_text}
+use Rattle.wc_gc.specs.declared.trim_place.TrimPlace.{TrimPlace}
+use Rattle.wc_program.specs.Files.{Held, Holds, Writes, KeepsOthers, FileChange, problem_text}
 use Rattle.wc_program.specs.Program.{success, failure, wrong_arguments, Prints, EndsByArguments, EndsByReason}
 use Rattle.wc_program.specs.Screen.{Printing, nothing, printed, failed}
-use Rattle.wc_program.specs.declared.files.ReadProblem.{ReadProblem}
-use Rattle.wc_program.specs.declared.files.ReadProblem.TheVariants.{Memory as read_memory}
+use Rattle.wc_program.specs.declared.files.FileProblem.{FileProblem}
+use Rattle.wc_program.specs.declared.files.FileProblem.TheVariants.{Memory as read_memory}
 use Rattle.wc_program.specs.declared.program.NoArguments.{NoArguments}
 use Rattle.wc_program.specs.declared.program.NoArguments.TheVariants.{Empty, NoMemory, NoText}
 use Rattle.wctrim_command.specs.Command.{CommandView, source_of, target_of, IsCommandLine}
 use Rattle.wctrim_command.specs.Lines.{line_feed}
-use Rattle.wctrim_command.specs.Execution.{Runs, IsToolCause}
-use Rattle.wctrim_command.specs.Fault.{tool_fault_text}
-use Rattle.wctrim_command.specs.declared.fault.ToolFault.{ToolFault}
-use Rattle.wctrim_command.specs.declared.fault.ToolFault.TheVariants.{Memory, Output}
+use Rattle.wctrim_command.specs.Execution.{CommandRefusal, IsRefusalOf, Runs}
+use Rattle.wctrim_command.specs.Fault.{command_fault_text}
+use Rattle.wctrim_command.specs.declared.fault.CommandFault.{CommandFault}
+use Rattle.wctrim_command.specs.declared.fault.CommandFault.TheVariants.{Memory, Output}
 use Rattle.wctrim_command.specs.declared.program.RunFault.{RunFault}
-use Rattle.wctrim_command.specs.declared.program.RunFault.TheVariants.{CannotRead, CannotWrite, Tool}
+use Rattle.wctrim_command.specs.declared.program.RunFault.TheVariants.{CannotRead, CannotWrite, Command}
 
 -- the usage text
 abbrev pub usage_text : List ℕ
@@ -25,12 +29,6 @@ usage_text = codes "usage: wctrim dedupe IN OUT\n       wctrim trim IN OUT [--re
 -- the line that says why the program failed
 abbrev pub fault_line : List ℕ → List ℕ
 fault_line text = codes "wctrim: " ++ (text ++ line_feed)
-
-abbrev pub unread_text : List ℕ → List ℕ
-unread_text path = codes "cannot read " ++ path
-
-abbrev pub unwritten_text : List ℕ → List ℕ
-unwritten_text path = codes "cannot write " ++ path
 
 -- the output file has the answer, where there are both, and each other file the bytes that it had
 abbrev pub IsAnswered : Option (List ℕ) → Option (List ℕ) → Option Held → Option Held → Type 0
@@ -46,58 +44,96 @@ pub record IsDone (c : CommandView) (before after : Option Held) (lines : List �
   pub runs : Runs c input lines answer
   pub written : IsAnswered (target_of c) answer before after
 
--- the input file could not be read, for a problem other than memory
-abbrev pub IsUnreadInput : CommandView → FileChange → Type 0
-IsUnreadInput c files = (p : ReadProblem) × files.IsFailedRead (source_of c) p × (p ≢ read_memory)
+-- the input file could not be read, for this problem other than memory
+abbrev pub IsUnreadInput : CommandView → FileChange → FileProblem → Type 0
+IsUnreadInput c files p = files.IsFailedRead (source_of c) p × (p ≢ read_memory)
 
--- it is too large for memory, and each file has the bytes that it had
-abbrev pub IsTooLarge : CommandView → FileChange → ToolFault → Type 0
-IsTooLarge c files Memory = files.IsFailedRead (source_of c) read_memory × (files.after ≡ files.before)
-IsTooLarge c files f = ⊥
+-- why a command is refused, and the text of what that is about
+abbrev pub ToldRefusal : Type 0
+ToldRefusal = Refused CommandFault (String Global)
+
+-- memory ran out, and nothing more is said
+abbrev pub IsMemoryRefusal : ToldRefusal → Type 0
+IsMemoryRefusal x = (x.fault ≡ Memory) × (x.place ≡ None)
+
+abbrev pub IsMemoryFault : RunFault → Type 0
+IsMemoryFault (Command x) = IsMemoryRefusal x
+IsMemoryFault f = ⊥
+
+-- the input file is too large for memory, and each file has the bytes that it had
+abbrev pub IsTooLarge : CommandView → FileChange → ToldRefusal → Type 0
+IsTooLarge c files x = IsMemoryRefusal x × files.IsFailedRead (source_of c) read_memory × (files.after ≡ files.before)
+
+-- a refusal is told with the text of its place, if it has one; or there was no memory for this
+abbrev pub IsToldAt : CommandFault → Option TrimPlace → ToldRefusal → Type 0
+IsToldAt f None y = (y.fault ≡ f) × (y.place ≡ None)
+IsToldAt f (Some p) y = IsMemoryRefusal y ⊎ ((y.fault ≡ f) × (option_map string_bytes y.place ≡ Some (place_text p)))
+
+abbrev pub IsToldOf : CommandRefusal → ToldRefusal → Type 0
+IsToldOf x y = IsToldAt x.fault x.place y
 
 -- the bytes of the input file were refused, and each file has the bytes that it had
-pub record IsRefused (c : CommandView) (before after : Option Held) (fault : ToolFault) : Type 0 where
+pub record IsRefused (c : CommandView) (before after : Option Held) (told : ToldRefusal) : Type 0 where
   pub input : List ℕ
   pub read : Holds before (source_of c) input
-  pub cause : IsToolCause c input fault
+  pub refusal : CommandRefusal
+  pub is : IsRefusalOf c input refusal
+  pub told_of : IsToldOf refusal told
   pub kept : after ≡ before
 
--- after these lines the output file was to have the answer, and the write of this failed; each other file has the bytes
--- that it had
-pub record IsUnwritten (c : CommandView) (files : FileChange) (lines target : List ℕ) : Type 0 where
+-- after these lines the output file was to have the answer, and the write of this failed for this problem; each other file
+-- has the bytes that it had
+pub record IsUnwritten (c : CommandView) (files : FileChange) (lines target : List ℕ) (p : FileProblem) : Type 0 where
   pub input : List ℕ
   pub answer : List ℕ
   pub read : Holds files.before (source_of c) input
   pub runs : Runs c input lines (Some answer)
   pub is_target : target_of c ≡ Some target
-  pub failed : files.IsFailedWrite target answer
+  pub failed : files.IsFailedWrite target answer p
   pub others : KeepsOthers files.before files.after target
 
 -- the cause of a fault of a command that was run on its files, after these lines
 abbrev pub IsRunCause : CommandView → FileChange → List ℕ → RunFault → Type 0
-IsRunCause c files lines (CannotRead path) = (path.now ≡ source_of c) × (files.after ≡ files.before) × (lines ≡ []) × IsUnreadInput c files
-IsRunCause c files lines (Tool fault) = (IsRefused c files.before files.after fault ⊎ IsTooLarge c files fault) × (lines ≡ [])
-IsRunCause c files lines (CannotWrite path) = IsUnwritten c files lines path.now
+IsRunCause c files lines (CannotRead path p) = (path.now ≡ source_of c) × (files.after ≡ files.before) × (lines ≡ []) × IsUnreadInput c files p
+IsRunCause c files lines (Command x) = (IsRefused c files.before files.after x ⊎ IsTooLarge c files x) × (lines ≡ [])
+IsRunCause c files lines (CannotWrite path p) = IsUnwritten c files lines path.now p
 
 -- what was done with the output: it failed; or the lines were printed, and the file could not be written; or nothing was put
+abbrev pub LeavesAfter : CommandFault → (Printing → Type 0) → Type 0
+LeavesAfter Output out = out failed
+LeavesAfter f out = out nothing
+
 abbrev pub LeavesOutput : RunFault → List ℕ → (Printing → Type 0) → Type 0
-LeavesOutput (Tool Output) lines out = out failed
-LeavesOutput (CannotWrite path) lines out = out (printed lines)
-LeavesOutput f lines out = out nothing
+LeavesOutput (Command x) lines out = LeavesAfter x.fault out
+LeavesOutput (CannotWrite path p) lines out = out (printed lines)
+LeavesOutput (CannotRead path p) lines out = out nothing
 
 -- a command that was run on its files has this fault
 abbrev pub IsRunFault : CommandView → FileChange → (Printing → Type 0) → RunFault → Type 0
 IsRunFault c files out f = (lines : List ℕ) × IsRunCause c files lines f × LeavesOutput f lines out
 
--- the text of a fault
+-- the line under the text of a fault, of what it is about
+abbrev pub place_line : Option (String Global) → List ℕ
+place_line None = []
+place_line (Some text) = codes "\n  " ++ string_bytes text
+
+-- the text of a fault, and that line
+abbrev pub told_text : ToldRefusal → List ℕ
+told_text x = command_fault_text x.fault ++ place_line x.place
+
 abbrev pub run_fault_text : RunFault → List ℕ
-run_fault_text (CannotRead path) = unread_text path.now
-run_fault_text (CannotWrite path) = unwritten_text path.now
-run_fault_text (Tool fault) = tool_fault_text fault
+run_fault_text (CannotRead path p) = codes "cannot read " ++ (path.now ++ problem_text p)
+run_fault_text (CannotWrite path p) = codes "cannot write " ++ (path.now ++ problem_text p)
+run_fault_text (Command x) = told_text x
+
+-- the output failed
+abbrev pub IsOutputFault : RunFault → Type 0
+IsOutputFault (Command x) = x.fault ≡ Output
+IsOutputFault f = ⊥
 
 -- why the command could not be run was printed after its lines, or the output failed
 abbrev pub IsReported : (Printing → Type 0) → RunFault → List ℕ → Type 0
-IsReported out fault lines = ((fault ≢ Tool Output) × out (printed (lines ++ fault_line (run_fault_text fault)))) ⊎ out failed
+IsReported out fault lines = (¬ IsOutputFault fault × out (printed (lines ++ fault_line (run_fault_text fault)))) ⊎ out failed
 
 -- the command did its work, and its lines were printed
 abbrev pub EndsWell : CommandView → Option Held → Option Held → (Printing → Type 0) → Type 0

@@ -1,116 +1,101 @@
 //! Why a command could not be executed.
 
-ghost use Rattle.std.specs.Prelude.{◌≡◌, Some};
-ghost use Rattle.wctrim_command.specs.declared.fault.ToolFault.TheVariants.{Memory, Output};
-ghost use Rattle.wctrim_command.specs.Fault.{tool_fault_text};
+ghost use Rattle.std.specs.Prelude.{◌≡◌};
+ghost use Rattle.wctrim_command.specs.declared.fault.CommandFault.TheVariants.{Memory, Output};
+ghost use Rattle.wctrim_command.specs.Fault.{command_fault_text};
 
 use std::alloc::AllocError;
-use std::error::Error as StdError;
-use std::fmt;
+use thiserror::Error;
 use wc_dedupe::DedupeFault;
 use wc_gc::GcFault;
-use wc_program::Printable;
 use wc_read::ReadFault;
-use wc_texts::{FaultText, OUT_OF_MEMORY, Pieces, PutFailed, Sink, put_carried, show};
+use wc_texts::{FaultText, OUT_OF_MEMORY, Pieces, PutFailed, put_carried};
 
 /// Why a command could not be executed.
-#[derive(Debug, Drop)]
-pub enum ToolFault {
+#[derive(Debug, Drop, Error)]
+pub enum CommandFault {
     /// An allocation failed.
+    #[error("out of memory")]
     Memory,
     /// The imports of the module could not be renamed. It carries why, never `Memory`.
+    #[error("Dedupe: {0}")]
     Dedupe(DedupeFault),
     /// The adapter could not be trimmed. It carries why, never `Memory`.
+    #[error("Trim: {0}")]
     Trim(GcFault),
     /// The bytes are no module. It carries why, never `Memory`.
+    #[error("Read: {0}")]
     Read(ReadFault),
     /// The lines could not be written.
+    #[error("Output")]
     Output,
 }
 
-impl From<AllocError> for ToolFault {
+impl From<AllocError> for CommandFault {
     ghost from_gives = { λ _ e. e ≡ Memory };
 
-    fn from(_e: AllocError) -> ToolFault {
-        ToolFault::Memory
+    fn from(_e: AllocError) -> CommandFault {
+        CommandFault::Memory
     }
 }
 
-impl From<DedupeFault> for ToolFault {
+impl From<DedupeFault> for CommandFault {
     ghost use Rattle.wctrim_command.specs.Fault.{of_dedupe};
 
     ghost from_gives = { λ f e. e ≡ of_dedupe f };
 
-    fn from(e: DedupeFault) -> ToolFault {
+    fn from(e: DedupeFault) -> CommandFault {
         match e {
-            DedupeFault::Memory => ToolFault::Memory,
-            _ => ToolFault::Dedupe(e),
+            DedupeFault::Memory => CommandFault::Memory,
+            _ => CommandFault::Dedupe(e),
         }
     }
 }
 
-impl From<GcFault> for ToolFault {
+impl From<GcFault> for CommandFault {
     ghost use Rattle.wctrim_command.specs.Fault.{of_trim};
 
     ghost from_gives = { λ f e. e ≡ of_trim f };
 
-    fn from(e: GcFault) -> ToolFault {
+    fn from(e: GcFault) -> CommandFault {
         match e {
-            GcFault::Memory => ToolFault::Memory,
-            _ => ToolFault::Trim(e),
+            GcFault::Memory => CommandFault::Memory,
+            _ => CommandFault::Trim(e),
         }
     }
 }
 
-impl From<ReadFault> for ToolFault {
+impl From<ReadFault> for CommandFault {
     ghost use Rattle.wctrim_command.specs.Fault.{of_read};
 
     ghost from_gives = { λ f e. e ≡ of_read f };
 
-    fn from(e: ReadFault) -> ToolFault {
+    fn from(e: ReadFault) -> CommandFault {
         match e {
-            ReadFault::Memory => ToolFault::Memory,
-            _ => ToolFault::Read(e),
+            ReadFault::Memory => CommandFault::Memory,
+            _ => CommandFault::Read(e),
         }
     }
 }
 
-impl From<PutFailed> for ToolFault {
+impl From<PutFailed> for CommandFault {
     ghost from_gives = { λ _ e. e ≡ Output };
 
-    fn from(_e: PutFailed) -> ToolFault {
-        ToolFault::Output
+    fn from(_e: PutFailed) -> CommandFault {
+        CommandFault::Output
     }
 }
 
-impl FaultText for ToolFault {
-    ghost text = { tool_fault_text };
+impl FaultText for CommandFault {
+    ghost text = { command_fault_text };
 
     fn put_pieces<P: Pieces>(&self, out: &mut P) -> Result<(), PutFailed> {
         match self {
-            ToolFault::Memory => out.put_piece(OUT_OF_MEMORY),
-            ToolFault::Dedupe(fault) => put_carried(out, "Dedupe", fault),
-            ToolFault::Trim(fault) => put_carried(out, "Trim", fault),
-            ToolFault::Read(fault) => put_carried(out, "Read", fault),
-            ToolFault::Output => out.put_piece("Output"),
+            CommandFault::Memory => out.put_piece(OUT_OF_MEMORY),
+            CommandFault::Dedupe(fault) => put_carried(out, "Dedupe", fault),
+            CommandFault::Trim(fault) => put_carried(out, "Trim", fault),
+            CommandFault::Read(fault) => put_carried(out, "Read", fault),
+            CommandFault::Output => out.put_piece("Output"),
         }
     }
 }
-
-impl Printable for ToolFault {
-    ghost text = { tool_fault_text };
-
-    fn put_text<S: Sink>(&self, out: &mut S) -> Result<(), PutFailed> {
-        self.put_pieces(out)
-    }
-}
-
-impl fmt::Display for ToolFault {
-    ghost output = { λ fault. Some (tool_fault_text fault) };
-
-    fn fmt<W: fmt::Write>(&self, f: &mut fmt::Formatter<W>) -> fmt::Result {
-        show(self, f)
-    }
-}
-
-impl StdError for ToolFault {}

@@ -6,7 +6,7 @@
 //! ```rust
 //! use std::alloc::Global;
 //! use wc_maps::Seed;
-//! use wctrim_command::{ToolFault, execute, parse};
+//! use wctrim_command::{CommandFault, execute, parse};
 //! use wc_write::WriterSink;
 //!
 //! /// The lines that a command prints for the bytes of a module. `None` where the arguments are
@@ -16,7 +16,7 @@
 //!     seed: Seed,
 //!     arguments: &[String],
 //!     input: &[u8],
-//! ) -> Result<Option<Vec<u8>>, ToolFault>
+//! ) -> Result<Option<Vec<u8>>, CommandFault>
 //!     ensures lines { IfOk result (λ answer. IfSome answer (λ lines.
 //!         (c : CommandView) × (written : Option (List ℕ))
 //!         × IsCommandLine (map string_bytes arguments.now) c
@@ -46,5 +46,5 @@ mod trim_arguments;
 
 pub use command::{Command, Usage, parse};
 pub use execution::execute;
-pub use fault::ToolFault;
+pub use fault::CommandFault;
 pub use program::{RunFault, run, run_command};

@@ -1,28 +1,31 @@
 //! The program: its arguments, its files, what it prints, and its exit status.
 
-ghost use Rattle.std.specs.Prelude.{◌≡◌, ◌≢◌, true, List, ℕ, IfOk, IfErr, IsErr, IsErrOf, OnOk};
+ghost use Rattle.std.specs.Prelude.{◌≡◌, ◌≢◌, ◌++◌, true, List, ℕ, Some, IfOk, IfErr, IsErr, OnOk};
 ghost use Rattle.std.specs.Option.{option_map};
 ghost use Rattle.std.specs.IoError.{error_kind};
-ghost use Rattle.wc_program.specs.Files.{file_change};
+ghost use Rattle.wc_program.specs.Files.{file_change, problem_text};
 ghost use Rattle.wc_program.specs.Program.{Prints, failure};
 ghost use Rattle.wc_program.specs.Screen.{Becomes, output_ends, printed};
+ghost use Rattle.wc_texts.specs.Pieces.{IsPut};
 ghost use Rattle.wctrim_command.specs.Command.{command_view, IsExecutable};
-ghost use Rattle.wctrim_command.specs.Execution.{Runs, IsToolCause};
-ghost use Rattle.wctrim_command.specs.Program.{EndsWell, IsRunFault, CommandEnds, EndsWith, EndsWithout, ProgramEnds, EndsWithoutArguments, fault_line, run_fault_text};
+ghost use Rattle.wctrim_command.specs.Execution.{Runs, IsRefusalOf};
+ghost use Rattle.wctrim_command.specs.Fault.{command_fault_text};
+ghost use Rattle.wctrim_command.specs.Program.{EndsWell, IsMemoryFault, IsRunFault, IsToldAt, IsToldOf, CommandEnds, EndsWith, EndsWithout, ProgramEnds, EndsWithoutArguments, fault_line, run_fault_text, told_text};
 
 use crate::command::{Command, Usage, parse};
-use crate::execution::execute;
-use crate::fault::ToolFault;
-use std::alloc::Global;
+use crate::execution::execute_explained;
+use crate::fault::CommandFault;
+use std::alloc::{AllocError, Global};
 use std::io::{self, ErrorKind};
+use wc_gc::TrimPlace;
 use wc_maps::Seed;
 use wc_program::{
-    FAILURE, FileStore, NoArguments, Output, Printable, Program, ReadProblem, SUCCESS, Shell,
-    TextBetween, WRONG_ARGUMENTS, print, put_after, read_file,
+    FAILURE, FileProblem, FileStore, NoArguments, Output, Program, SUCCESS, Shell, Text,
+    TextBetween, WRONG_ARGUMENTS, print, problem_of, read_file,
 };
-use wc_write::{PutFailed, Sink};
+use wc_texts::{FaultText, Pieces, PutFailed, Refused};
 
-const USAGE: &[u8] = b"usage: wctrim dedupe IN OUT
+const USAGE: &str = "usage: wctrim dedupe IN OUT
        wctrim trim IN OUT [--realloc NAME] [--page 0|16] EXPORT...
        wctrim scan IN
 ";
@@ -30,24 +33,72 @@ const USAGE: &[u8] = b"usage: wctrim dedupe IN OUT
 /// Why a command could not be run on its files.
 #[derive(Debug, Drop)]
 pub enum RunFault<'a> {
-    /// The file of this path could not be read.
-    CannotRead(&'a str),
-    /// The file of this path could not be written.
-    CannotWrite(&'a str),
-    /// The command could not be executed.
-    Tool(ToolFault),
+    /// The file of this path could not be read, and why: never `Memory`.
+    CannotRead(&'a str, FileProblem),
+    /// The file of this path could not be written, and why.
+    CannotWrite(&'a str, FileProblem),
+    /// The command could not be executed: why, and what this is about, as a text, if it is about a place.
+    Command(Refused<CommandFault, String>),
 }
 
-impl Printable for RunFault<'_> {
+impl FaultText for RunFault<'_> {
     ghost text = { run_fault_text };
 
-    fn put_text<S: Sink>(&self, out: &mut S) -> Result<(), PutFailed> {
+    fn put_pieces<P: Pieces>(&self, out: &mut P) -> Result<(), PutFailed> {
         match self {
-            RunFault::CannotRead(path) => put_after(out, b"cannot read ", path),
-            RunFault::CannotWrite(path) => put_after(out, b"cannot write ", path),
-            RunFault::Tool(fault) => fault.put_text(out),
+            RunFault::CannotRead(path, problem) => put_problem(out, "cannot read ", path, *problem),
+            RunFault::CannotWrite(path, problem) => {
+                put_problem(out, "cannot write ", path, *problem)
+            }
+            RunFault::Command(refused) => put_refused(out, refused),
         }
     }
+}
+
+/// Puts the text of a fault, and under it a line of what it is about, if it is about a place.
+fn put_refused<P: Pieces>(
+    out: &mut P,
+    refused: &Refused<CommandFault, String>,
+) -> Result<(), PutFailed>
+    ensures { IsPut P.puts P.fails out.old out.new (told_text refused.now) result }
+{
+    match &refused.place {
+        Some(place) => put_under(out, &refused.fault, LINE_START, place),
+        None => refused.fault.put_pieces(out),
+    }
+}
+
+/// The end of a line, and the beginning of one under it.
+const LINE_START: &str = "\n  ";
+
+/// Puts the text of a fault, and a line under it, which begins so.
+fn put_under<P: Pieces>(
+    out: &mut P,
+    fault: &CommandFault,
+    start: &str,
+    line: &str,
+) -> Result<(), PutFailed>
+    ensures { IsPut P.puts P.fails out.old out.new
+        (command_fault_text fault.now ++ (start.now ++ line.now)) result }
+{
+    fault.put_pieces(out)?;
+    out.put_piece(start)?;
+    out.put_piece(line)
+}
+
+/// Puts what could not be done with a file, its path, and why.
+fn put_problem<P: Pieces>(
+    out: &mut P,
+    undone: &str,
+    path: &str,
+    problem: FileProblem,
+) -> Result<(), PutFailed>
+    ensures { IsPut P.puts P.fails out.old out.new
+        (undone.now ++ (path.now ++ problem_text problem)) result }
+{
+    out.put_piece(undone)?;
+    out.put_piece(path)?;
+    problem.put_pieces(out)
 }
 
 /// Runs the program with these arguments, the first of them the one after the program's name. The answer is its exit
@@ -62,8 +113,8 @@ impl Printable for RunFault<'_> {
 /// | 1 | there was no memory for the arguments | the line `wctrim: out of memory` |
 /// | 1 | the output failed | not known |
 ///
-/// TEXT is the text of `run_command`'s fault (`Printable`): `cannot read IN` or `cannot write OUT` with the path, or the
-/// text of the fault of `execute`. All that is printed is flushed. Files are as `run_command` leaves them; without a
+/// TEXT is the text of `run_command`'s fault (`FaultText`): `cannot read IN: WHY` or `cannot write OUT: WHY` with the path, or
+/// the text of the fault of `execute`. All that is printed is flushed. Files are as `run_command` leaves them; without a
 /// command they are unchanged. What is done is the same for every seed of the shell.
 pub fn run<F: FileStore, O: Output>(
     arguments: &io::Result<Vec<String>>,
@@ -97,15 +148,18 @@ impl<F: FileStore, O: Output> Program<F, O, ()> for Wctrim {
     fn run_with(&self, arguments: &[String], shell: &mut Shell<F, O, ()>) -> u8 {
         match parse(arguments) {
             Ok(command) => run_and_report(&command, shell),
-            Err(Usage) => print(&mut shell.out, &USAGE, WRONG_ARGUMENTS),
+            Err(Usage) => print(&mut shell.out, &Text(USAGE), WRONG_ARGUMENTS),
         }
     }
 
     fn run_without(&self, why: NoArguments, shell: &mut Shell<F, O, ()>) -> u8 {
         match why {
-            NoArguments::Empty => print(&mut shell.out, &USAGE, SUCCESS),
-            NoArguments::NoMemory => report(&mut shell.out, &RunFault::Tool(ToolFault::Memory)),
-            NoArguments::NoText => print(&mut shell.out, &USAGE, WRONG_ARGUMENTS),
+            NoArguments::Empty => print(&mut shell.out, &Text(USAGE), SUCCESS),
+            NoArguments::NoMemory => report(
+                &mut shell.out,
+                &RunFault::Command(Refused::without_place(CommandFault::Memory)),
+            ),
+            NoArguments::NoText => print(&mut shell.out, &Text(USAGE), WRONG_ARGUMENTS),
         }
     }
 }
@@ -136,9 +190,9 @@ fn report<O: Output>(out: &mut O, fault: &RunFault<'_>) -> u8
         (Becomes (output_ends O.written O.sent O.is_failed) out.old out.new) result }
 {
     let line = TextBetween {
-        before: b"wctrim: ",
+        before: "wctrim: ",
         text: fault,
-        after: b"\n",
+        after: "\n",
     };
     print(out, &line, FAILURE)
 }
@@ -149,12 +203,12 @@ fn report<O: Output>(out: &mut O, fault: &RunFault<'_>) -> u8
 /// # Errors
 ///
 /// - `CannotRead`: the input file could not be read. Nothing is put.
-/// - `Tool`: the fault of `execute`. Nothing is put; with `Tool(Output)` `out` is failed instead, and how much was
-///   written is left open. `Tool(Memory)` also where the input file is too large for memory.
+/// - `Command`: the fault of `execute`. Nothing is put; with `Command(Output)` `out` is failed instead, and how much was
+///   written is left open. `Command(Memory)` also where the input file is too large for memory.
 /// - `CannotWrite`: the write of the output file failed. The lines were put and handed on before, and `out` is not failed.
 ///   What bytes that file has is left open.
 ///
-/// With `CannotRead` and `Tool` no file is created or changed: so where `out` fails, none is.
+/// With `CannotRead` and `Command` no file is created or changed: so where `out` fails, none is.
 pub fn run_command<'a, F: FileStore, O: Output>(
     alloc: Global,
     seed: Seed,
@@ -173,20 +227,51 @@ pub fn run_command<'a, F: FileStore, O: Output>(
     let source = command.source();
     let input = match read_file(&*files, source) {
         Ok(input) => input,
-        Err(ReadProblem::Memory) => return Err(RunFault::Tool(ToolFault::Memory)),
-        Err(_) => return Err(RunFault::CannotRead(source)),
+        Err(FileProblem::Memory) => return Err(too_large()),
+        Err(problem) => return Err(RunFault::CannotRead(source, problem)),
     };
     let answer = match execute_and_flush(alloc, seed, command, input.as_slice(), out) {
         Ok(answer) => answer,
-        Err(fault) => return Err(RunFault::Tool(fault)),
+        Err(refused) => return Err(RunFault::Command(told(alloc, refused))),
     };
     let (Some(target), Some(bytes)) = (command.target(), answer) else {
         return Ok(());
     };
-    if files.write(target, bytes.as_slice()).is_err() {
-        return Err(RunFault::CannotWrite(target));
+    match files.write(target, bytes.as_slice()) {
+        Ok(()) => Ok(()),
+        Err(e) => Err(RunFault::CannotWrite(target, problem_of(&e))),
     }
-    Ok(())
+}
+
+/// The fault of an input file that is too large for memory.
+fn too_large<'a>() -> RunFault<'a>
+    ensures { IsMemoryFault result }
+{
+    RunFault::Command(Refused::without_place(CommandFault::Memory))
+}
+
+/// A refusal, with the text of its place; `Memory` where there is no memory for this.
+fn told(alloc: Global, refused: Refused<CommandFault, TrimPlace>) -> Refused<CommandFault, String>
+    ensures { IsToldOf refused result }
+{
+    let Refused { fault, place } = refused;
+    match place {
+        Some(place) => told_at(alloc, fault, place),
+        None => Refused::without_place(fault),
+    }
+}
+
+/// A refusal that is about a place.
+fn told_at(alloc: Global, fault: CommandFault, place: TrimPlace) -> Refused<CommandFault, String>
+    ensures { IsToldAt fault (Some place) result }
+{
+    match format!(in alloc; "{place}") {
+        Ok(text) => Refused {
+            fault,
+            place: Some(text),
+        },
+        Err(AllocError) => Refused::without_place(CommandFault::Memory),
+    }
 }
 
 /// Executes the command, and flushes its lines.
@@ -196,16 +281,19 @@ fn execute_and_flush<O: Output>(
     command: &Command<'_>,
     input: &[u8],
     out: &mut O,
-) -> Result<Option<Vec<u8>>, ToolFault>
+) -> Result<Option<Vec<u8>>, Refused<CommandFault, TrimPlace>>
     requires { IsExecutable (command_view command.now) }
     ensures done { IfOk result (λ r. (lines : List ℕ)
         × Runs (command_view command.now) input.now lines (option_map (λ v. v.items) r)
         × Becomes (output_ends O.written O.sent O.is_failed) out.old out.new (printed lines)) }
-    ensures fault { IfErr result (IsToolCause (command_view command.now) input.now) }
-    ensures output { IsErrOf result ToolFault.Output → O.is_failed out.new ≡ true }
-    ensures quiet { IfErr result (λ e. e ≢ ToolFault.Output → out.new ≡ out.old) }
+    ensures refusal { IfErr result (IsRefusalOf (command_view command.now) input.now) }
+    ensures output { IfErr result (λ r. r.fault ≡ CommandFault.Output
+        → O.is_failed out.new ≡ true) }
+    ensures quiet { IfErr result (λ r. r.fault ≢ CommandFault.Output → out.new ≡ out.old) }
 {
-    let answer = execute(alloc, seed, command, input, out)?;
-    out.flush()?;
-    Ok(answer)
+    let answer = execute_explained(alloc, seed, command, input, out)?;
+    match out.flush() {
+        Ok(()) => Ok(answer),
+        Err(PutFailed) => Err(Refused::without_place(CommandFault::Output)),
+    }
 }

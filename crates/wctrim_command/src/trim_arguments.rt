@@ -29,7 +29,11 @@ pub(crate) struct TrimArguments<'a> {
 /// Reads the options, in either order, and then the exports.
 pub(crate) fn trim_arguments(arguments: &[String]) -> Result<TrimArguments<'_>, Usage>
     ensures parts { IfOk result (λ t. trim_parts (map string_bytes arguments.now)
-        ≡ Some (option_map (λ n. n.now) t.realloc, t.page_size_log2, map string_bytes t.exports.now)) }
+        ≡ Some (
+          option_map (λ n. n.now) t.realloc,
+          t.page_size_log2,
+          map string_bytes t.exports.now,
+        )) }
     ensures none { IsErr result → trim_parts (map string_bytes arguments.now) ≡ None }
 {
     let (before, arguments) = realloc_option(arguments);

@@ -1,4 +1,4 @@
-//! `wcwhy`: says why an adapter imports something: by which chain of items a required export leads to the import.
+//! `wcwhy`: says why an adapter imports something: by which path of items a required export leads to the import.
 //!
 //! What it does is proved in `wcwhy_command`. Here it gets the system's arguments and shell, of `wc_program`.
 #![tactic(auto)]

@@ -1,5 +1,5 @@
 -- What was printed of an adapter, or why it could not be, as of the bytes that spell it.
-use Rattle.std.proofs.Common.{◌≡◌, ◌+◌, ◌<◌, ℕ, List, [], ◌∷◌, length, map, take, get_or, String, Global, string_bytes, None, Result, Ok, Err, OnOk, IfErr, sym, ◌∙◌, ap, subst}
+use Rattle.std.proofs.Common.{◌≡◌, ◌+◌, ◌<◌, ℕ, List, [], ◌∷◌, length, map, take, get_or, String, Global, string_bytes, None, Option, Result, Ok, Err, OnOk, IfErr, sym, ◌∙◌, ap, subst}
 use Rattle.std.proofs.lemmas.List.{map-append, take_more}
 use Rattle.std.specs.Borrow.{Bor}
 use Rattle.indexmap.specs.IndexSet.{insert_key}
@@ -11,9 +11,11 @@ use Rattle.wc_read.specs.Reading.Names.{AreFunctionNames}
 use Rattle.wc_texts.specs.Names.{first_occurrences}
 use Rattle.wc_gc.specs.LiveItems.{IsFault, IsLivenessCause, TrimInput, names_of}
 use Rattle.wc_gc.specs.LiveChains.{AreImportChains, AreWhyImports}
+use Rattle.wc_gc.specs.TrimPlace.{IsExplained}
+use Rattle.wc_gc.specs.declared.import_chains.ImportChains.{ImportChains}
+use Rattle.wc_gc.specs.declared.trim_place.TrimPlace.{TrimPlace}
 use Rattle.wc_gc.specs.declared.fault.GcFault.{GcFault}
 use Rattle.wc_gc.specs.declared.fault.GcFault.TheVariants.{Memory as gc_memory}
-use Rattle.wc_gc.specs.declared.import_chains.ImportChains.{ImportChains}
 use Rattle.wc_program.specs.Screen.{Printing, nothing}
 use Rattle.wcwhy_command.specs.Arguments.{CommandView, text_of}
 use Rattle.wcwhy_command.specs.Fault.{of_adapter}
@@ -24,11 +26,18 @@ use Rattle.wcwhy_command.specs.declared.fault.WhyFault.{WhyFault}
 use Rattle.wcwhy_command.specs.declared.fault.WhyFault.TheVariants.{Memory, NoImport, Output}
 
 -- a fault of liveness, with each export counted once
-pub adapter_cause : (c : CommandView) (bytes : List ℕ) (names : List (List ℕ)) (out : Printing → Type 0) (f : GcFault) → names ≡ first_occurrences c.exports → out nothing
-    → IsFault (record { bytes = bytes; required = names }) f → IsPrintCause c bytes out (of_adapter f)
-adapter_cause c bytes names out gc_memory same still h = tt
-adapter_cause c bytes names out f same still h =
-    (((λ e. cc), subst (λ (ns : List (List ℕ)). IsFault (record { bytes = bytes; required = ns }) f) same h), still)
+pub adapter_cause : (c : CommandView) (bytes : List ℕ) (names : List (List ℕ)) (out : Printing → Type 0) (f : GcFault) (place : Option TrimPlace)
+    → names ≡ first_occurrences c.exports → out nothing → IsFault (record { bytes = bytes; required = names }) f
+    → IsExplained (record { bytes = bytes; required = names }) f place → IsPrintCause c bytes out (of_adapter f place)
+adapter_cause c bytes names out gc_memory place same still h at = tt
+adapter_cause c bytes names out f place same still h at = (
+  (
+    (λ e. cc),
+    subst (λ (ns : List (List ℕ)). IsFault (record { bytes = bytes; required = ns }) f) same h,
+    subst (λ (ns : List (List ℕ)). IsExplained (record { bytes = bytes; required = ns }) f place) same at,
+  ),
+  still,
+)
 
 pub no_cause : (c : CommandView) (bytes : List ℕ) (names : List (List ℕ)) → names ≡ first_occurrences c.exports
     → ((f : GcFault) → ¬ (IsLivenessCause (record { bytes = bytes; required = names }) f)) → HasNoCause c bytes
@@ -49,7 +58,7 @@ module _ (c : CommandView) (bytes : List ℕ) (m : ModuleValue) (spelled : Spell
   cause_of : HasNoCause c bytes → (f : WhyFault) → IsReasonsCause c m out f → IsPrintCause c bytes out f
   cause_of none Memory h = tt
   cause_of none Output h = h
-  cause_of none (NoImport p) h = ((none, m, spelled, h.0), h.1)
+  cause_of none (NoImport p near) h = ((none, m, spelled, h.0), h.1)
   cause_of none f h = absurd h
 
   pub some_cause_of : {T : Type 0} (r : Result T WhyFault) → HasNoCause c bytes → IfErr r (IsReasonsCause c m out) → IfErr r (IsPrintCause c bytes out)

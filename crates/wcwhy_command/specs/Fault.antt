@@ -1,32 +1,62 @@
 -- The texts of faults.
-use Rattle.std.specs.Prelude.{ℕ, List, ◌++◌, codes, Option, Some, None}
+use Rattle.std.specs.Prelude.{ℕ, List, [], ◌++◌, cond, codes, Option, Some, None, string_bytes}
+use Rattle.std.specs.Option.{option_map}
+use Rattle.std.specs.Str.{bytes_eq}
 use Rattle.wc_gc.specs.declared.fault.GcFault.{GcFault}
 use Rattle.wc_gc.specs.declared.fault.GcFault.TheVariants.{Memory as gc_memory}
 use Rattle.wc_gc.specs.Fault.{gc_fault_text}
+use Rattle.wc_gc.specs.TrimPlace.{place_text}
+use Rattle.wc_gc.specs.declared.trim_place.TrimPlace.{TrimPlace}
 use Rattle.wc_json.specs.Escape.{escaped}
+use Rattle.wc_read.specs.Imports.{ImportValue}
 use Rattle.wc_texts.specs.FaultTexts.{memory_text}
+use Rattle.wc_program.specs.Files.{problem_text}
+use Rattle.wc_program.specs.declared.files.FileProblem.{FileProblem}
 use Rattle.wcwhy_command.specs.Arguments.{PatternView, pattern_view}
+use Rattle.wcwhy_command.specs.Patterns.{near_import, near_pattern}
 use Rattle.wcwhy_command.specs.Texts.{word}
 use Rattle.wcwhy_command.specs.declared.fault.WhyFault.{WhyFault}
 use Rattle.wcwhy_command.specs.declared.fault.WhyFault.TheVariants.{Memory, CannotRead, Adapter, NoImport, Output}
 
--- an adapter has none of the imports that an option asks for
-abbrev pub unknown_by : List ℕ → Option (List ℕ) → List ℕ
-unknown_by module_name None = codes "no import " ++ word module_name
-unknown_by module_name (Some name) = codes "no import " ++ (word module_name ++ (codes " " ++ word name))
+-- a text that was given, as a word; an empty one as two quotes
+abbrev pub given_word : List ℕ → List ℕ
+given_word text = cond (bytes_eq text []) (codes "''") (word text)
 
-abbrev pub unknown_text : PatternView → List ℕ
-unknown_text p = unknown_by p.0 p.1
+-- what an option asks for: the module, and the name, if it has one
+abbrev pub pattern_by : List ℕ → Option (List ℕ) → List ℕ
+pattern_by module_name None = given_word module_name
+pattern_by module_name (Some name) = given_word module_name ++ (codes " " ++ given_word name)
+
+abbrev pub pattern_text : PatternView → List ℕ
+pattern_text p = pattern_by p.0 p.1
+
+-- what is there in place of the imports that an option asks for
+abbrev pub near_text : List ImportValue → PatternView → Option (List ℕ)
+near_text imports p = option_map (λ (i : ImportValue). pattern_text (near_pattern p i)) (near_import imports p)
+
+-- an adapter has none of the imports that an option asks for, and under it what is there
+abbrev pub unknown_text : PatternView → Option (List ℕ) → List ℕ
+unknown_text p None = codes "no import " ++ pattern_text p
+unknown_text p (Some near) = codes "no import " ++ (pattern_text p ++ (codes "\n  is there: " ++ near))
+
+-- a file could not be read: its path, and why
+abbrev pub unread_text : List ℕ → FileProblem → List ℕ
+unread_text path p = codes "cannot read " ++ (escaped path ++ problem_text p)
+
+-- a fault of liveness, and under it what it is about
+abbrev pub adapter_text : GcFault → Option TrimPlace → List ℕ
+adapter_text f None = escaped (gc_fault_text f)
+adapter_text f (Some p) = escaped (gc_fault_text f) ++ (codes "\n  " ++ place_text p)
 
 -- the text of a fault
 abbrev pub why_fault_text : WhyFault → List ℕ
 why_fault_text Memory = memory_text
-why_fault_text (CannotRead path) = codes "cannot read " ++ escaped path.now
-why_fault_text (Adapter f) = escaped (gc_fault_text f)
-why_fault_text (NoImport p) = unknown_text (pattern_view p)
+why_fault_text (CannotRead path p) = unread_text path.now p
+why_fault_text (Adapter f place) = adapter_text f place
+why_fault_text (NoImport p near) = unknown_text (pattern_view p) (option_map string_bytes near)
 why_fault_text Output = codes "cannot print"
 
 -- the fault for one of liveness
-abbrev pub of_adapter : GcFault → WhyFault
-of_adapter gc_memory = Memory
-of_adapter f = Adapter f
+abbrev pub of_adapter : GcFault → Option TrimPlace → WhyFault
+of_adapter gc_memory place = Memory
+of_adapter f place = Adapter f place

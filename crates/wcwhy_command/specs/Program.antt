@@ -1,18 +1,23 @@
 -- The program: what it prints, and its exit status. No file is changed.
-use Rattle.std.specs.Prelude.{◌≡◌, ◌≢◌, ◌⊎◌, ℕ, Bool, true, false, List, Option, Some, None, String, Ok, Err, ⊤}
+use Rattle.std.specs.Prelude.{◌≡◌, ◌≢◌, ◌⊎◌, ℕ, Bool, true, false, cond, codes, List, Option, Some, None, String, string_bytes, Ok, Err, ⊤}
+use Rattle.std.specs.Option.{option_map}
+use Rattle.std.specs.Str.{bytes_eq}
 use Rattle.std.specs.declared.alloc.Global.{Global}
 use Rattle.wc_json.specs.Escape.{escaped}
+use Rattle.wc_read.specs.Imports.{ImportValue}
 use Rattle.wc_read.specs.Modules.{ModuleValue, SpellsModule}
 use Rattle.wc_read.specs.Names.{GlobalNameValue}
 use Rattle.wc_read.specs.Reading.Names.{AreFunctionNames}
 use Rattle.wc_texts.specs.Names.{first_occurrences}
 use Rattle.wc_gc.specs.LiveItems.{IsFault, IsLivenessCause, trim_input_for_names}
+use Rattle.wc_gc.specs.TrimPlace.{IsExplained}
 use Rattle.wc_gc.specs.declared.fault.GcFault.{GcFault}
 use Rattle.wc_gc.specs.declared.fault.GcFault.TheVariants.{Memory as gc_memory}
 use Rattle.wc_texts.specs.FaultTexts.{memory_text}
-use Rattle.wc_program.specs.Files.{Held, Holds}
+use Rattle.wc_program.specs.Files.{FileChange, Held, Holds}
 use Rattle.wc_program.specs.Program.{success, failure, wrong_arguments, Prints, EndsByArguments, EndsByReason}
 use Rattle.wc_program.specs.Screen.{Printing, nothing, printed, failed}
+use Rattle.wc_program.specs.declared.files.FileProblem.TheVariants.{Memory as read_memory}
 use Rattle.wc_program.specs.declared.program.NoArguments.{NoArguments}
 use Rattle.wc_program.specs.declared.program.NoArguments.TheVariants.{Empty, NoMemory, NoText}
 use Rattle.wcwhy_command.specs.Arguments.{CommandView, PatternView, Reading, Stop, help, version, wrong, WrongView, pattern_view}
@@ -21,7 +26,8 @@ use Rattle.wcwhy_command.specs.Usage.{usage_text, help_text, version_text, wrong
 use Rattle.wcwhy_command.specs.Lines.{AreLines}
 use Rattle.wcwhy_command.specs.Graph.{IsGraph}
 use Rattle.wcwhy_command.specs.Patterns.{first_unknown}
-use Rattle.wcwhy_command.specs.Fault.{why_fault_text}
+use Rattle.wcwhy_command.specs.Fault.{near_text, why_fault_text}
+use Rattle.wcwhy_command.specs.declared.arguments.ImportPattern.{ImportPattern}
 use Rattle.wcwhy_command.specs.declared.fault.WhyFault.{WhyFault}
 use Rattle.wcwhy_command.specs.declared.fault.WhyFault.TheVariants.{Memory, CannotRead, Adapter, NoImport, Output}
 
@@ -48,11 +54,17 @@ pub record IsPrintedOf (c : CommandView) (bytes text : List ℕ) : Type 0 where
 abbrev pub HasNoCause : CommandView → List ℕ → Type 0
 HasNoCause c bytes = (f : GcFault) → ¬ (IsLivenessCause (trim_input_for_names bytes c.exports) f)
 
+-- the first option that asks for none of these imports, and what is there in their place
+abbrev pub IsNoImport : List ImportValue → List PatternView → ImportPattern → Option (String Global) → Type 0
+IsNoImport imports patterns p near =
+    (first_unknown imports patterns ≡ Some (pattern_view p)) × (option_map string_bytes near ≡ near_text imports (pattern_view p))
+
 -- why nothing is printed of the bytes of an adapter
 abbrev pub IsBytesCause : CommandView → List ℕ → WhyFault → Type 0
-IsBytesCause c bytes (Adapter f) = (f ≢ gc_memory) × IsFault (trim_input_for_names bytes c.exports) f
-IsBytesCause c bytes (NoImport p) =
-    HasNoCause c bytes × (m : ModuleValue) × SpellsModule bytes m × (first_unknown m.imports c.imports ≡ Some (pattern_view p))
+IsBytesCause c bytes (Adapter f place) =
+    (f ≢ gc_memory) × IsFault (trim_input_for_names bytes c.exports) f × IsExplained (trim_input_for_names bytes c.exports) f place
+IsBytesCause c bytes (NoImport p near) =
+    HasNoCause c bytes × (m : ModuleValue) × SpellsModule bytes m × IsNoImport m.imports c.imports p near
 IsBytesCause c bytes f = ⊥
 
 -- why bytes could not be printed of: where memory runs out, it is left open what was printed before
@@ -61,14 +73,23 @@ IsPrintCause c bytes out Memory = ⊤
 IsPrintCause c bytes out Output = out failed
 IsPrintCause c bytes out f = IsBytesCause c bytes f × out nothing
 
--- why a command could not be run
-abbrev pub IsRunCause : CommandView → Option Held → (Printing → Type 0) → WhyFault → Type 0
-IsRunCause c before out (CannotRead path) = (path.now ≡ c.source) × out nothing
-IsRunCause c before out f = (bytes : List ℕ) × Holds before c.source bytes × IsPrintCause c bytes out f
+-- the path of the file that is read: `-` stands for standard input
+abbrev pub input_path : List ℕ → List ℕ
+input_path path = cond (bytes_eq path (codes "-")) (codes "/dev/stdin") path
+
+-- the adapter's file has bytes of which this could not be printed
+abbrev pub IsHeldCause : CommandView → Option Held → (Printing → Type 0) → WhyFault → Type 0
+IsHeldCause c before out f = (bytes : List ℕ) × Holds before (input_path c.source) bytes × IsPrintCause c bytes out f
+
+-- why a command could not be run: the read of its file failed, by a want of memory or else; or what it has
+abbrev pub IsRunCause : CommandView → FileChange → (Printing → Type 0) → WhyFault → Type 0
+IsRunCause c files out (CannotRead path p) = (path.now ≡ c.source) × files.IsFailedRead (input_path c.source) p × (p ≢ read_memory) × out nothing
+IsRunCause c files out Memory = (files.IsFailedRead (input_path c.source) read_memory × out nothing) ⊎ IsHeldCause c files.before out Memory
+IsRunCause c files out f = IsHeldCause c files.before out f
 
 -- the command did its work
 abbrev pub EndsWell : CommandView → Option Held → (Printing → Type 0) → Type 0
-EndsWell c before out = (bytes text : List ℕ) × Holds before c.source bytes × IsPrintedOf c bytes text × out (printed text)
+EndsWell c before out = (bytes text : List ℕ) × Holds before (input_path c.source) bytes × IsPrintedOf c bytes text × out (printed text)
 
 -- a fault is printed in a line, or that there was no memory for its text
 abbrev pub IsReported : WhyFault → (Printing → Type 0) → ℕ → Type 0
@@ -80,10 +101,10 @@ abbrev pub EndsWithoutMemory : (Printing → Type 0) → (Printing → Type 0) �
 EndsWithoutMemory out err status = out nothing × Prints (fault_line memory_text) failure err status
 
 -- a command did its work, or could not be run, and then its fault is printed to the other output
-abbrev pub CommandEnds : CommandView → Option Held → (Printing → Type 0) → (Printing → Type 0) → ℕ → Type 0
-CommandEnds c before out err status =
-    (EndsWell c before out × err nothing × (status ≡ success))
-    ⊎ ((fault : WhyFault) × IsRunCause c before out fault × IsReported fault err status)
+abbrev pub CommandEnds : CommandView → FileChange → (Printing → Type 0) → (Printing → Type 0) → ℕ → Type 0
+CommandEnds c files out err status =
+    (EndsWell c files.before out × err nothing × (status ≡ success))
+    ⊎ ((fault : WhyFault) × IsRunCause c files out fault × IsReported fault err status)
 
 -- there is no command: what is asked for is printed; or what is wrong, and the usage text, to the other output
 abbrev pub StopEnds : Stop → (Printing → Type 0) → (Printing → Type 0) → ℕ → Type 0
@@ -91,29 +112,29 @@ StopEnds help out err status = Prints help_text success out status × err nothin
 StopEnds version out err status = Prints version_text success out status × err nothing
 StopEnds (wrong w) out err status = out nothing × Prints (fault_and_usage (escaped (wrong_text w))) wrong_arguments err status
 
-abbrev pub ReadingEnds : Reading CommandView → Option Held → (Printing → Type 0) → (Printing → Type 0) → ℕ → Type 0
-ReadingEnds (Ok c) before out err status = CommandEnds c before out err status
-ReadingEnds (Err stop) before out err status = StopEnds stop out err status
+abbrev pub ReadingEnds : Reading CommandView → FileChange → (Printing → Type 0) → (Printing → Type 0) → ℕ → Type 0
+ReadingEnds (Ok c) files out err status = CommandEnds c files out err status
+ReadingEnds (Err stop) files out err status = StopEnds stop out err status
 
 -- where there is no command, memory is asked for by arguments, or by the text of what is wrong with them
 abbrev pub NeedsMemory : List (List ℕ) → Type 0
 NeedsMemory arguments = AsksMemory arguments ⊎ ((w : WrongView) × (read_arguments arguments ≡ Err (wrong w)))
 
 -- how the program ends with some arguments
-abbrev pub EndsWith : List (List ℕ) → Option Held → Option Held → (Printing → Type 0) → (Printing → Type 0) → ℕ → Type 0
-EndsWith arguments before after out err status =
-    (after ≡ before) × (ReadingEnds (read_arguments arguments) before out err status ⊎ (NeedsMemory arguments × EndsWithoutMemory out err status))
+abbrev pub EndsWith : List (List ℕ) → FileChange → (Printing → Type 0) → (Printing → Type 0) → ℕ → Type 0
+EndsWith arguments files out err status =
+    (files.after ≡ files.before) × (ReadingEnds (read_arguments arguments) files out err status ⊎ (NeedsMemory arguments × EndsWithoutMemory out err status))
 
 -- how it ends without arguments: there are none, there was no memory for them, or one is no text
-abbrev pub EndsWithout : NoArguments → Option Held → Option Held → (Printing → Type 0) → (Printing → Type 0) → ℕ → Type 0
-EndsWithout Empty before after out err status = (after ≡ before) × Prints usage_text success out status × err nothing
-EndsWithout NoMemory before after out err status = EndsWithoutMemory out err status
-EndsWithout NoText before after out err status = out nothing × Prints (fault_and_usage no_text) wrong_arguments err status
+abbrev pub EndsWithout : NoArguments → FileChange → (Printing → Type 0) → (Printing → Type 0) → ℕ → Type 0
+EndsWithout Empty files out err status = (files.after ≡ files.before) × Prints usage_text success out status × err nothing
+EndsWithout NoMemory files out err status = EndsWithoutMemory out err status
+EndsWithout NoText files out err status = out nothing × Prints (fault_and_usage no_text) wrong_arguments err status
 
 -- how the program ends with these arguments
-abbrev pub ProgramEnds : List (String Global) → Option Held → Option Held → (Printing → Type 0) → (Printing → Type 0) → ℕ → Type 0
-ProgramEnds arguments before after out err status =
-    EndsByArguments arguments (EndsWithout Empty before after out err status) (λ texts. EndsWith texts before after out err status)
+abbrev pub ProgramEnds : List (String Global) → FileChange → (Printing → Type 0) → (Printing → Type 0) → ℕ → Type 0
+ProgramEnds arguments files out err status =
+    EndsByArguments arguments (EndsWithout Empty files out err status) (λ texts. EndsWith texts files out err status)
 
 -- how it ends where its arguments are not known: there was no memory for them, or they are no text
 abbrev pub EndsWithoutArguments : Type 0 → (Printing → Type 0) → (Printing → Type 0) → ℕ → Type 0

@@ -1,26 +1,27 @@
 //! The text that is printed for the bytes of an adapter.
 
 ghost use Rattle.std.specs.Prelude.{◌≡◌, IfErr, IfOk, IsErrOf, OnOk, map, true};
+ghost use Rattle.wc_read.specs.Imports.{import_value};
 ghost use Rattle.wc_gc.specs.LiveItems.{names_of};
 ghost use Rattle.wc_texts.specs.Names.{first_occurrences};
 ghost use Rattle.wc_program.specs.Screen.{Becomes, output_ends};
 ghost use Rattle.wcwhy_command.specs.Arguments.{command_view, text_of};
 ghost use Rattle.wcwhy_command.specs.Program.{IsPrintCause, IsPrintedOf};
 ghost use Rattle.wcwhy_command.specs.Private.Reasons.{AreReasons, IsSearched, IsTextOfReasons, PutsSome, adapter_in, names_in, required_in};
-ghost use Rattle.wcwhy_command.specs.Private.Execution.{ArePrinted, IsReasonsCause, PrintsSome};
+ghost use Rattle.wcwhy_command.specs.Private.Execution.{ArePrinted, IsNoImportFault, IsReasonsCause, PrintsSome};
 
-use crate::arguments::Command;
-use crate::fault::{PrintFault, WhyFault};
+use crate::arguments::{Command, ImportPattern};
+use crate::fault::{PrintFault, WhyFault, near_text};
 use crate::graph::put_graph;
 use crate::lines::put_lines;
 use crate::patterns::first_unknown;
 use crate::reasons::{Found, Reasons};
 use std::alloc::{AllocError, Global};
-use wc_gc::why_imports;
+use wc_gc::why_imports_explained;
 use wc_maps::{Seed, Set};
 use wc_program::Output;
 use wc_read::laws::modules_unique;
-use wc_read::{function_names, read_module};
+use wc_read::{Import, function_names, read_module};
 use wc_write::Sink;
 
 /// Prints why imports of the adapter with these bytes stay.
@@ -69,7 +70,7 @@ fn print_required<'a, O: Output>(
     ensures fault { IfErr result (IsPrintCause (command_view command.now) bytes.now
         (Becomes (output_ends O.written O.sent O.is_failed) out.old out.new)) }
 {
-    match why_imports(alloc, bytes, required) {
+    match why_imports_explained(alloc, bytes, required) {
         Ok(chains) => {
             let found = Found {
                 required,
@@ -77,7 +78,7 @@ fn print_required<'a, O: Output>(
             };
             print_found(alloc, command, bytes, &found, out)
         }
-        Err(fault) => Err(WhyFault::from(fault)),
+        Err(refused) => Err(WhyFault::from(refused)),
     }
 }
 
@@ -130,12 +131,22 @@ fn print_adapter<'a, O: Output>(
         (Becomes (output_ends O.written O.sent O.is_failed) out.old out.new)) }
 {
     match first_unknown(&command.imports, &reasons.adapter.imports) {
-        Some(pattern) => Err(WhyFault::NoImport(pattern)),
+        Some(pattern) => Err(no_import(alloc, pattern, &reasons.adapter.imports)),
         None => match put_and_flush(alloc, command, reasons, out) {
             Ok(()) => Ok(()),
             Err(PrintFault::Memory) => Err(WhyFault::Memory),
             Err(PrintFault::Output) => Err(WhyFault::Output),
         },
+    }
+}
+
+/// The fault for the imports that an option asks for, of which an adapter with these imports has none.
+fn no_import<'a>(alloc: Global, pattern: ImportPattern<'a>, imports: &[Import<'_>]) -> WhyFault<'a>
+    ensures { IsNoImportFault (map import_value imports.now) pattern.entry result }
+{
+    match near_text(alloc, &pattern, imports) {
+        Ok(near) => WhyFault::NoImport(pattern, near),
+        Err(AllocError) => WhyFault::Memory,
     }
 }
 

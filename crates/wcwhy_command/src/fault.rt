@@ -1,17 +1,20 @@
 //! Why the program could not do what its arguments say.
 
-ghost use Rattle.std.specs.Prelude.{◌≡◌, ◌++◌, IfOk, codes, string_bytes};
-ghost use Rattle.wc_gc.specs.Fault.{gc_fault_text};
-ghost use Rattle.wc_json.specs.Escape.{escaped};
+ghost use Rattle.std.specs.Prelude.{◌≡◌, IfOk, map, string_bytes};
+ghost use Rattle.std.specs.Option.{option_map};
+ghost use Rattle.wc_read.specs.Imports.{import_value};
 ghost use Rattle.wcwhy_command.specs.Arguments.{pattern_view};
-ghost use Rattle.wcwhy_command.specs.Fault.{unknown_text, why_fault_text};
+ghost use Rattle.wcwhy_command.specs.Fault.{adapter_text, given_word, near_text, pattern_text, unknown_text, unread_text, why_fault_text};
 
 use crate::arguments::ImportPattern;
+use crate::patterns::{near_import, near_pattern};
 use crate::texts::word;
 use std::alloc::{AllocError, Global};
-use wc_gc::GcFault;
+use wc_gc::{GcFault, TrimPlace};
 use wc_json::escaped;
-use wc_texts::PutFailed;
+use wc_program::{FileProblem, problem_text};
+use wc_read::Import;
+use wc_texts::{PutFailed, Refused, text_of};
 
 /// Why the program could not do what its arguments say. `run_command` says which of several causes is named; `Memory`
 /// may come in place of any.
@@ -19,12 +22,14 @@ use wc_texts::PutFailed;
 pub enum WhyFault<'a> {
     /// An allocation failed.
     Memory,
-    /// The file of this path could not be read.
-    CannotRead(&'a str),
-    /// It can't be said why items of the adapter are live. It carries why not, never `Memory`.
-    Adapter(GcFault),
-    /// An option asks for imports, and the adapter has none of them.
-    NoImport(ImportPattern<'a>),
+    /// The file of this path could not be read, and why: never `Memory`.
+    CannotRead(&'a str, FileProblem),
+    /// It can't be said why items of the adapter are live. It carries why not, never `Memory`, and where.
+    Adapter(GcFault, Option<TrimPlace>),
+    /// An option asks for imports, and the adapter has none of them. It carries what the option asks for; and of the first
+    /// import that it would ask for, if versions and the case of letters did not count, the module, or after an option with
+    /// a name the module and the name, as they are in the fault's text.
+    NoImport(ImportPattern<'a>, Option<String>),
     /// The lines, or the graph, could not be printed.
     Output,
 }
@@ -41,53 +46,110 @@ impl WhyFault<'_> {
     {
         match self {
             WhyFault::Memory => String::from_str(alloc, "out of memory"),
-            WhyFault::CannotRead(path) => path_text(alloc, path),
-            WhyFault::Adapter(fault) => adapter_text(alloc, fault),
-            WhyFault::NoImport(pattern) => unknown_text(alloc, pattern),
+            WhyFault::CannotRead(path, problem) => unread_text(alloc, path, *problem),
+            WhyFault::Adapter(fault, place) => adapter_text(alloc, fault, place),
+            WhyFault::NoImport(pattern, near) => unknown_text(alloc, pattern, near),
             WhyFault::Output => String::from_str(alloc, "cannot print"),
         }
     }
 }
 
-/// The fault for a file that could not be read, as its path says it.
-fn path_text(alloc: Global, path: &str) -> Result<String, AllocError>
-    ensures { IfOk result (λ text. string_bytes text ≡ codes "cannot read " ++ escaped path.now) }
+/// The fault for a file that could not be read: its path, and why.
+fn unread_text(alloc: Global, path: &str, problem: FileProblem) -> Result<String, AllocError>
+    ensures { IfOk result (λ text. string_bytes text ≡ unread_text path.now problem) }
 {
     let path = escaped(alloc, path)?;
-    format!(in alloc; "cannot read {path}")
+    let problem = problem_text(problem);
+    format!(in alloc; "cannot read {path}{problem}")
 }
 
-/// The text of a fault of trimming, with what a terminal would act on escaped.
-fn adapter_text(alloc: Global, fault: &GcFault) -> Result<String, AllocError>
-    ensures { IfOk result (λ text. string_bytes text ≡ escaped (gc_fault_text fault.now)) }
+/// The text of a fault of trimming, with what a terminal would act on escaped, and under it what it is about, if it is
+/// about a place.
+fn adapter_text(
+    alloc: Global,
+    fault: &GcFault,
+    place: &Option<TrimPlace>,
+) -> Result<String, AllocError>
+    ensures { IfOk result (λ text. string_bytes text ≡ adapter_text fault.now place.now) }
 {
-    let text = format!(in alloc; "{fault}")?;
-    escaped(alloc, &text)
-}
-
-/// The fault for an adapter that has none of the imports that an option asks for.
-fn unknown_text(alloc: Global, pattern: &ImportPattern<'_>) -> Result<String, AllocError>
-    ensures { IfOk result (λ text. string_bytes text ≡ unknown_text (pattern_view pattern.now)) }
-{
-    let module = word(alloc, pattern.module)?;
-    match pattern.name {
-        Some(name) => {
-            let name = word(alloc, name)?;
-            format!(in alloc; "no import {module} {name}")
-        }
-        None => format!(in alloc; "no import {module}"),
+    let text = text_of(alloc, fault)?;
+    let text = escaped(alloc, &text)?;
+    match place {
+        Some(place) => format!(in alloc; "{text}\n  {place}"),
+        None => Ok(text),
     }
 }
 
-impl From<GcFault> for WhyFault<'_> {
+/// The fault for an adapter that has none of the imports that an option asks for, and under it what is there in their
+/// place, if something is.
+fn unknown_text(
+    alloc: Global,
+    pattern: &ImportPattern<'_>,
+    near: &Option<String>,
+) -> Result<String, AllocError>
+    ensures { IfOk result (λ text. string_bytes text
+        ≡ unknown_text (pattern_view pattern.now) (option_map string_bytes near.now)) }
+{
+    let asked = pattern_text(alloc, pattern)?;
+    match near {
+        Some(near) => format!(in alloc; "no import {asked}\n  is there: {near}"),
+        None => format!(in alloc; "no import {asked}"),
+    }
+}
+
+/// What an option asks for: the module, and the name, if it has one.
+fn pattern_text(alloc: Global, pattern: &ImportPattern<'_>) -> Result<String, AllocError>
+    ensures { IfOk result (λ text. string_bytes text ≡ pattern_text (pattern_view pattern.now)) }
+{
+    let module = given_word(alloc, pattern.module)?;
+    match pattern.name {
+        Some(name) => {
+            let name = given_word(alloc, name)?;
+            format!(in alloc; "{module} {name}")
+        }
+        None => Ok(module),
+    }
+}
+
+/// What is there in place of the imports that an option asks for: the module, or the module and the name, of the first of
+/// these imports that it would ask for, if versions and the case of letters did not count.
+pub(crate) fn near_text(
+    alloc: Global,
+    pattern: &ImportPattern<'_>,
+    imports: &[Import<'_>],
+) -> Result<Option<String>, AllocError>
+    ensures { IfOk result (λ r. option_map string_bytes r ≡ near_text
+        (map import_value imports.now) (pattern_view pattern.now)) }
+{
+    match near_import(pattern, imports) {
+        Some(import) => {
+            let near = near_pattern(pattern, import);
+            Ok(Some(pattern_text(alloc, &near)?))
+        }
+        None => Ok(None),
+    }
+}
+
+/// A text that was given, as a word; an empty one as `''`, so that it is seen.
+fn given_word(alloc: Global, text: &str) -> Result<String, AllocError>
+    ensures { IfOk result (λ word. string_bytes word ≡ given_word text.now) }
+{
+    if text == "" {
+        return String::from_str(alloc, "''");
+    }
+    word(alloc, text)
+}
+
+impl From<Refused<GcFault, TrimPlace>> for WhyFault<'_> {
     ghost use Rattle.wcwhy_command.specs.Fault.{of_adapter};
 
-    ghost from_gives = { λ f e. e ≡ of_adapter f };
+    ghost from_gives = { λ r e. e ≡ of_adapter r.fault r.place };
 
-    fn from(e: GcFault) -> Self {
-        match e {
+    fn from(e: Refused<GcFault, TrimPlace>) -> Self {
+        let Refused { fault, place } = e;
+        match fault {
             GcFault::Memory => WhyFault::Memory,
-            _ => WhyFault::Adapter(e),
+            _ => WhyFault::Adapter(fault, place),
         }
     }
 }

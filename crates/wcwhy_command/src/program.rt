@@ -2,10 +2,11 @@
 
 ghost use Rattle.std.specs.Prelude.{◌≡◌, IfErr, IfOk, IsErr, OnOk};
 ghost use Rattle.std.specs.IoError.{error_kind};
+ghost use Rattle.wc_program.specs.Files.{file_change};
 ghost use Rattle.wc_program.specs.Screen.{Becomes, output_ends};
 ghost use Rattle.wc_program.specs.Program.{Prints, failure, success, wrong_arguments};
 ghost use Rattle.wcwhy_command.specs.Arguments.{command_view};
-ghost use Rattle.wcwhy_command.specs.Program.{CommandEnds, EndsWell, EndsWith, EndsWithout, EndsWithoutArguments, IsReported, IsRunCause, ProgramEnds};
+ghost use Rattle.wcwhy_command.specs.Program.{CommandEnds, EndsWell, EndsWith, EndsWithout, EndsWithoutArguments, IsReported, IsRunCause, ProgramEnds, input_path};
 ghost use Rattle.wcwhy_command.specs.Private.Execution.{AnswersStop};
 ghost use Rattle.wcwhy_command.specs.Usage.{fault_and_usage, fault_line, help_text};
 
@@ -17,9 +18,10 @@ use std::alloc::{AllocError, Global};
 use std::io::{self, ErrorKind};
 use wc_maps::Seed;
 use wc_program::{
-    FAILURE, FileStore, NoArguments, OUT_OF_MEMORY, Output, Program, SUCCESS, Screen, Shell,
-    TextBetween, WRONG_ARGUMENTS, print,
+    FAILURE, FileProblem, FileStore, NoArguments, Output, Program, SUCCESS, Screen, Shell, Text,
+    TextBetween, WRONG_ARGUMENTS, print, read_file,
 };
+use wc_texts::OUT_OF_MEMORY;
 
 /// Runs the program with these arguments, the first of them the one after the program's name. No file is written. What is
 /// done is the same for every seed of the shell. The answer is its exit status:
@@ -42,7 +44,7 @@ pub fn run<F: FileStore, O: Output, E: Screen>(
     shell: &mut Shell<F, O, E>,
 ) -> u8
     ensures known { IfOk arguments.now (λ v. ProgramEnds v.items
-        (F.held shell.old.files) (F.held shell.new.files)
+        (file_change F.held F.read_fails F.write_fails shell.old.files shell.new.files)
         (Becomes (output_ends O.written O.sent O.is_failed) shell.old.out shell.new.out)
         (Becomes E.ends shell.old.err shell.new.err) result) }
     ensures unknown { IfErr arguments.now (λ e. EndsWithoutArguments
@@ -59,12 +61,12 @@ struct Wcwhy;
 
 impl<F: FileStore, O: Output, E: Screen> Program<F, O, E> for Wcwhy {
     ghost ends_with = { λ texts before after status. EndsWith texts
-        (F.held before.files) (F.held after.files)
+        (file_change F.held F.read_fails F.write_fails before.files after.files)
         (Becomes (output_ends O.written O.sent O.is_failed) before.out after.out)
         (Becomes E.ends before.err after.err) status };
 
     ghost ends_without = { λ why before after status. EndsWithout why
-        (F.held before.files) (F.held after.files)
+        (file_change F.held F.read_fails F.write_fails before.files after.files)
         (Becomes (output_ends O.written O.sent O.is_failed) before.out after.out)
         (Becomes E.ends before.err after.err) status };
 
@@ -77,7 +79,7 @@ impl<F: FileStore, O: Output, E: Screen> Program<F, O, E> for Wcwhy {
 
     fn run_without(&self, why: NoArguments, shell: &mut Shell<F, O, E>) -> u8 {
         match why {
-            NoArguments::Empty => print(&mut shell.out, &USAGE, SUCCESS),
+            NoArguments::Empty => print(&mut shell.out, &Text(USAGE), SUCCESS),
             NoArguments::NoMemory => print_fault(&mut shell.err, OUT_OF_MEMORY),
             NoArguments::NoText => print_usage_fault(&mut shell.err, NO_TEXT),
         }
@@ -98,9 +100,9 @@ fn answer_stop<O: Output, E: Screen>(
     match stop {
         NoCommand::Memory => print_fault(err, OUT_OF_MEMORY),
         NoCommand::Help => print_help(out),
-        NoCommand::Version => print(out, &VERSION, SUCCESS),
+        NoCommand::Version => print(out, &Text(VERSION), SUCCESS),
         NoCommand::Wrong(wrong) => match wrong.text(alloc) {
-            Ok(text) => print_usage_fault(err, text.as_bytes()),
+            Ok(text) => print_usage_fault(err, &text),
             Err(AllocError) => print_fault(err, OUT_OF_MEMORY),
         },
     }
@@ -111,7 +113,8 @@ fn run_and_report<F: FileStore, O: Output, E: Screen>(
     command: &Command<'_>,
     shell: &mut Shell<F, O, E>,
 ) -> u8
-    ensures ends { CommandEnds (command_view command.now) (F.held shell.old.files)
+    ensures ends { CommandEnds (command_view command.now)
+        (file_change F.held F.read_fails F.write_fails shell.old.files shell.new.files)
         (Becomes (output_ends O.written O.sent O.is_failed) shell.old.out shell.new.out)
         (Becomes E.ends shell.old.err shell.new.err) result }
     ensures files { F.held shell.new.files ≡ F.held shell.old.files }
@@ -129,10 +132,11 @@ fn run_and_report<F: FileStore, O: Output, E: Screen>(
 }
 
 /// Reads the adapter of a command, and prints why its imports stay: for each import that is asked for, in the order of
-/// the file, the lines `MODULE NAME` and `  export NAME`, and then a line for each item of the chain that `wc_gc::why`
-/// answers for it, as `  func 33 write_all`; or, if it isn't live, the line `MODULE NAME: not reached` where imports are
-/// asked for, and no line where all are shown. With `--dot` it prints the chains as a graph instead. All lines are flushed.
-/// A repeated export counts once. `seed`: the seed of the maps that are made.
+/// the file, the lines `MODULE NAME` and `  export NAME`, and then a line for each item of the path to it, which is the
+/// chain that `wc_gc::why` answers, as `  func 33 write_all`; or, if it isn't live, the line `MODULE NAME: not reached`
+/// where imports are asked for, and no line where all are shown. With `--dot` it prints the paths as a graph instead. All
+/// lines are flushed. A repeated export counts once. The path `-` of the adapter is that of `/dev/stdin`. `seed`: the seed
+/// of the maps that are made.
 ///
 /// It takes time and memory linear in the adapter, and time linear in what is printed.
 ///
@@ -140,11 +144,12 @@ fn run_and_report<F: FileStore, O: Output, E: Screen>(
 ///
 /// Of several causes the first in this order is named; `Memory` may come in place of any.
 ///
-/// - `CannotRead`: the adapter could not be read.
+/// - `CannotRead`: the adapter could not be read. It carries why.
 /// - `Adapter`: the fault of `wc_gc::why_imports`.
-/// - `NoImport`: the adapter has none of the imports that an option asks for. It carries the first such.
+/// - `NoImport`: the adapter has none of the imports that an option asks for. It carries the first such, and the first
+///   import that it would ask for, if versions and the case of letters did not count.
 /// - `Output`: a put or the flush failed; `out` is failed, and how much was printed is left open.
-/// - `Memory`: an allocation failed. How much was printed is left open.
+/// - `Memory`: an allocation failed, or the adapter is too large for memory. How much was printed is left open.
 ///
 /// After each fault but `Output` and `Memory` nothing was printed.
 pub fn run_command<'a, F: FileStore, O: Output>(
@@ -156,13 +161,22 @@ pub fn run_command<'a, F: FileStore, O: Output>(
 ) -> Result<(), WhyFault<'a>>
     ensures done { OnOk result (EndsWell (command_view command.now) (F.held files.now)
         (Becomes (output_ends O.written O.sent O.is_failed) out.old out.new)) }
-    ensures fault { IfErr result (IsRunCause (command_view command.now) (F.held files.now)
+    ensures fault { IfErr result (IsRunCause (command_view command.now)
+        (file_change F.held F.read_fails F.write_fails files.now files.now)
         (Becomes (output_ends O.written O.sent O.is_failed) out.old out.new)) }
 {
-    match files.read(command.source) {
+    match read_file(files, input_path(command.source)) {
         Ok(bytes) => print_reasons(alloc, seed, command, &bytes, out),
-        Err(_) => Err(WhyFault::CannotRead(command.source)),
+        Err(FileProblem::Memory) => Err(WhyFault::Memory),
+        Err(problem) => Err(WhyFault::CannotRead(command.source, problem)),
     }
+}
+
+/// The path of the file that is read: `-` stands for standard input.
+fn input_path(path: &str) -> &str
+    ensures { result.now ≡ input_path path.now }
+{
+    if path == "-" { "/dev/stdin" } else { path }
 }
 
 /// Prints why the program failed. The answer is the status of a failure.
@@ -170,7 +184,7 @@ fn report<E: Screen>(alloc: Global, err: &mut E, fault: &WhyFault<'_>) -> u8
     ensures { IsReported fault.now (Becomes E.ends err.old err.new) result }
 {
     match fault.text(alloc) {
-        Ok(text) => print_fault(err, text.as_bytes()),
+        Ok(text) => print_fault(err, &text),
         Err(AllocError) => print_fault(err, OUT_OF_MEMORY),
     }
 }
@@ -181,32 +195,32 @@ fn print_help<O: Screen>(out: &mut O) -> u8
 {
     let text = TextBetween {
         before: USAGE,
-        text: &OPTIONS,
-        after: b"",
+        text: &Text(OPTIONS),
+        after: "",
     };
     print(out, &text, SUCCESS)
 }
 
 /// Prints the text of a fault in a line. The answer is the status of a failure.
-fn print_fault<E: Screen>(err: &mut E, text: &[u8]) -> u8
+fn print_fault<E: Screen>(err: &mut E, text: &str) -> u8
     ensures { Prints (fault_line text.now) failure (Becomes E.ends err.old err.new) result }
 {
     let line = TextBetween {
-        before: b"wcwhy: ",
-        text: &text,
-        after: b"\n",
+        before: "wcwhy: ",
+        text: &Text(text),
+        after: "\n",
     };
     print(err, &line, FAILURE)
 }
 
 /// Prints what is wrong with the arguments in a line, and the usage text. The answer is the exit status.
-fn print_usage_fault<E: Screen>(err: &mut E, text: &[u8]) -> u8
+fn print_usage_fault<E: Screen>(err: &mut E, text: &str) -> u8
     ensures { Prints (fault_and_usage text.now) wrong_arguments
         (Becomes E.ends err.old err.new) result }
 {
     let lines = TextBetween {
-        before: b"wcwhy: ",
-        text: &text,
+        before: "wcwhy: ",
+        text: &Text(text),
         after: AND_USAGE,
     };
     print(err, &lines, WRONG_ARGUMENTS)

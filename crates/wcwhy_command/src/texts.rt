@@ -2,7 +2,8 @@
 
 ghost use Rattle.std.specs.Prelude.{◌≡◌, ◌++◌, IfOk, OnOk, string_bytes};
 ghost use Rattle.std.specs.List.{flat_map};
-ghost use Rattle.wcwhy_command.specs.Texts.{graph_char, graph_text, word, word_char};
+ghost use Rattle.std.specs.Str.{str_eq_ignore_ascii_case};
+ghost use Rattle.wcwhy_command.specs.Texts.{graph_char, graph_text, is_alike, unversioned_text, word, word_char};
 
 use std::alloc::{AllocError, Global};
 use wc_json::escaped;
@@ -39,6 +40,30 @@ fn push_word(out: &mut String, c: char) -> Result<(), AllocError>
         ' ' => out.push_str("\\u{20}"),
         _ => out.push(c),
     }
+}
+
+/// The name of a module without its version: what is before the first `@`.
+pub(crate) fn unversioned(name: &str) -> &str
+    ensures { result.now ≡ unversioned_text name.now }
+{
+    match name.split_once('@') {
+        Some((front, _version)) => front,
+        None => name,
+    }
+}
+
+/// Whether names are the same but for their versions and for the case of ASCII letters.
+pub(crate) fn is_alike(name: &str, other: &str) -> bool
+    ensures { result ≡ is_alike name.now other.now }
+{
+    same_letters(unversioned(name), unversioned(other))
+}
+
+/// Whether texts are the same but for the case of ASCII letters.
+fn same_letters(left: &str, right: &str) -> bool
+    ensures { result ≡ str_eq_ignore_ascii_case left.now right.now }
+{
+    left.eq_ignore_ascii_case(right)
 }
 
 /// A text as it is between the quotes of a label: Graphviz shows this text.

@@ -10,12 +10,12 @@ use std::alloc::{AllocError, Global};
 use wc_json::escaped;
 
 /// The usage text.
-pub(crate) const USAGE: &[u8] = b"usage: wcwhy IN [--import MODULE[=NAME]]... [--dot] EXPORT...
+pub(crate) const USAGE: &str = "usage: wcwhy IN [--import MODULE[=NAME]]... [--dot] EXPORT...
        wcwhy --help | --version
 ";
 
 /// The help text after the usage text: what each argument is.
-pub(crate) const OPTIONS: &[u8] = b"  IN                      an adapter, as a core module
+pub(crate) const OPTIONS: &str = "  IN                      an adapter, as a core module
   EXPORT                  an export that is required of it
   --import MODULE[=NAME]  an import that is asked for; else all that stay
   --dot                   print a graph, in the language of Graphviz
@@ -24,16 +24,16 @@ pub(crate) const OPTIONS: &[u8] = b"  IN                      an adapter, as a c
 ";
 
 /// The program's name and version, in a line.
-pub(crate) const VERSION: &[u8] = b"wcwhy 0.262.0\n";
+pub(crate) const VERSION: &str = "wcwhy 0.262.0\n";
 
 /// The end of the line of a wrong argument, and the usage text.
-pub(crate) const AND_USAGE: &[u8] = b"
+pub(crate) const AND_USAGE: &str = "
 usage: wcwhy IN [--import MODULE[=NAME]]... [--dot] EXPORT...
        wcwhy --help | --version
 ";
 
 /// The mistake in an argument that is no text.
-pub(crate) const NO_TEXT: &[u8] = b"argument that is not UTF-8";
+pub(crate) const NO_TEXT: &str = "argument that is not UTF-8";
 
 impl WrongArgument<'_> {
     /// The mistake, as a line without its end. Arguments in it are escaped (`wc_json::escaped`).

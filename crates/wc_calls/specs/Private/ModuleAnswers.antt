@@ -1,6 +1,6 @@
 -- Words of contracts of private functions. No contract of a public function cites these, directly or through others.
 -- What is answered for one module of an encoder.
-use Rattle.std.specs.Prelude.{◌≡◌, ℕ, List, [], map, MatchOption, Option, ⊤, string_bytes}
+use Rattle.std.specs.Prelude.{◌≡◌, ℕ, List, [], map, MatchOption, None, Option, Some, ⊤, string_bytes}
 use Rattle.std.specs.Option.{option_map}
 use Rattle.wc_adapters.specs.Adapters.{library_view}
 use Rattle.wc_encoder.specs.EncoderParts.{EncoderView}
@@ -13,12 +13,13 @@ use Rattle.wc_world.specs.Causes.{IsRefused}
 use Rattle.wc_world.specs.Places.{IsInAdapter, IsValidationPlace}
 use Rattle.wc_world.specs.declared.fault.WorldFault.TheVariants.{Adapter, Main}
 use Rattle.wc_world.specs.declared.places.WorldPlace.{WorldPlace}
-use Rattle.wc_record.specs.Places.{world_place_json}
-use Rattle.wc_calls.specs.Places.{place_text}
+use Rattle.wc_calls.specs.Places.{world_place_text}
+use Rattle.wc_calls.specs.Private.Refusals.{RefusedMessage}
 use Rattle.wc_calls.specs.Validation.{IsModulePlaceText, IsModuleRefused}
 use Rattle.wc_calls.specs.declared.message_fault.MessageFault.{MessageFault}
 use Rattle.wc_calls.specs.declared.message_fault.MessageFault.TheVariants.{Memory, World}
-use Rattle.wc_calls.specs.declared.refused_component.RefusedComponent.{RefusedComponent}
+use Rattle.wc_calls.specs.declared.refusals.MessagePlace.{MessagePlace}
+use Rattle.wc_calls.specs.declared.refusals.MessagePlace.TheVariants as place
 use Rattle.wc_calls.specs.declared.validation.AdapterInput.{AdapterInput}
 
 -- why a module of an encoder is refused
@@ -47,6 +48,12 @@ abbrev pub IsInputPlace : AdapterInput → ValidateFault → Option WorldPlace �
 IsInputPlace g f place =
     MatchOption place (HasNoPlace f) (λ (p : WorldPlace). IsInAdapter g.name.now p × IsValidationPlace (input_of g) g.adapter.now.wasm.items f p.place)
 
+-- the same as the place of a message's fault
+abbrev pub IsInputAt : AdapterInput → ValidateFault → Option MessagePlace → Type 0
+IsInputAt g f None = IsInputPlace g f None
+IsInputAt g f (Some (place.World p)) = IsInputPlace g f (Some p)
+IsInputAt g f p = ⊥
+
 -- why the main module is refused
 abbrev pub IsMainCause : EncoderView → MessageFault → Type 0
 IsMainCause e Memory = ⊤
@@ -54,13 +61,13 @@ IsMainCause e (World (Main f)) = IsValidateCause (main_input e e.module_import_m
 IsMainCause e f = ⊥
 
 -- why an adapter or a library is, and what that is about
-abbrev pub IsInputCause : AdapterInput → MessageFault → Option WorldPlace → Type 0
-IsInputCause g Memory place = ⊤
-IsInputCause g (World (Adapter own f)) place =
-    (string_bytes own ≡ g.name.now) × IsValidateCause (input_of g) g.adapter.now.wasm.items f × IsInputPlace g f place
-IsInputCause g f place = ⊥
+abbrev pub IsInputCause : AdapterInput → MessageFault → Option MessagePlace → Type 0
+IsInputCause g Memory p = p ≡ None
+IsInputCause g (World (Adapter own f)) p =
+    (string_bytes own ≡ g.name.now) × IsValidateCause (input_of g) g.adapter.now.wasm.items f × IsInputAt g f p
+IsInputCause g f p = ⊥
 
-abbrev pub IsInputRefusal : AdapterInput → RefusedComponent → Type 0
+abbrev pub IsInputRefusal : AdapterInput → RefusedMessage → Type 0
 IsInputRefusal g x = IsInputCause g x.fault x.place
 
 -- the fault of an adapter or a library, which is not that an allocation failed, and what it is about, as a text
@@ -71,5 +78,5 @@ IsInputFault g (World (Adapter own f)) = (string_bytes own ≡ g.name.now) × Is
 IsInputFault g f = ⊥
 
 abbrev pub IsInputPlaceFor : AdapterInput → MessageFault → List ℕ → Type 0
-IsInputPlaceFor g (World (Adapter own f)) text = (p : Option WorldPlace) × IsInputPlace g f p × (text ≡ place_text world_place_json p)
+IsInputPlaceFor g (World (Adapter own f)) text = (p : Option WorldPlace) × IsInputPlace g f p × (text ≡ world_place_text (Adapter own f) p)
 IsInputPlaceFor g f text = text ≡ []

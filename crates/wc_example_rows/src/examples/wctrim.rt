@@ -8,7 +8,7 @@ ghost use Rattle.wctrim_command.specs.Execution.{Runs};
 use std::alloc::Global;
 use wc_maps::Seed;
 use wc_write::WriterSink;
-use wctrim_command::{ToolFault, execute, parse};
+use wctrim_command::{CommandFault, execute, parse};
 
 /// The lines that a command prints for the bytes of a module. `None` where the arguments are
 /// those of no command. `seed`: the seed of the maps that are made, which a program draws by
@@ -18,7 +18,7 @@ pub(crate) fn printed_lines(
     seed: Seed,
     arguments: &[String],
     input: &[u8],
-) -> Result<Option<Vec<u8>>, ToolFault>
+) -> Result<Option<Vec<u8>>, CommandFault>
     ensures lines { IfOk result (λ answer. IfSome answer (λ lines.
         (c : CommandView) × (written : Option (List ℕ))
         × IsCommandLine (map string_bytes arguments.now) c

@@ -6,6 +6,8 @@ use std::fmt::Display;
 use wc_fixtures::bad::Bad;
 use wc_fixtures::words::Words;
 use wc_lines::lines::Lines;
+use wc_lines::values::put_fault_text;
+use wc_texts::FaultText;
 
 /// An answer about something, as lines show it.
 pub trait PutAbout<A> {
@@ -38,7 +40,7 @@ pub(crate) fn put_last_asked<V: PutAsked + Drop>(
     answer.put_asked(words, out)
 }
 
-/// A line of a value that nothing else is left of.
-pub fn put_last_line<D: Display + Drop>(out: &mut Lines, value: D) {
-    writeln!(out, "{value}");
+/// The text of a fault that nothing else is left of, on a line.
+pub fn put_last_fault<F: FaultText + Display + Drop>(alloc: Global, fault: F, out: &mut Lines) {
+    put_fault_text(alloc, &fault, out);
 }

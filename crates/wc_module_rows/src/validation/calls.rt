@@ -1,7 +1,7 @@
 //! The calls of `wc_validate`.
 
 use crate::validation::answers::{
-    PutAbout, PutAsked, put_last_about, put_last_asked, put_last_line,
+    PutAbout, PutAsked, put_last_about, put_last_asked, put_last_fault,
 };
 use crate::validation::described_modules::{DescribedModule, described_of};
 use crate::validation::explained::{
@@ -213,7 +213,7 @@ fn put_as_adapter(
 }
 
 /// Puts the answers of a module as an adapter, or why it is refused; after the word `explain` as for a main one. After
-/// `among N` it is validated by interfaces that are made for N modules.
+/// `among N`, before these, it is validated by interfaces that are made for N modules.
 fn put_adapter_module(
     checked: &AdapterModule<'_>,
     words: &mut Words,
@@ -231,6 +231,10 @@ fn put_adapter_module(
 
 impl PutAsked for AmongInterfaces<'_> {
     fn put_asked(&self, words: &mut Words, out: &mut Lines) -> Result<(), Bad> {
+        if words.take("explain") {
+            self.explain(words.alloc, out);
+            return words.end();
+        }
         put_last_asked(self.validated(words.alloc), words, out)
     }
 }
@@ -267,30 +271,30 @@ fn put_adapter<'a>(
 }
 
 /// The text of each fault of imports, in the order of `ValidateFault`.
-fn put_faults(out: &mut Lines) {
-    put_last_line(out, ValidateFault::Memory);
-    put_last_line(out, ValidateFault::Read(ReadFault::NotWasm));
-    put_last_line(out, ValidateFault::NotAModule);
-    put_last_line(out, ValidateFault::NotAFunction);
-    put_last_line(out, ValidateFault::SignatureMismatch);
-    put_last_line(out, ValidateFault::NoRootImport);
-    put_last_line(out, ValidateFault::RootNotFunction);
-    put_last_line(out, ValidateFault::BadSyntax);
-    put_last_line(out, ValidateFault::UnknownInterface);
-    put_last_line(out, ValidateFault::UnknownIntrinsic);
-    put_last_line(out, ValidateFault::MissingFunction);
-    put_last_line(out, ValidateFault::NoSuchExport);
-    put_last_line(out, ValidateFault::WholeDiffers);
-    put_last_line(out, ValidateFault::Mixed);
-    put_last_line(out, ValidateFault::SeveralMemoryImports);
-    put_last_line(out, ValidateFault::DuplicateImport);
-    put_last_line(out, ValidateFault::AdapterTypesDiffer);
-    put_last_line(out, ValidateFault::SeveralMemoryExports);
-    put_last_line(out, ValidateFault::MissingCallback);
-    put_last_line(out, ValidateFault::MissingInterfaceExport);
-    put_last_line(out, ValidateFault::MissingWorldExport);
-    put_last_line(out, ValidateFault::AdapterExportType);
-    put_last_line(out, ValidateFault::TypedReference);
+fn put_faults(alloc: Global, out: &mut Lines) {
+    put_last_fault(alloc, ValidateFault::Memory, out);
+    put_last_fault(alloc, ValidateFault::Read(ReadFault::NotWasm), out);
+    put_last_fault(alloc, ValidateFault::NotAModule, out);
+    put_last_fault(alloc, ValidateFault::NotAFunction, out);
+    put_last_fault(alloc, ValidateFault::SignatureMismatch, out);
+    put_last_fault(alloc, ValidateFault::NoRootImport, out);
+    put_last_fault(alloc, ValidateFault::RootNotFunction, out);
+    put_last_fault(alloc, ValidateFault::BadSyntax, out);
+    put_last_fault(alloc, ValidateFault::UnknownInterface, out);
+    put_last_fault(alloc, ValidateFault::UnknownIntrinsic, out);
+    put_last_fault(alloc, ValidateFault::MissingFunction, out);
+    put_last_fault(alloc, ValidateFault::NoSuchExport, out);
+    put_last_fault(alloc, ValidateFault::WholeDiffers, out);
+    put_last_fault(alloc, ValidateFault::Mixed, out);
+    put_last_fault(alloc, ValidateFault::SeveralMemoryImports, out);
+    put_last_fault(alloc, ValidateFault::DuplicateImport, out);
+    put_last_fault(alloc, ValidateFault::AdapterTypesDiffer, out);
+    put_last_fault(alloc, ValidateFault::SeveralMemoryExports, out);
+    put_last_fault(alloc, ValidateFault::MissingCallback, out);
+    put_last_fault(alloc, ValidateFault::MissingInterfaceExport, out);
+    put_last_fault(alloc, ValidateFault::MissingWorldExport, out);
+    put_last_fault(alloc, ValidateFault::AdapterExportType, out);
+    put_last_fault(alloc, ValidateFault::TypedReference, out);
 }
 
 /// A module, as the main one: that of the encoder after the word `main`, else the one that is described.
@@ -331,7 +335,7 @@ fn answered<'a>(
     out: &mut Lines,
 ) -> Result<(), Stop<'a>> {
     if matches!(call, Call::Faults) {
-        put_faults(out);
+        put_faults(alloc, out);
         return Ok(());
     }
     match described_encoder(alloc, row) {

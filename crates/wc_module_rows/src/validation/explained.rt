@@ -1,46 +1,54 @@
 //! Places of faults of modules.
 
 use crate::validation::answers::{PutAbout, put_last_about};
-use std::alloc::{AllocError, Global};
+use std::alloc::Global;
 use wc_dedupe::ModuleImportMap;
 use wc_encoder::{Adapter, ComponentEncoder};
 use wc_lines::lines::Lines;
+use wc_lines::values::put_refused;
 use wc_maps::Map;
 use wc_read::FuncType;
+use wc_texts::Refused;
 use wc_validate::{
-    Place, RefusedModule, ValidateFault, ValidatedModule, WorldInterfaces, explain_adapter_module,
-    explain_module, validate_adapter_module, validate_adapter_module_explained, validate_module,
-    validate_module_explained,
+    Place, ValidateFault, ValidatedModule, WorldInterfaces, validate_adapter_module,
+    validate_adapter_module_explained, validate_module, validate_module_explained,
 };
 
-/// Appends what a fault is about.
-fn put_found(lines: &mut Lines, place: &Result<Option<Place>, AllocError>) {
-    match place {
-        Ok(Some(place)) => writeln!(lines, "{place}"),
-        Ok(None) => lines.push_str("none\n"),
-        Err(_) => lines.lack_memory(),
+/// The record of a module, or why it is refused and what that is about.
+type Explained = Result<ValidatedModule, Refused<ValidateFault, Place>>;
+
+/// Lines that another call has put.
+#[derive(Clone, Copy)]
+struct OtherLines<'a> {
+    lines: &'a Lines,
+}
+
+/// The lines of a module that is refused, or `ok`.
+fn put_explained(explained: &Explained, out: &mut Lines) {
+    match explained {
+        Ok(_) => out.push_str("ok\n"),
+        Err(refused) => put_refused(out, refused),
     }
 }
 
-impl PutAbout<ValidateFault> for Result<Option<Place>, AllocError> {
-    /// Appends the fault, and the place that it is about.
-    fn put_about(&self, _alloc: Global, fault: &ValidateFault, out: &mut Lines) {
-        writeln!(out, "fault {fault}");
-        put_found(out, self);
+impl<'a> PutAbout<OtherLines<'a>> for Explained {
+    /// Puts why a module is refused, and what that is about, unless that is as another call answered it.
+    fn put_about(&self, alloc: Global, others: &OtherLines<'a>, out: &mut Lines) {
+        let mut lines = Lines::new(alloc);
+        put_explained(self, &mut lines);
+        if lines.text() != others.lines.text() {
+            out.push_lines(&lines);
+        }
     }
 }
 
-/// The lines of a module that is refused.
-fn refused_lines(alloc: Global, refused: &RefusedModule) -> Lines {
-    let mut lines = Lines::new(alloc);
-    refused.place.put_about(alloc, &refused.fault, &mut lines);
-    lines
-}
+/// That the answer of one call alone is put.
+#[derive(Clone, Copy)]
+struct Alone;
 
-/// Appends lines, unless they are as those that another call answered.
-fn put_unlike(out: &mut Lines, lines: &Lines, others: &Lines) {
-    if lines.text() != others.text() {
-        out.push_lines(lines);
+impl PutAbout<Alone> for Explained {
+    fn put_about(&self, _alloc: Global, _about: &Alone, out: &mut Lines) {
+        put_explained(self, out);
     }
 }
 
@@ -58,42 +66,14 @@ impl MainModule<'_> {
         self.encoder.well_formedness();
         validate_module(alloc, self.encoder, self.bytes, self.renames)
     }
-
-    /// The lines of this fault, and of the place that `explain_module` answers of it.
-    fn explained(&self, alloc: Global, fault: &ValidateFault) -> Lines {
-        let mut lines = Lines::new(alloc);
-        let place = explain_module(alloc, self.encoder, self.bytes, self.renames, fault);
-        put_last_about(alloc, fault, place, &mut lines);
-        lines
-    }
 }
 
-/// Appends why a module is refused as an encoder's main one, and what that is about, as two calls answer it.
-fn put_main(alloc: Global, checked: &MainModule<'_>, refused: &RefusedModule, out: &mut Lines) {
-    let explained = checked.explained(alloc, &refused.fault);
-    let lines = refused_lines(alloc, refused);
-    out.push_lines(&lines);
-    put_unlike(out, &explained, &lines);
-}
-
-/// The record of a module, or why it is refused and what that is about.
-type Explained = Result<ValidatedModule, RefusedModule>;
-
-impl<'a> PutAbout<MainModule<'a>> for Explained {
-    fn put_about(&self, alloc: Global, checked: &MainModule<'a>, out: &mut Lines) {
-        match self {
-            Ok(_) => out.push_str("ok\n"),
-            Err(refused) => put_main(alloc, checked, refused, out),
-        }
-    }
-}
-
-/// Why a module is refused as an encoder's main one, and what that is about, as two calls answer it; once, where they agree.
+/// Why a module is refused as an encoder's main one, and what that is about.
 pub(crate) fn explain_main(alloc: Global, checked: &MainModule<'_>, out: &mut Lines) {
     let encoder = checked.encoder;
     encoder.well_formedness();
     let answer = validate_module_explained(alloc, encoder, checked.bytes, checked.renames);
-    put_last_about(alloc, checked, answer, out);
+    put_last_about(alloc, &Alone, answer, out);
 }
 
 /// A module, as one of an encoder's adapters, of which these functions are required.
@@ -131,32 +111,6 @@ impl AdapterModule<'_> {
             self.adapter.library_info.as_ref(),
         )
     }
-
-    /// The lines of this fault, and of the place that `explain_adapter_module` answers of it.
-    fn explained(&self, alloc: Global, fault: &ValidateFault) -> Lines {
-        let mut lines = Lines::new(alloc);
-        let place = explain_adapter_module(
-            alloc,
-            self.encoder,
-            self.bytes,
-            self.required,
-            &self.adapter.required_exports,
-            self.adapter.library_info.as_ref(),
-            fault,
-        );
-        put_last_about(alloc, fault, place, &mut lines);
-        lines
-    }
-}
-
-impl PutAbout<Lines> for Explained {
-    /// Appends what the module is refused for, unless that is as another call answered it.
-    fn put_about(&self, alloc: Global, others: &Lines, out: &mut Lines) {
-        match self {
-            Ok(_) => out.push_str("ok\n"),
-            Err(refused) => put_unlike(out, &refused_lines(alloc, refused), others),
-        }
-    }
 }
 
 /// A module, as one of an encoder's adapters, and interfaces of that encoder.
@@ -180,6 +134,11 @@ impl AmongInterfaces<'_> {
         )
     }
 
+    /// Puts why the module is refused by these interfaces, and what that is about.
+    pub(crate) fn explain(&self, alloc: Global, out: &mut Lines) {
+        put_last_about(alloc, &Alone, self.validated_explained(alloc), out);
+    }
+
     /// The record of the module, or why it is refused, and what that is about.
     fn validated_explained(&self, alloc: Global) -> Explained {
         let checked = &self.checked;
@@ -194,15 +153,14 @@ impl AmongInterfaces<'_> {
     }
 }
 
-impl PutAbout<Lines> for AmongInterfaces<'_> {
-    /// Appends what the module is refused for, unless that is as another call answered it.
-    fn put_about(&self, alloc: Global, others: &Lines, out: &mut Lines) {
+impl<'a> PutAbout<OtherLines<'a>> for AmongInterfaces<'_> {
+    fn put_about(&self, alloc: Global, others: &OtherLines<'a>, out: &mut Lines) {
         put_last_about(alloc, others, self.validated_explained(alloc), out);
     }
 }
 
-/// Appends what a module is refused for by interfaces that are made for one module, unless that is as another call answered
-/// it.
+/// Appends why a module is refused by interfaces that are made for one module, and what that is about, unless that is as
+/// another call answered it.
 fn put_among(alloc: Global, checked: &AdapterModule<'_>, others: &Lines, out: &mut Lines) {
     match WorldInterfaces::new(alloc, checked.encoder, 1) {
         Ok(interfaces) => {
@@ -210,37 +168,22 @@ fn put_among(alloc: Global, checked: &AdapterModule<'_>, others: &Lines, out: &m
                 checked: *checked,
                 interfaces,
             };
-            put_last_about(alloc, others, among, out);
+            put_last_about(alloc, &OtherLines { lines: others }, among, out);
         }
         Err(_) => out.lack_memory(),
     }
 }
 
-/// Appends why a module is refused as one of an encoder's adapters, and what that is about, as three calls answer it.
-fn put_adapter(
-    alloc: Global,
-    checked: &AdapterModule<'_>,
-    refused: &RefusedModule,
-    out: &mut Lines,
-) {
-    let explained = checked.explained(alloc, &refused.fault);
-    let lines = refused_lines(alloc, refused);
-    out.push_lines(&lines);
-    put_unlike(out, &explained, &lines);
-    put_among(alloc, checked, &lines, out);
-}
-
-impl<'a> PutAbout<AdapterModule<'a>> for Explained {
-    fn put_about(&self, alloc: Global, checked: &AdapterModule<'a>, out: &mut Lines) {
-        match self {
-            Ok(_) => out.push_str("ok\n"),
-            Err(refused) => put_adapter(alloc, checked, refused, out),
-        }
-    }
-}
-
-/// Why a module is refused as one of an encoder's adapters, and what that is about, as three calls answer it; once, where
+/// Why a module is refused as one of an encoder's adapters, and what that is about, as two calls answer it; once, where
 /// they agree.
 pub(crate) fn explain_adapter(alloc: Global, checked: &AdapterModule<'_>, out: &mut Lines) {
-    put_last_about(alloc, checked, checked.validated_explained(alloc), out);
+    let mut lines = Lines::new(alloc);
+    put_last_about(
+        alloc,
+        &Alone,
+        checked.validated_explained(alloc),
+        &mut lines,
+    );
+    out.push_lines(&lines);
+    put_among(alloc, checked, &lines, out);
 }

@@ -6,10 +6,10 @@ ghost use Rattle.wc_resolve.specs.Fault.{IsOrderCause};
 ghost use Rattle.wc_resolve.specs.Views.{type_view};
 ghost use Rattle.wc_resolve.specs.Kinds.{IsChildrenFirst, LeadWithin, children};
 
-use crate::explain::{Part, Refusal};
 use crate::kinds::referenced_indices;
-use crate::{ResolveFault, TypeDef};
+use crate::{Part, ResolveFault, TypeDef};
 use std::alloc::{AllocError, AllocFailed, Global};
+use wc_texts::Refused;
 
 /// Why there is no order.
 #[derive(Clone, Copy)]
@@ -42,18 +42,15 @@ impl<T: Drop> From<AllocFailed<T>> for OrderFault {
     }
 }
 
-impl From<OrderFault> for Refusal {
+impl From<OrderFault> for Refused<ResolveFault, Part> {
     ghost use Rattle.wc_resolve.specs.Refusals.{IsOrderRefusal};
 
     ghost from_gives = { IsOrderRefusal };
 
-    fn from(fault: OrderFault) -> Refusal {
+    fn from(fault: OrderFault) -> Self {
         match fault {
-            OrderFault::Memory => Refusal {
-                fault: ResolveFault::Memory,
-                place: None,
-            },
-            OrderFault::Cycle(index) => Refusal {
+            OrderFault::Memory => Refused::without_place(ResolveFault::Memory),
+            OrderFault::Cycle(index) => Refused {
                 fault: ResolveFault::Cycle,
                 place: Some(Part::TypeDef(index)),
             },

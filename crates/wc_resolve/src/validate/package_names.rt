@@ -7,10 +7,10 @@ ghost use Rattle.wc_resolve.specs.Refusals.{IsRepeatRefused};
 ghost use Rattle.wc_resolve.specs.ResolveParts.{parts_view};
 ghost use Rattle.wc_resolve.specs.Validate.{AreNamesOf};
 
-use crate::explain::{Part, Refusal};
-use crate::{Package, PackageName, Parts, ResolveFault};
+use crate::{Package, PackageName, Part, Parts, ResolveFault};
 use std::alloc::Global;
 use wc_maps::{Seed, Set};
+use wc_texts::Refused;
 
 /// The seed for the names of the packages: that of the first package's interfaces, which whoever made the packages chose.
 /// Where there is no package it is a known one: no name is put in then.
@@ -26,7 +26,10 @@ fn seed_of(packages: &[Package]) -> Seed {
 /// # Errors
 ///
 /// `NameClash`: a package has the name and version of an earlier one; the first such is what it is about.
-fn distinct_names(alloc: Global, packages: &[Package]) -> Result<Set<PackageName>, Refusal>
+fn distinct_names(
+    alloc: Global,
+    packages: &[Package],
+) -> Result<Set<PackageName>, Refused<ResolveFault, Part>>
     ensures names { let views = map package_view packages.now in IfOk result
         (λ names. HaveDistinctNames views × AreNamesOf views names.keys) }
     ensures refusal { IfErr result (IsRepeatRefused (map package_view packages.now)) }
@@ -36,7 +39,7 @@ fn distinct_names(alloc: Global, packages: &[Package]) -> Result<Set<PackageName
         let name = packages[index].name.clone(alloc)?;
         let (_index, is_new) = names.insert_full(name)?;
         if !is_new {
-            return Err(Refusal {
+            return Err(Refused {
                 fault: ResolveFault::NameClash,
                 place: Some(Part::Package(index)),
             });
@@ -50,7 +53,7 @@ fn distinct_names(alloc: Global, packages: &[Package]) -> Result<Set<PackageName
 pub(crate) fn distinct_package_names(
     alloc: Global,
     parts: &Parts,
-) -> Result<Set<PackageName>, Refusal>
+) -> Result<Set<PackageName>, Refused<ResolveFault, Part>>
     ensures names { let view = parts_view parts.now in IfOk result
         (λ names. HaveDistinctNames view.packages × AreNamesOf view.packages names.keys) }
     ensures refusal { IfErr result (IsRepeatRefused (parts_view parts.now).packages) }

@@ -1,7 +1,6 @@
 -- Where validation stops, as the code has it.
-use Rattle.std.specs.Prelude.{◌≡◌, ◌≢◌, ◌≤◌, ◌⊎◌, ℕ, List, [], map, Contains, IsTrue, MatchOption, Option, Some, None, IfErr, IfOk, IsSomeAnd, OnOk, Result, Err, String, string_bytes, Bool, true, false}
+use Rattle.std.specs.Prelude.{◌≡◌, ◌≢◌, ◌≤◌, ◌⊎◌, ℕ, List, map, Contains, IsTrue, MatchOption, Option, Some, None, IfErr, IsSomeAnd, OnOk, Result, Err, String}
 use Rattle.std.specs.Borrow.{Bor}
-use Rattle.std.specs.Option.{option_map}
 use Rattle.std.specs.declared.alloc.Global.{Global}
 use Rattle.wc_read.specs.declared.core_module.Module.{Module}
 use Rattle.wc_read.specs.declared.exports.Export.{Export as ModuleExport}
@@ -22,21 +21,19 @@ use Rattle.wc_names.specs.declared.exports.Export.{Export}
 use Rattle.wc_names.specs.Exports.{ClassifiedExport, CoreExport, is_export}
 use Rattle.wc_names.specs.ExportViews.{ExportView}
 use Rattle.wc_names.specs.Imports.{NameScope, func_type}
-use Rattle.wc_names.specs.Views.{ImportView, adapter_export}
 use Rattle.wc_validate.specs.declared.explain.keys.LackingKey.{LackingKey}
 use Rattle.wc_validate.specs.declared.explain.functions.LackingFunction.{LackingFunction}
 use Rattle.wc_validate.specs.declared.requirements.RecordedModule.{RecordedModule}
-use Rattle.wc_validate.specs.declared.refused.Refused.{Refused}
+use Rattle.wc_validate.specs.declared.refused.ImportFault.{ImportFault}
+use Rattle.wc_validate.specs.declared.refused.RefusedImport.{RefusedImport}
 use Rattle.wc_validate.specs.declared.refused.RefusedExport.{RefusedExport}
-use Rattle.wc_validate.specs.declared.refused.RefusedModule.{RefusedModule}
 use Rattle.wc_validate.specs.declared.externs.Extern.{Extern}
 use Rattle.wc_validate.specs.declared.name_fault.NameFault.{NameFault}
 use Rattle.wc_validate.specs.declared.name_fault.NameFault.TheVariants as naming
 use Rattle.wc_validate.specs.declared.place.TypeDifference.{TypeDifference}
 use Rattle.wc_validate.specs.declared.exports.classify.ExportContext.{ExportContext}
-use Rattle.wc_validate.specs.declared.fault.AdapterModuleDidNotExport.{AdapterModuleDidNotExport as NotExported}
 use Rattle.wc_validate.specs.declared.fault.ValidateFault.{ValidateFault}
-use Rattle.wc_validate.specs.declared.fault.ValidateFault.TheVariants.{AdapterModuleDidNotExport, AdapterTypesDiffer, Memory, MissingCallback, NotAModule, Read, SeveralMemoryExports, SignatureMismatch}
+use Rattle.wc_validate.specs.declared.fault.ValidateFault.TheVariants.{Memory, MissingCallback, SeveralMemoryExports, SignatureMismatch}
 use Rattle.wc_validate.specs.declared.imports.record.ImportContext.{ImportContext}
 use Rattle.wc_validate.specs.declared.names.Names.{Names}
 use Rattle.wc_validate.specs.declared.place.Place.{Place}
@@ -46,65 +43,49 @@ use Rattle.wc_validate.specs.Imports.Map.{required_entry}
 use Rattle.wc_validate.specs.Exports.Map.{ExportRecord, export_entry}
 use Rattle.wc_validate.specs.Exports.Contexts.{MeansExportBy}
 use Rattle.wc_validate.specs.Exports.Record.{AreRecordedBy, IsExportsFault, exports_in}
-use Rattle.wc_validate.specs.Imports.Entries.{Entry, Records, single}
-use Rattle.wc_validate.specs.Imports.Record.{AreEntries, ImportScope, IsEntry}
+use Rattle.wc_validate.specs.Imports.Entries.{Entry, Records}
+use Rattle.wc_validate.specs.Imports.Record.{ImportScope, library_entry}
 use Rattle.wc_validate.specs.NameScope.{name_scope_of}
-use Rattle.wc_validate.specs.Explain.{AreTypesOfImport, IsTypedAt, difference_view, IsCallbackPlace, IsExplained, IsExportPlace, IsFirstFailing, IsFirstLacking, IsFirstMismatched, IsFirstRefused, IsFirstUnexported, IsFunctionLack, IsFunctionPlace, IsImportPlace, IsKeyPlace, IsLack, IsMemoryPlace, IsMissingPlace, IsModulePlace, IsPlace, IsSecondMemory, IsUnplaced, PlaceView, an_export, missing_export, place_view, subject_view}
-use Rattle.wc_validate.specs.Refused.{IsMemoryRefusal, IsPlaceOrNone, IsRefusedAt}
+use Rattle.wc_validate.specs.Explain.{AreTypesOfImport, DifferenceView, IsTypedAt, difference_view, IsCallbackPlace, IsExportPlace, IsFirstFailing, IsFirstLacking, IsFirstMismatched, IsFirstRefused, IsFirstUnexported, IsFunctionLack, IsFunctionPlace, IsImportPlace, IsKeyPlace, IsLack, IsMemoryPlace, IsMissingPlace, IsModulePlace, IsSecondMemory, PlaceView, an_export, missing_export, place_view, subject_view}
+use Rattle.wc_validate.specs.Refused.{IsMemoryRefusal, IsPlaceOrNone, IsRefusedAt, RefusedModule}
 use Rattle.wc_validate.specs.Requirements.{AreMet, IsMet, IsUnmetFault, Requirement, callback_name, function_names, functions_of, is_called_back, key_requirement, memory_count, type_requirement}
 use Rattle.wc_validate.specs.Private.ExportedFunctions.{AreNamesOf, HasFunctionsOf, IsExportIndexOf}
 use Rattle.wc_validate.specs.Private.Exports.Classify.{IsTypedExport}
 use Rattle.wc_validate.specs.Private.Externs.{extern_view}
 use Rattle.wc_validate.specs.Private.Requirements.{requirements_of_functions, requirements_of_keys}
-use Rattle.wc_validate.specs.Texts.{name_not_exported}
-use Rattle.wc_validate.specs.declared.imports.recorder.Recorder.{Recorder}
-use Rattle.wc_validate.specs.Private.Imports.Contexts.{AreRecordedIn, HasLibrary, import_scope}
-use Rattle.wc_validate.specs.Validate.{ValidationInput, IsRecordOfImports, IsValidateCause}
+use Rattle.wc_validate.specs.Private.Imports.Contexts.{HasLibrary, IsClassifiedIn, IsRefusedIn, import_scope, types_of}
+use Rattle.wc_validate.specs.Validate.{ValidationInput, IsRecordOfImports}
 
--- why validation stops at the import at an index; and the same by a context, by whichever library the module is
-abbrev pub IsStopAt : ImportScope → List ImportValue → ℕ → ValidateFault → Type 0
-IsStopAt s imports index Memory = Unit {0}
-IsStopAt s imports index f = (i : ImportValue) × (before : List Entry) × IsFirstRefused s imports index i before f
+-- why validation stops at the import at an index, with the types that differ; and the same by a context, by whichever library
+-- the module is
+abbrev pub IsStopAt : ImportScope → List ImportValue → ℕ → ValidateFault → Option DifferenceView → Type 0
+IsStopAt s imports index Memory types = Unit {0}
+IsStopAt s imports index f types =
+    (i : ImportValue) × (before : List Entry) × IsFirstRefused s imports index i before f × IsTypedAt s before i f types
 
-abbrev pub IsStopIn : ImportContext → List Import → Refused → Type 0
-IsStopIn c is x = (library : Option LibraryView) → HasLibrary c library → IsStopAt (import_scope c library) (import_values is) x.index x.fault
+abbrev pub IsStopIn : ImportContext → List Import → RefusedImport → Type 0
+IsStopIn c is x =
+    (library : Option LibraryView) → HasLibrary c library
+    → IsStopAt (import_scope c library) (import_values is) x.index x.cause.fault (types_of x.cause)
 
--- what is answered of a fault is the first import that is refused; nothing only where an allocation failed
-abbrev pub IsStopPlaced : ImportContext → List Import → ValidateFault → Option Place → Type 0
-IsStopPlaced c is f answer =
-    (library : Option LibraryView) → HasLibrary c library → IsPlaceOrNone (IsImportPlace (import_scope c library) (import_values is)) f answer
+-- a module is refused for the import at which validation stops
+abbrev pub IsImportRefused : List Import → RefusedImport → RefusedModule → Type 0
+IsImportRefused is refused x =
+    (x.fault ≡ refused.cause.fault)
+    × ((s : ImportScope) → IsStopAt s (import_values is) refused.index refused.cause.fault (types_of refused.cause)
+    → IsRefusedAt (IsImportPlace s (import_values is)) x)
 
--- the types of an import that is refused for its type; of the import of a function of an adapter, and that function; and of
--- the import after these that is refused with a fault
-abbrev pub AreMismatchedTypes : ImportContext → Import → TypeDifference → Type 0
-AreMismatchedTypes c i d =
-    (library : Option LibraryView) (before : List Entry)
+-- the types of an import that is refused for its type, which is not the one that its name fixes; and why an import is refused
+-- whose name is
+abbrev pub AreMismatchedTypes : ImportContext → Import → FuncType → TypeDifference → Type 0
+AreMismatchedTypes c i wanted d =
+    (library : Option LibraryView) (before : List Entry) → IsClassifiedIn c library i (Err (naming.SignatureMismatch wanted))
     → AreTypesOfImport (import_scope c library) before (import_value i) SignatureMismatch (difference_view d)
 
--- a function of an adapter, as an import: by the adapter, its name and its type
-abbrev pub function_view : (String Global × String Global) × FuncType → ImportView
-function_view f = adapter_export (string_bytes f.0.0) (string_bytes f.0.1) (func_type_value f.1)
-
-abbrev pub IsAdapterFunction : ImportContext → Import → (String Global × String Global) × FuncType → Type 0
-IsAdapterFunction c i f =
-    (library : Option LibraryView) → HasLibrary c library
-    → IsEntry (import_scope c library) (import_value i)
-    (single i.module.now i.name.now (function_view f))
-
-abbrev pub AreDifferingTypes : ImportContext → List Import → Import → TypeDifference → Type 0
-AreDifferingTypes c is i d =
-    (library : Option LibraryView) (before : List Entry) → HasLibrary c library → AreEntries (import_scope c library) [] (import_values is) before
-    → AreTypesOfImport (import_scope c library) before (import_value i) AdapterTypesDiffer (difference_view d)
-
--- the same of whichever imports were recorded
-abbrev pub AreDifferingAfter : {F : Type 0} → ImportContext → Recorder → Import → Result TypeDifference F → Type 0
-AreDifferingAfter c r i result =
-    (is : List Import) → ((library : Option LibraryView) → HasLibrary c library → AreRecordedIn c library is r) → IfOk result (AreDifferingTypes c is i)
-
-abbrev pub AreTypesIn : ImportContext → List Import → Import → ValidateFault → Option TypeDifference → Type 0
-AreTypesIn c is i f types =
-    (library : Option LibraryView) (before : List Entry) → HasLibrary c library → AreEntries (import_scope c library) [] (import_values is) before
-    → IsTypedAt (import_scope c library) before (import_value i) f (option_map difference_view types)
+abbrev pub IsNameRefusal : ImportContext → Import → NameFault → ImportFault → Type 0
+IsNameRefusal c i f x =
+    (library : Option LibraryView) (before : List Entry) → library_entry library i.module.now i.name.now ≡ None → IsClassifiedIn c library i (Err f)
+    → IsRefusedIn c library before i x
 
 -- an export has another type than this one, which its name fixes
 abbrev pub IsOtherThan : NameScope → List KeyView → CoreExport → FuncTypeValue → Type 0
@@ -125,10 +106,10 @@ abbrev pub IsRefusedExport : ExportContext → List ℕ → Extern → NameFault
 IsRefusedExport c name ty f = IsTypedExport (MeansExportBy c name) (extern_view ty) (Err f)
 
 -- an export that is refused for its type, as a place; by whatever the exports were recorded
-abbrev pub IsMismatchPlaced : {F : Type 0} → Module → List ModuleExport → ℕ → FuncType → Result (Option Place) F → Type 0
-IsMismatchPlaced m es index wanted result =
+abbrev pub IsMismatchPlaced : Module → List ModuleExport → ℕ → FuncType → Place → Type 0
+IsMismatchPlaced m es index wanted p =
     (e : NameScope) (keys : List KeyView) → IsExportStopAt e keys (module_value m) (map export_value es) index (naming.SignatureMismatch wanted)
-    → IfOk result (IsPlaceOrNone (IsExportPlace e keys (module_value m) (map export_value es)) SignatureMismatch)
+    → IsExportPlace e keys (module_value m) (map export_value es) SignatureMismatch (place_view p)
 
 -- a module is refused for an export
 abbrev pub AreExportsRefusedAt : Module → List ModuleExport → RefusedExport → RefusedModule → Type 0
@@ -178,11 +159,11 @@ IsLackNamed r functions exports key answer =
     (need : Requirement) → key_requirement (map world_entry exports) (key_view key) ≡ Some need → IsLackOf r functions (key_view key) need answer
 
 -- what is missing for the key that is refused, as a place; nothing only where an allocation failed
-abbrev pub IsKeyPlaced : {F : Type 0} → Names → List (Option InterfaceId × String Global) → LackingKey → Result (Option Place) F → Type 0
-IsKeyPlaced n functions x result =
+abbrev pub IsKeyPlaced : Names → List (Option InterfaceId × String Global) → LackingKey → Option Place → Type 0
+IsKeyPlaced n functions x answer =
     (xs : List CoreExport) (recorded : ExportRecord) (keys : List KeyView) → AreNamesOf functions recorded
     → IsLackAt n.resolve.now xs recorded (map world_entry n.world.now.exports.entries) keys (key_view x.key.now) x.fault
-    → IfOk result (IsPlaceOrNone (IsKeyPlace n.resolve.now xs recorded (map world_entry n.world.now.exports.entries) keys) x.fault)
+    → IsPlaceOrNone (IsKeyPlace n.resolve.now xs recorded (map world_entry n.world.now.exports.entries) keys) x.fault answer
 
 -- a module is refused for the keys of an export set, where the functions that are recorded are those of names
 abbrev pub RefusesKeys : {T : Type 0} → Names → List (Option InterfaceId × String Global) → List WorldKey → Result T RefusedModule → Type 0
@@ -212,8 +193,9 @@ IsCallbackPlaced name answer =
 -- a module is refused for its second memory; and for an export whose callback is missing
 abbrev pub IsRefusedForMemories : List (String Global × Export) → RefusedModule → Type 0
 IsRefusedForMemories recorded x =
-    (x.fault ≡ SeveralMemoryExports) × ((y : List ℕ × ExportView) × IsSecondMemory (map export_entry recorded) y)
-    × IsRefusedAt (IsMemoryPlace (map export_entry recorded)) x
+    IsMemoryRefusal x
+    ⊎ ((x.fault ≡ SeveralMemoryExports) × ((y : List ℕ × ExportView) × IsSecondMemory (map export_entry recorded) y)
+    × IsRefusedAt (IsMemoryPlace (map export_entry recorded)) x)
 
 abbrev pub IsRefusedForCallbacks : List (String Global × Export) → RefusedModule → Type 0
 IsRefusedForCallbacks recorded x =
@@ -228,48 +210,12 @@ abbrev pub IsFunctionLackAt : ResolveView → List CoreExport → ExportRecord �
 IsFunctionLackAt r xs recorded functions required Memory = Unit {0}
 IsFunctionLackAt r xs recorded functions required f = IsFirstUnexported r xs recorded functions required f
 
--- a fault says that a function of a name is not exported
-abbrev pub IsNotExported : ValidateFault → List ℕ → Type 0
-IsNotExported f name = (e : NotExported) × (f ≡ AdapterModuleDidNotExport e) × (name_not_exported e ≡ name)
-
--- a fault says of an import or an export what another one says; or says something else
-abbrev pub IsSameFault : ValidateFault → ValidateFault → Type 0
-IsSameFault (AdapterModuleDidNotExport e) f = IsNotExported f (name_not_exported e)
-IsSameFault g f = f ≡ g
-
-abbrev pub IsOtherFault : ValidateFault → ValidateFault → Type 0
-IsOtherFault Memory f = Unit {0}
-IsOtherFault (Read e) f = Unit {0}
-IsOtherFault NotAModule f = Unit {0}
-IsOtherFault (AdapterModuleDidNotExport e) f = ¬ IsNotExported f (name_not_exported e)
-IsOtherFault g f = f ≢ g
-
--- a value, if it is kept
-abbrev pub IsKeptIf : {T : Type 0} → T → Bool → Option T → Type 0
-IsKeptIf x true result = result ≡ Some x
-IsKeptIf x false result = result ≡ None
-
--- what is answered of a fault, where another one has this place; for what a module is refused for; and for what is
--- answered for a module
-abbrev pub IsAnswerFor : {F : Type 0} → Option Place → ValidateFault → ValidateFault → Result (Option Place) F → Type 0
-IsAnswerFor place g f result =
-    (j : ValidationInput) (bytes : List ℕ) → IsValidateCause j bytes g → IsPlaceOrNone (IsPlace j bytes) g place → IfOk result (IsExplained j bytes f)
-
-abbrev pub IsExplainedBy : {F : Type 0} → RefusedModule → ValidateFault → Result (Option Place) F → Type 0
-IsExplainedBy x f result =
-    (j : ValidationInput) (bytes : List ℕ) → IsValidateCause j bytes x.fault → IsRefusedAt (IsPlace j bytes) x → IfOk result (IsExplained j bytes f)
-
-abbrev pub IsAnswerExplained : {T F : Type 0} → Result T RefusedModule → ValidateFault → Result (Option Place) F → Type 0
-IsAnswerExplained answer f result =
-    (j : ValidationInput) (bytes : List ℕ) → OnOk answer (IsUnplaced j bytes f) → IfErr answer (λ (x : RefusedModule). IsValidateCause j bytes x.fault)
-    → IfErr answer (IsRefusedAt (IsPlace j bytes)) → IfOk result (IsExplained j bytes f)
-
 -- a required function that is refused, as a place; nothing only where an allocation failed
-abbrev pub IsFunctionPlaced : {F : Type 0} → List (Bor (List ℕ) × Bor FuncType) → LackingFunction → Result (Option Place) F → Type 0
-IsFunctionPlaced index x result =
+abbrev pub IsFunctionPlaced : List (Bor (List ℕ) × Bor FuncType) → LackingFunction → Option Place → Type 0
+IsFunctionPlaced index x answer =
     (r : ResolveView) (xs : List CoreExport) (recorded : ExportRecord) (functions : List (List ℕ × FuncTypeValue)) → IsExportIndexOf index xs
     → IsFunctionLackAt r xs recorded functions (x.name.now, func_type_value x.ty.now) x.fault
-    → IfOk result (IsPlaceOrNone (IsFunctionPlace r xs recorded functions) x.fault)
+    → IsPlaceOrNone (IsFunctionPlace r xs recorded functions) x.fault answer
 
 -- a module is refused for a required function
 abbrev pub RefusesFunctions : {T : Type 0} → Module → List (String Global × FuncType) → Result T RefusedModule → Type 0

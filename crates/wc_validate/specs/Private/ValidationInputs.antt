@@ -7,7 +7,6 @@ use Rattle.wc_read.specs.Modules.{ModuleValue}
 use Rattle.wc_resolve.specs.Views.{key_view}
 use Rattle.wc_encoder.specs.EncoderParts.{EncoderView}
 use Rattle.wc_validate.specs.declared.fault.ValidateFault.{ValidateFault}
-use Rattle.wc_validate.specs.declared.refused.RefusedModule.{RefusedModule}
 use Rattle.wc_validate.specs.declared.requirements.RequiredExports.{RequiredExports}
 use Rattle.wc_validate.specs.declared.validate.ValidationInput.{ValidationInput as CodeInput}
 use Rattle.wc_validate.specs.Exports.Map.{ExportRecord}
@@ -15,6 +14,7 @@ use Rattle.wc_validate.specs.Imports.Map.{required_entry}
 use Rattle.wc_validate.specs.Validate.{IsExportsCause, IsExportsRecord, ValidationInput, validation_input_by, library_of, IsNameScopeOf}
 use Rattle.wc_validate.specs.declared.exports.classify.ExportContext.{ExportContext}
 use Rattle.wc_validate.specs.NameScope.{name_scope_of}
+use Rattle.wc_validate.specs.Refused.{RefusedModule}
 
 abbrev pub validation_input_of : CodeInput → ValidationInput
 validation_input_of j = validation_input_by j.encoder.now (library_of j.library) (option_copied j.renames) (map key_view j.required.keys.now.keys) (map required_entry j.required.functions.now.entries)

@@ -1,6 +1,6 @@
 //! The export at which validation stops.
 
-ghost use Rattle.std.specs.Prelude.{◌<◌, length};
+ghost use Rattle.std.specs.Prelude.{◌<◌, IfOk, length};
 ghost use Rattle.wc_read.specs.Modules.{HaveTypes, module_value};
 ghost use Rattle.wc_validate.specs.Exports.Record.{AreExportsIn};
 ghost use Rattle.wc_validate.specs.Private.Explain.{AreExportsRefusedAt, IsMismatchPlaced};
@@ -13,6 +13,7 @@ use crate::place::{Place, Subject, TypeDifference};
 use crate::refused::{RefusedExport, RefusedModule};
 use std::alloc::{AllocError, Global};
 use wc_read::{FuncType, Module};
+use wc_texts::Refused;
 
 /// An export that is refused for its type, with the type that its name fixes and its own.
 fn export_place(
@@ -21,11 +22,11 @@ fn export_place(
     exports: &[wc_read::Export<'_>],
     index: usize,
     wanted: FuncType,
-) -> Result<Option<Place>, AllocError>
+) -> Result<Place, AllocError>
     requires in_range { index < length exports.now }
     requires items { AreExportsIn «module».now exports.now }
     requires typed { HaveTypes (module_value «module».now) }
-    ensures { IsMismatchPlaced «module».now exports.now index wanted result }
+    ensures { IfOk result (IsMismatchPlaced «module».now exports.now index wanted) }
 {
     let export = &exports[index];
     // Only functions have signatures.
@@ -34,39 +35,32 @@ fn export_place(
     };
     let found = ty.clone(alloc)?;
     let name = String::from_str(alloc, export.name)?;
-    Ok(Some(Place {
+    Ok(Place {
         subject: Subject::Export(name),
         types: Some(TypeDifference { wanted, found }),
-    }))
+    })
 }
 
-/// A module whose exports are refused; with the export, where its place is asked for.
+/// A module whose exports are refused, with the export.
 pub(crate) fn export_refusal(
     alloc: Global,
     module: &Module<'_>,
     exports: &[wc_read::Export<'_>],
     refused: RefusedExport,
-    places: bool,
-) -> RefusedModule
+) -> Result<RefusedModule, AllocError>
     requires in_range { refused.index < length exports.now }
     requires items { AreExportsIn «module».now exports.now }
     requires typed { HaveTypes (module_value «module».now) }
-    ensures { AreExportsRefusedAt «module».now exports.now refused result }
+    ensures { IfOk result (AreExportsRefusedAt «module».now exports.now refused) }
 {
     let (index, cause) = (refused.index, refused.fault);
     // An export is refused for its type, or an allocation failed.
     let NameFault::SignatureMismatch(wanted) = cause else {
-        return RefusedModule::from(AllocError);
+        return Err(AllocError);
     };
-    if !places {
-        return RefusedModule {
-            fault: ValidateFault::SignatureMismatch,
-            place: Err(AllocError),
-        };
-    }
-    let place = export_place(alloc, module, exports, index, wanted);
-    RefusedModule {
+    let place = export_place(alloc, module, exports, index, wanted)?;
+    Ok(Refused {
         fault: ValidateFault::SignatureMismatch,
-        place,
-    }
+        place: Some(place),
+    })
 }

@@ -13,6 +13,7 @@ use crate::requirements::exported_functions::{check_function, typed_functions};
 use std::alloc::{AllocError, Global};
 use wc_maps::Map;
 use wc_read::{FuncType, Module};
+use wc_texts::Refused;
 
 /// A required function that is not exported as it is required, and why it is refused.
 #[derive(Drop)]
@@ -75,7 +76,7 @@ fn function_place(
     index: &Map<&str, &FuncType>,
     lacking: &LackingFunction<'_>,
 ) -> Result<Option<Place>, AllocError>
-    ensures { IsFunctionPlaced index.now.entries lacking.now result }
+    ensures { IfOk result (IsFunctionPlaced index.now.entries lacking.now) }
 {
     if is_memory(&lacking.fault) {
         return Ok(None);
@@ -84,27 +85,20 @@ fn function_place(
     Ok(Some(place))
 }
 
-/// A module that doesn't export a function as it is required; with that, where its place is asked for.
+/// A module that doesn't export a function as it is required, with that.
 fn function_refusal(
     alloc: Global,
     index: &Map<&str, &FuncType>,
     lacking: LackingFunction<'_>,
-    places: bool,
-) -> RefusedModule
-    ensures fault { result.fault ≡ lacking.entry.fault }
-    ensures place { IsFunctionPlaced index.now.entries lacking.entry result.place }
+) -> Result<RefusedModule, AllocError>
+    ensures fault { IfOk result (λ x. x.fault ≡ lacking.entry.fault) }
+    ensures place { IfOk result (λ x. IsFunctionPlaced index.now.entries lacking.entry x.place) }
 {
-    if !places {
-        return RefusedModule {
-            fault: lacking.fault,
-            place: Err(AllocError),
-        };
-    }
-    let place = function_place(alloc, index, &lacking);
-    RefusedModule {
+    let place = function_place(alloc, index, &lacking)?;
+    Ok(Refused {
         fault: lacking.fault,
         place,
-    }
+    })
 }
 
 /// Checks that a module exports these functions, with these types.
@@ -116,7 +110,6 @@ pub(crate) fn check_functions<'m>(
     alloc: Global,
     module: &'m Module<'m>,
     functions: &Map<String, FuncType>,
-    places: bool,
 ) -> Result<(), RefusedModule>
     requires items { AreExportsIn «module».now «module».now.exports.items }
     requires typed { HaveTypes (module_value «module».now) }
@@ -127,6 +120,6 @@ pub(crate) fn check_functions<'m>(
     let index = typed_functions(alloc, *functions.hasher(), module, &module.exports)?;
     match first_unexported(alloc, &index, functions) {
         Ok(()) => Ok(()),
-        Err(lacking) => Err(function_refusal(alloc, &index, lacking, places)),
+        Err(lacking) => Err(function_refusal(alloc, &index, lacking)?),
     }
 }

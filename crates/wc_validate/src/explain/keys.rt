@@ -17,6 +17,7 @@ use crate::requirements::exported_functions::{FunctionNames, is_recorded};
 use std::alloc::{AllocError, Global};
 use wc_maps::{Map, Set};
 use wc_resolve::{InterfaceId, Resolve, WorldItem, WorldKey};
+use wc_texts::Refused;
 
 /// A key of an export set for which something is missing, and why it is refused.
 #[derive(Drop)]
@@ -123,7 +124,7 @@ fn key_place(
 ) -> Result<Option<Place>, AllocError>
     requires items { HasItemsInRange (name_scope_of names.now) }
     requires named { HasKeysNamed (name_scope_of names.now) }
-    ensures { IsKeyPlaced names.now functions.now.keys lacking.now result }
+    ensures { IfOk result (IsKeyPlaced names.now functions.now.keys lacking.now) }
 {
     if is_memory(&lacking.fault) {
         return Ok(None);
@@ -139,28 +140,22 @@ fn key_place(
     }
 }
 
-/// A module that lacks something for a key; with that, where its place is asked for.
+/// A module that lacks something for a key, with that.
 pub(crate) fn key_refusal(
     alloc: Global,
     functions: &FunctionNames,
     names: &Names<'_>,
     lacking: LackingKey<'_>,
-    places: bool,
-) -> RefusedModule
+) -> Result<RefusedModule, AllocError>
     requires items { HasItemsInRange (name_scope_of names.now) }
     requires named { HasKeysNamed (name_scope_of names.now) }
-    ensures fault { result.fault ≡ lacking.entry.fault }
-    ensures place { IsKeyPlaced names.now functions.now.keys lacking.entry result.place }
+    ensures fault { IfOk result (λ x. x.fault ≡ lacking.entry.fault) }
+    ensures place { IfOk result
+        (λ x. IsKeyPlaced names.now functions.now.keys lacking.entry x.place) }
 {
-    if !places {
-        return RefusedModule {
-            fault: lacking.fault,
-            place: Err(AllocError),
-        };
-    }
-    let place = key_place(alloc, functions, names, &lacking);
-    RefusedModule {
+    let place = key_place(alloc, functions, names, &lacking)?;
+    Ok(Refused {
         fault: lacking.fault,
         place,
-    }
+    })
 }

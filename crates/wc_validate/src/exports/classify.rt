@@ -19,7 +19,7 @@ use std::alloc::{AllocError, Global};
 use wc_names::{Export, ExportNames, Legacy, NameMangling, Standard};
 use wc_read::{FuncType, MemoryType, ValType};
 use wc_resolve::{AbiVariant, Function, InterfaceId, WorldKey};
-use wc_texts::after;
+use wc_texts::strip_prefix;
 
 /// What an export is named for: a key, an interface if it is of one, and a function.
 type Target<'a> = (&'a WorldKey, Option<InterfaceId>, &'a Function);
@@ -343,7 +343,7 @@ pub(crate) fn classify_export(
         return Ok(Some(export));
     }
     let names = &context.names;
-    if let Some(rest) = after(name, STANDARD_MARKER) {
+    if let Some(rest) = strip_prefix(name, STANDARD_MARKER) {
         let standard = ExportLookup {
             names,
             exports: &context.standard,

@@ -18,7 +18,7 @@ use std::alloc::{AllocError, Global};
 use wc_maps::Map;
 use wc_names::{Import, InterfaceNames, NameMangling, PayloadLookupContext};
 use wc_resolve::{InterfaceId, Resolve, WorldItem, WorldKey};
-use wc_texts::after;
+use wc_texts::strip_prefix;
 
 /// What an interface is looked up among: what a world imports, or what it exports, with an index of the interfaces, if
 /// there is one.
@@ -193,10 +193,10 @@ pub(crate) fn interface_import<N: NameMangling>(
     ensures { IsDecidedAmong (N.scheme scheme.now)
         (lookup_name_scope lookup.entry) other_kinds function.entry result }
 {
-    let Some(text) = after(function.module_name, scheme.import_non_root_prefix()) else {
+    let Some(text) = strip_prefix(function.module_name, scheme.import_non_root_prefix()) else {
         return Err(NameFault::BadSyntax);
     };
-    match after(text, scheme.import_exported_intrinsic_prefix()) {
+    match strip_prefix(text, scheme.import_exported_intrinsic_prefix()) {
         Some(export) => exported_interface(scheme, alloc, lookup, export, function),
         None => imported_interface(scheme, alloc, lookup, text, function),
     }

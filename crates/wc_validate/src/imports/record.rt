@@ -9,7 +9,7 @@ ghost use Rattle.wc_validate.specs.Private.Externs.{extern_view};
 ghost use Rattle.wc_validate.specs.Imports.Record.{extern_type, original_name};
 ghost use Rattle.wc_validate.specs.NameScope.{AreInterfacesOf, HasItsWorld, name_scope_of};
 
-use crate::ValidateFault;
+use crate::explain::imports::name_refusal;
 use crate::externs::Extern;
 use crate::imports::arguments::{Arguments, PassedArgument};
 use crate::imports::classify::classify;
@@ -18,7 +18,7 @@ use crate::imports::recorder::Recorder;
 use crate::name_fault::NameFault;
 use crate::name_scope::Interfaces;
 use crate::names::Names;
-use crate::refused::Refused;
+use crate::refused::{ImportFault, RefusedImport};
 use std::alloc::Global;
 use wc_dedupe::ModuleImportMap;
 use wc_names::Import;
@@ -60,7 +60,7 @@ fn original_name<'a>(renames: Option<&'a ModuleImportMap>, import: &wc_read::Imp
 }
 
 /// The meaning of an import, by its original name.
-pub(crate) fn classify_import(
+fn classify_import(
     alloc: Global,
     context: &ImportContext<'_>,
     import: &wc_read::Import<'_>,
@@ -87,7 +87,7 @@ pub(crate) fn record_one(
     alloc: Global,
     context: &ImportContext<'_>,
     import: &wc_read::Import<'_>,
-) -> Result<(), ValidateFault>
+) -> Result<(), ImportFault>
     requires world { HasItsWorld (name_scope_of context.now.names) }
     requires interfaces { AreInterfacesOf (name_scope_of context.now.names)
         context.now.interfaces.now }
@@ -104,10 +104,10 @@ pub(crate) fn record_one(
             let own = Import::Item(item.clone(alloc)?);
             recorder.record_single(alloc, import.module, import.name, own)
         }
-        None => {
-            let own = classify_import(alloc, context, import)?;
-            recorder.record_single(alloc, import.module, import.name, own)
-        }
+        None => match classify_import(alloc, context, import) {
+            Ok(own) => recorder.record_single(alloc, import.module, import.name, own),
+            Err(cause) => Err(name_refusal(alloc, context, import, cause)?),
+        },
     }
 }
 
@@ -116,7 +116,7 @@ pub(crate) fn record_imports(
     alloc: Global,
     context: &ImportContext<'_>,
     imports: &[wc_read::Import<'_>],
-) -> Result<Recorder, Refused>
+) -> Result<Recorder, RefusedImport>
     requires world { HasItsWorld (name_scope_of context.now.names) }
     requires interfaces { AreInterfacesOf (name_scope_of context.now.names)
         context.now.interfaces.now }
@@ -127,8 +127,8 @@ pub(crate) fn record_imports(
 {
     let mut recorder = Recorder::new(alloc, *context.names.adapters.hasher());
     for (index, import) in imports.iter().enumerate() {
-        if let Err(fault) = record_one(&mut recorder, alloc, context, import) {
-            return Err(Refused { index, fault });
+        if let Err(cause) = record_one(&mut recorder, alloc, context, import) {
+            return Err(RefusedImport { index, cause });
         }
     }
     Ok(recorder)

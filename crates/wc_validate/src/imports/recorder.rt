@@ -1,19 +1,19 @@
 //! The imports of a core module, recorded one after another.
 
-ghost use Rattle.std.specs.Prelude.{◌≡◌, ◌↔◌, [], IfErr, IfOk, IsTrue, OnOk, false, map, option_copied, string_bytes};
-ghost use Rattle.std.specs.Option.{option_map};
-ghost use Rattle.wc_read.specs.Types.{func_type_value};
+ghost use Rattle.std.specs.Prelude.{◌≡◌, [], IfErr, IfOk, IsTrue, OnOk, false, map};
 ghost use Rattle.wc_adapters.specs.Adapters.{which_view};
 ghost use Rattle.wc_names.specs.declared.imports.Import.{Import as named_import};
 ghost use Rattle.wc_names.specs.Views.{import_view};
 ghost use Rattle.wc_validate.specs.Imports.AdapterTypes.{IsNotedAfter, first_some, noted_type, type_entry};
 ghost use Rattle.wc_validate.specs.Imports.Entries.{adapter_type_in, memory_type_of, single, whole};
 ghost use Rattle.wc_validate.specs.Imports.Instances.{IsFree, IsPutFault, IsRecordedAs, instance_entry};
-ghost use Rattle.wc_validate.specs.Private.Imports.Recorder.{AgreesIn, IsNoteFault, IsOneMemory, IsRecorderOf, IsSecondMemory, types_in, AreTypesNoted, IsEntryRecorded, IsEntryRefused};
+ghost use Rattle.wc_validate.specs.Private.Imports.Recorder.{IsDifferenceIn, IsNoteFault, IsOneMemory, IsRecorderOf, IsSecondMemory, types_in, AreTypesNoted, IsEntryRecorded, IsEntryRefused};
 
 use crate::ValidateFault;
 use crate::imports::adapter_types::note_type;
 use crate::imports::instances::{ImportInstance, put_whole, record_import};
+use crate::place::TypeDifference;
+use crate::refused::ImportFault;
 use std::alloc::{AllocError, Global};
 use wc_encoder::MainOrAdapter;
 use wc_maps::{Map, Seed};
@@ -56,22 +56,22 @@ fn note_memory(memory: &mut Option<MemoryType>, import: &Import) -> bool
     true
 }
 
-/// Whether an import that is a function of an adapter has the type with which that was imported first; the first type
-/// is noted.
+/// The types that differ of an import that is a function of an adapter, if its type is not the one with which that was
+/// imported first; the first type is noted.
 fn note_adapter_type(
     alloc: Global,
     types: &mut Map<(String, String), FuncType>,
     import: &Import,
-) -> Result<bool, AllocError>
-    ensures agrees { IfOk result (λ b. IsTrue b
-        ↔ AgreesIn (noted_type (map type_entry types.old.entries)) (import_view import.now)) }
+) -> Result<Option<TypeDifference>, AllocError>
+    ensures differs { IfOk result (IsDifferenceIn (noted_type (map type_entry types.old.entries))
+        (import_view import.now)) }
     ensures noted { OnOk result (IsNotedAfter types.old.entries
         (λ adapter function. adapter_type_in adapter function (import_view import.now))
         types.new.entries) }
 {
     match import {
         Import::AdapterExport { adapter, func, ty } => note_type(alloc, types, adapter, func, ty),
-        _ => Ok(true),
+        _ => Ok(None),
     }
 }
 
@@ -80,16 +80,20 @@ pub(crate) trait SingleImport: Drop {
     // The import.
     ghost import: { Self → named_import };
 
-    /// Whether it has the type with which that function of an adapter was imported first, if it is one. The type and
-    /// the memory are noted.
-    fn note_in(&self, alloc: Global, recorder: &mut Recorder) -> Result<bool, ValidateFault>
+    /// The types that differ, if it is a function of an adapter, and not of the type with which that was imported
+    /// first. The type and the memory are noted.
+    fn note_in(
+        &self,
+        alloc: Global,
+        recorder: &mut Recorder,
+    ) -> Result<Option<TypeDifference>, ValidateFault>
         ensures instances { recorder.new.instances ≡ recorder.old.instances }
         ensures memory { OnOk result (recorder.new.memory ≡ first_some recorder.old.memory
             (memory_type_of (import_view (import self.now)))) }
         ensures one { OnOk result (IsOneMemory recorder.old.memory
             (import_view (import self.now))) }
-        ensures agrees { IfOk result (λ b. IsTrue b
-            ↔ AgreesIn (types_in recorder.old) (import_view (import self.now))) }
+        ensures differs { IfOk result (IsDifferenceIn (types_in recorder.old)
+            (import_view (import self.now))) }
         ensures types { OnOk result (AreTypesNoted recorder.old recorder.new
             (import_view (import self.now))) }
         ensures fault { IfErr result (IsNoteFault recorder.old.memory
@@ -114,7 +118,11 @@ pub(crate) trait SingleImport: Drop {
 impl SingleImport for Import {
     ghost import = { λ import. import };
 
-    fn note_in(&self, alloc: Global, recorder: &mut Recorder) -> Result<bool, ValidateFault> {
+    fn note_in(
+        &self,
+        alloc: Global,
+        recorder: &mut Recorder,
+    ) -> Result<Option<TypeDifference>, ValidateFault> {
         recorder.note(alloc, self)
     }
 
@@ -141,31 +149,27 @@ impl Recorder {
         }
     }
 
-    /// The type with which a function of an adapter was imported first, if it was; by the adapter and the function.
-    pub(crate) fn first_type(&self, key: &(String, String)) -> Option<&FuncType>
-        ensures { option_map func_type_value (option_copied result)
-            ≡ types_in self.now (string_bytes key.now.0) (string_bytes key.now.1) }
-    {
-        self.adapter_types.get(key)
-    }
-
-    /// Whether an import that is a function of an adapter has the type with which that was imported first. The type and
-    /// the memory are noted.
-    fn note(&mut self, alloc: Global, import: &Import) -> Result<bool, ValidateFault>
+    /// The types that differ of an import that is a function of an adapter, if its type is not the one with which that
+    /// was imported first. The type and the memory are noted.
+    fn note(
+        &mut self,
+        alloc: Global,
+        import: &Import,
+    ) -> Result<Option<TypeDifference>, ValidateFault>
         ensures instances { self.new.instances ≡ self.old.instances }
         ensures memory { OnOk result (self.new.memory
             ≡ first_some self.old.memory (memory_type_of (import_view import.now))) }
         ensures one { OnOk result (IsOneMemory self.old.memory (import_view import.now)) }
-        ensures agrees { IfOk result (λ b. IsTrue b
-            ↔ AgreesIn (types_in self.old) (import_view import.now)) }
+        ensures differs { IfOk result (IsDifferenceIn (types_in self.old)
+            (import_view import.now)) }
         ensures types { OnOk result (AreTypesNoted self.old self.new (import_view import.now)) }
         ensures fault { IfErr result (IsNoteFault self.old.memory (import_view import.now)) }
     {
         if !note_memory(&mut self.memory, import) {
             return Err(ValidateFault::SeveralMemoryImports);
         }
-        let agrees = note_adapter_type(alloc, &mut self.adapter_types, import)?;
-        Ok(agrees)
+        let difference = note_adapter_type(alloc, &mut self.adapter_types, import)?;
+        Ok(difference)
     }
 
     /// Records an import of a module under a name.
@@ -175,7 +179,8 @@ impl Recorder {
     /// - `SeveralMemoryImports`: it is a second memory of the main module.
     /// - `Mixed`: all of another module is recorded for its module.
     /// - `DuplicateImport`: its name is recorded already.
-    /// - `AdapterTypesDiffer`: it is a function of an adapter that was imported with another type.
+    /// - `AdapterTypesDiffer`: it is a function of an adapter that was imported with another type. It has both types,
+    ///   and the others have none.
     /// - `Memory`: an allocation failed.
     pub(crate) fn record_single<I: SingleImport>(
         &mut self,
@@ -183,18 +188,20 @@ impl Recorder {
         module_name: &str,
         name: &str,
         import: I,
-    ) -> Result<(), ValidateFault>
+    ) -> Result<(), ImportFault>
         ensures recorded { IsEntryRecorded self.old self.new
             (single module_name.now name.now (import_view (I.import import))) result }
         ensures fault { IsEntryRefused self.old (single module_name.now name.now
             (import_view (I.import import))) result }
     {
-        let agrees = import.note_in(alloc, self)?;
+        let difference = import.note_in(alloc, self)?;
         import.put_in(alloc, &mut self.instances, module_name, name)?;
-        if agrees {
-            Ok(())
-        } else {
-            Err(ValidateFault::AdapterTypesDiffer)
+        match difference {
+            None => Ok(()),
+            Some(types) => Err(ImportFault {
+                fault: ValidateFault::AdapterTypesDiffer,
+                types: Some(types),
+            }),
         }
     }
 
@@ -210,12 +217,13 @@ impl Recorder {
         alloc: Global,
         module_name: &str,
         which: &MainOrAdapter,
-    ) -> Result<(), ValidateFault>
+    ) -> Result<(), ImportFault>
         ensures recorded { IsEntryRecorded self.old self.new
             (whole module_name.now (which_view which.now)) result }
         ensures fault { IsEntryRefused self.old (whole module_name.now (which_view which.now))
             result }
     {
-        put_whole(alloc, &mut self.instances, module_name, which)
+        put_whole(alloc, &mut self.instances, module_name, which)?;
+        Ok(())
     }
 }

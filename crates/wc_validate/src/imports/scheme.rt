@@ -17,7 +17,7 @@ use crate::names::{ContextInWorld, Names};
 use crate::prefixes::STANDARD_MARKER;
 use std::alloc::Global;
 use wc_names::{Import, Legacy, NameMangling, PayloadLookupContext, Standard};
-use wc_texts::after;
+use wc_texts::strip_prefix;
 
 /// The built-in that a name is of from the root of exports.
 fn export_root<N: NameMangling>(
@@ -30,7 +30,7 @@ fn export_root<N: NameMangling>(
     ensures { IsAmong (N.scheme scheme.now)
         (name_scope_of names.now) export_root_kinds function.entry result }
 {
-    let Some(rest) = after(
+    let Some(rest) = strip_prefix(
         function.module_name,
         scheme.import_exported_intrinsic_prefix(),
     ) else {
@@ -91,7 +91,7 @@ pub(crate) fn scheme_import(
         names,
         interfaces: &interfaces.standard,
     };
-    if let Some(rest) = after(function.module_name, STANDARD_MARKER) {
+    if let Some(rest) = strip_prefix(function.module_name, STANDARD_MARKER) {
         let unmarked = ImportedFunction {
             module_name: rest,
             name: function.name,

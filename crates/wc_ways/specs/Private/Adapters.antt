@@ -1,5 +1,5 @@
 -- An adapter in which ways are looked for, as the code has it, and what is said of it.
-use Rattle.std.specs.Prelude.{◌≡◌, ℕ, List, Some, length, string_bytes}
+use Rattle.std.specs.Prelude.{◌≡◌, ℕ, List, Option, Some, length, string_bytes}
 use Rattle.wc_read.specs.Imports.{ImportValue}
 use Rattle.wc_read.specs.Modules.{module_value}
 use Rattle.wc_read.specs.Names.{name_entries}
@@ -7,7 +7,7 @@ use Rattle.wc_gc.specs.LiveChains.{AreImportChains, AreWhyImports}
 use Rattle.wc_gc.specs.declared.import_chains.Chain.{Chain}
 use Rattle.wc_gc.specs.declared.import_chains.ImportChains.{ImportChains}
 use Rattle.wc_validate.specs.Validate.{module_record}
-use Rattle.wc_world.specs.Views.{ComponentWorldView, NamedWorldAdapter, WorldAdapterView}
+use Rattle.wc_world.specs.Views.{ComponentWorldView, ImportedView, NamedWorldAdapter, WorldAdapterView}
 use Rattle.wc_world.specs.WorldViews.{required_view, world_view}
 use Rattle.wc_plan.specs.Planner.{AreModuleNameable}
 use Rattle.wcwhy_command.specs.Joined.{AreJoined}
@@ -17,13 +17,17 @@ use Rattle.wc_ways.specs.Said.{IsSaidAt, IsSaidIn, IsSaidOf, IsSaidOfTrimmed, Sa
 use Rattle.wc_ways.specs.Ways.{AreOriginalWays, library_ways, main_ways, recorded_ways}
 use Rattle.wc_ways.specs.WaysFaults.{search_input}
 use Rattle.wc_ways.specs.Nodes.{IsOriginalGraph, adapter_id, library_graph, main_graph, module_graph}
-use Rattle.wc_ways.specs.Steps.{adapter_object, import_object, library_objects, main_objects}
+use Rattle.wc_ways.specs.Steps.{adapter_object, import_object, library_objects, main_objects, type_object}
+use Rattle.wc_ways.specs.Types.{type_box, type_line, typed_text, types_text}
 use Rattle.wc_ways.specs.Words.{AdapterWords, adapter_text, adapter_way, import_way}
 use Rattle.wc_ways.specs.declared.asked.Function.{Function}
+use Rattle.wc_ways.specs.Private.Users.{AreUsers}
+use Rattle.wc_ways.specs.Users.{uses}
 use Rattle.wc_ways.specs.declared.originals.Adapter.{Adapter}
 use Rattle.wc_ways.specs.declared.originals.Form.{Form}
 use Rattle.wc_ways.specs.declared.originals.Form.TheVariants.{Lines, Graph, Json}
 use Rattle.wc_ways.specs.declared.originals.Walk.{Walk}
+use Rattle.wc_ways.specs.declared.types.AskedTypes.{AskedTypes}
 
 -- the names of a function that is asked about
 abbrev pub function_value : Function → FunctionName
@@ -105,6 +109,22 @@ IsFormAt form w key index text = IsSaidAt (saying form key index) (library_text 
 
 abbrev pub AreAllSaid : Form → ComponentWorldView → List ℕ → List ℕ → Type 0
 AreAllSaid form w key text = AreJoined (length w.adapters) (IsFormAt form w key) text
+
+-- the first interface that uses types of each is noted
+abbrev pub AreUsersIn : AskedTypes → Type 0
+AreUsersIn g = AreUsers (uses (world_view g.world.now)) g.users.now.entries
+
+-- of the interfaces that are imported for their types alone
+abbrev pub types_words : Form → List ℕ → Option (List ℕ) → List ℕ
+types_words Lines = type_line
+types_words Graph = type_box
+types_words Json = type_object
+
+abbrev pub typed_said : Form → ComponentWorldView → List ℕ → Option (List ℕ) × ImportedView → List ℕ
+typed_said form w key x = typed_text (types_words form) w key x
+
+abbrev pub types_said : Form → ComponentWorldView → List ℕ → List ℕ
+types_said form w key = types_text (types_words form) w key
 
 -- of the main module
 abbrev pub main_said : Form → ComponentWorldView → List ℕ → List ℕ

@@ -1,24 +1,21 @@
 -- Refusals of the main module and of adapters, as the code makes them.
-use Rattle.std.specs.Prelude.{◌≡◌, ◌⊎◌, ℕ, IfOk, List, MatchOption, Option, Result, true}
-use Rattle.std.specs.declared.alloc.AllocError.{AllocError}
+use Rattle.std.specs.Prelude.{◌≡◌, ◌⊎◌, ℕ, List, MatchOption, Option, true}
 use Rattle.wc_encoder.specs.EncoderParts.{EncoderView}
 use Rattle.wc_validate.specs.Explain.{IsPlace}
-use Rattle.wc_validate.specs.Refused.{HasNoPlace as HasNoPlaceInModule, IsRefusedAt as IsModuleRefusedAt}
+use Rattle.wc_validate.specs.Refused.{HasNoPlace as HasNoPlaceInModule, IsRefusedAt as IsModuleRefusedAt, RefusedModule}
 use Rattle.wc_validate.specs.Validate.{IsValidateCause, ModuleRecord, ValidationInput}
-use Rattle.wc_validate.specs.declared.refused.RefusedModule.{RefusedModule}
 use Rattle.wc_world.specs.Causes.{IsFirst, IsStopOf}
 use Rattle.wc_world.specs.Places.{IsInAdapter, IsMinimizedPlace, IsNeededUnder, IsOriginalPlace, IsTrimPlace, IsTrimUnplaced}
 use Rattle.wc_world.specs.Private.Adapters.{main_of, named_adapter}
-use Rattle.wc_world.specs.Refused.{IsMemoryRefusal}
+use Rattle.wc_world.specs.Refused.{IsMemoryRefusal, RefusedWorld}
 pub use Rattle.wc_world.specs.Refused.{IsMainRefusal, IsNamedRefusal}
 use Rattle.wc_world.specs.Trimming.{NamedAdapter, is_adapter_needed, needed_adapters}
 use Rattle.wc_world.specs.declared.adapters.AdapterInput.{AdapterInput}
 use Rattle.wc_world.specs.declared.fault.WorldFault.{WorldFault}
-use Rattle.wc_world.specs.declared.fault.WorldFault.TheVariants.{Adapter, Trim, Minimized}
+use Rattle.wc_world.specs.declared.fault.WorldFault.TheVariants.{Adapter, Trim, Minimized, PageSize}
 use Rattle.wc_world.specs.declared.places.ModulePlace.{ModulePlace}
 use Rattle.wc_world.specs.declared.places.ModulePlace.TheVariants as place
 use Rattle.wc_world.specs.declared.places.WorldPlace.{WorldPlace}
-use Rattle.wc_world.specs.declared.refused.RefusedWorld.{RefusedWorld}
 
 -- why bytes are refused, with the place
 abbrev pub IsModuleRefusal : ValidationInput → List ℕ → RefusedModule → Type 0
@@ -29,18 +26,19 @@ abbrev pub IsPlaceOf : EncoderView → ModuleRecord → NamedAdapter → WorldFa
 IsPlaceOf e main x (Adapter name f) p = IsOriginalPlace e f p main x
 IsPlaceOf e main x (Trim name f) p = IsTrimPlace e f p main x
 IsPlaceOf e main x (Minimized name f) p = IsMinimizedPlace e f p main x
+IsPlaceOf e main x (PageSize name own mains) p = p ≡ place.PageSizes own mains
 IsPlaceOf e main x f p = ⊥
 
 abbrev pub IsOfNoPlace : EncoderView → ModuleRecord → NamedAdapter → WorldFault → Type 0
 IsOfNoPlace e main x (Adapter name f) = HasNoPlaceInModule f
 IsOfNoPlace e main x (Trim name f) = IsTrimUnplaced e f main x
 IsOfNoPlace e main x (Minimized name f) = HasNoPlaceInModule f
-IsOfNoPlace e main x f = Unit {0}
+IsOfNoPlace e main x f = ⊥
 
 -- what is answered of a fault of an adapter is its place, under the adapter's name; nothing only where it has none
-abbrev pub IsPlacedBy : EncoderView → ModuleRecord → NamedAdapter → WorldFault → Result (Option WorldPlace) AllocError → Type 0
+abbrev pub IsPlacedBy : EncoderView → ModuleRecord → NamedAdapter → WorldFault → Option WorldPlace → Type 0
 IsPlacedBy e main x f answer =
-    IfOk answer (λ o. MatchOption o (IsOfNoPlace e main x f) (λ (p : WorldPlace). IsInAdapter x.0 p × IsPlaceOf e main x f p.place))
+    MatchOption answer (IsOfNoPlace e main x f) (λ (p : WorldPlace). IsInAdapter x.0 p × IsPlaceOf e main x f p.place)
 
 -- an adapter is refused with this fault, of this place
 abbrev pub IsStopAt : EncoderView → ModuleRecord → NamedAdapter → RefusedWorld → Type 0

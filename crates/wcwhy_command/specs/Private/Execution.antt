@@ -1,11 +1,15 @@
 -- What parts of a run of a command do.
-use Rattle.std.specs.Prelude.{◌≡◌, ◌⊎◌, ⊤, ℕ, List, Some, None}
+use Rattle.std.specs.Prelude.{◌≡◌, ◌⊎◌, ⊤, ℕ, List, None, string_bytes}
+use Rattle.std.specs.Option.{option_map}
+use Rattle.wc_read.specs.Imports.{ImportValue}
 use Rattle.wc_read.specs.Modules.{ModuleValue}
 use Rattle.wc_read.specs.Names.{GlobalNameValue}
 use Rattle.wc_program.specs.Screen.{Printing, nothing, printed, failed}
 use Rattle.wcwhy_command.specs.Arguments.{CommandView, pattern_view, help, version, wrong, wrong_view}
 use Rattle.wcwhy_command.specs.Patterns.{first_unknown}
-use Rattle.wcwhy_command.specs.Program.{EndsWithoutMemory, IsTextFor, StopEnds}
+use Rattle.wcwhy_command.specs.Fault.{near_text}
+use Rattle.wcwhy_command.specs.Program.{EndsWithoutMemory, IsNoImport, IsTextFor, StopEnds}
+use Rattle.wcwhy_command.specs.declared.arguments.ImportPattern.{ImportPattern}
 use Rattle.wcwhy_command.specs.declared.arguments.NoCommand.{NoCommand}
 use Rattle.wcwhy_command.specs.declared.arguments.NoCommand.TheVariants.{Memory, Help, Version, Wrong}
 use Rattle.wcwhy_command.specs.declared.fault.WhyFault.{WhyFault}
@@ -26,8 +30,14 @@ ArePrinted c m names out = (text : List ℕ) × (first_unknown m.imports c.impor
 abbrev pub IsReasonsCause : CommandView → ModuleValue → (Printing → Type 0) → WhyFault → Type 0
 IsReasonsCause c m out why_memory = ⊤
 IsReasonsCause c m out Output = out failed
-IsReasonsCause c m out (NoImport p) = (first_unknown m.imports c.imports ≡ Some (pattern_view p)) × out nothing
+IsReasonsCause c m out (NoImport p near) = IsNoImport m.imports c.imports p near × out nothing
 IsReasonsCause c m out f = ⊥
+
+-- the fault for what an option asks for, of which none of these imports is
+abbrev pub IsNoImportFault : List ImportValue → ImportPattern → WhyFault → Type 0
+IsNoImportFault imports p why_memory = ⊤
+IsNoImportFault imports p (NoImport q near) = (q ≡ p) × (option_map string_bytes near ≡ near_text imports (pattern_view p))
+IsNoImportFault imports p f = ⊥
 
 -- a text that is as `Is` says is printed
 abbrev pub PrintsSome : (List ℕ → Type 0) → (Printing → Type 0) → Type 0

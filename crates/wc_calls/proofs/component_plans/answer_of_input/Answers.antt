@@ -2,8 +2,11 @@ use Rattle.wc_world.specs.WorldViews.{world_view}
 use Rattle.wc_calls.specs.Private.EncoderAnswers.{IsPlanFaultFor}
 use Rattle.wc_calls.specs.Private.OptionTables.{table_options}
 use Rattle.wc_calls.proofs.ComponentPlanLemmas.{plan_for_world}
-use Rattle.wc_calls.proofs.PlannedWorldLemmas.{faults_of_plan, no_world_for, places_of_plan}
-use Rattle.wc_calls.proofs.RefusedComponentLemmas.{refused_fault, refused_placed}
+use Rattle.wc_calls.proofs.PlannedWorldLemmas.{faults_of_plan, no_world_for, no_world_placed, places_of_plan}
+use Rattle.wc_calls.proofs.RefusalLemmas.{refusal_as, refusal_fault}
+use Rattle.wc_calls.specs.MessageFault.{of_world}
+use Rattle.wc_calls.specs.Private.Refusals.{IsPlanPlacedFor}
+use Rattle.wc_calls.specs.declared.refusals.MessagePlace.TheVariants as place
 use Rattle.wc_calls.proofs.component_plans.answer_of_input.Goals as goal
 
 pub answer_of_world-requires : goal.answer_of_world-requires
@@ -20,19 +23,24 @@ pub returns-in-Ok-clause-fault : goal.returns-in-Ok-clause-fault
 returns-in-Ok-clause-fault c =
     let input = c.args.input.now in
     faults_of_plan (table_options input.options) input.encoder (world_view c.in-Ok.world) c.answer_of_world.result c.in-Ok.ensures.world
-    c.answer_of_world.ensures.fault
+    c.answer_of_world.ensures.refusal
 
 pub returns-in-Ok-clause-place : goal.returns-in-Ok-clause-place
 returns-in-Ok-clause-place c =
-    places_of_plan c.args.input.now.encoder (world_view c.in-Ok.world) c.answer_of_world.result c.answer_of_world.ensures.fault
+    let input = c.args.input.now in
+    places_of_plan (table_options input.options) input.encoder (world_view c.in-Ok.world) c.answer_of_world.result c.in-Ok.ensures.world
+    c.answer_of_world.ensures.refusal
 
 pub returns-in-Err-clause-fault : goal.returns-in-Err-clause-fault
 returns-in-Err-clause-fault c =
     let options = table_options c.args.input.now.options in
     let e = c.args.input.now.encoder in
-    refused_fault (IsPlanFaultFor options e) c.in-Err.refused.fault c.in-Err.refused.place c.from.result tt
-    (no_world_for options e c.in-Err.refused.fault c.in-Err.ensures.fault) c.from.ensures
+    refusal_fault (IsPlanFaultFor options e) of_world place.World c.in-Err.refused c.world_refusal.result c.world_refusal.ensures
+    (no_world_for options e c.in-Err.refused.fault c.in-Err.ensures.fault)
 
 pub returns-in-Err-clause-place : goal.returns-in-Err-clause-place
 returns-in-Err-clause-place c =
-    refused_placed c.args.input.now.encoder c.in-Err.refused.fault c.in-Err.refused.place c.from.result c.in-Err.ensures.place c.from.ensures
+    let options = table_options c.args.input.now.options in
+    let e = c.args.input.now.encoder in
+    refusal_as (IsPlanPlacedFor options e) of_world place.World c.in-Err.refused c.world_refusal.result c.world_refusal.ensures
+    (no_world_placed options e c.in-Err.refused.fault c.in-Err.refused.place c.in-Err.ensures.place)

@@ -1,7 +1,7 @@
 use Rattle.wc_calls.specs.Private.EncoderAnswers.{IsAnswerFor, IsFaultFor}
 use Rattle.wc_calls.specs.Private.OptionTables.{table_options}
 use Rattle.wc_calls.proofs.ComponentWorldLemmas.{too_long, written}
-use Rattle.wc_calls.proofs.RefusedComponentLemmas.{refusal_answered}
+use Rattle.wc_calls.proofs.RefusalLemmas.{refusal_answered}
 use Rattle.wc_calls.proofs.component_worlds.world_for.Goals as goal
 
 pub returns-in-Ok-clause-done : goal.returns-in-Ok-clause-done
@@ -21,5 +21,5 @@ returns-in-Ok-clause-too_small c = λ is.
 pub returns-in-Err-clause-fault : goal.returns-in-Err-clause-fault
 returns-in-Err-clause-fault c = λ is.
     let e = c.args.input.now.encoder in
-    refusal_answered e (IsFaultFor e) c.in-Err.refused c.answer_no_world.result c.args.out.now c.answer_no_world.new.out c.in-Err.ensures.fault
-    c.in-Err.ensures.place (c.answer_no_world.ensures.fault is)
+    refusal_answered e (IsFaultFor e) c.in-Err.refused c.answer_refused.result c.args.out.now c.answer_refused.new.out c.in-Err.ensures.fault
+    c.in-Err.ensures.place (c.answer_refused.ensures.fault is)

@@ -8,12 +8,12 @@ use Rattle.wc_calls.proofs.encoders.encoder_with.Goals as goal
 pub returns-in_err-world-clause-fault : goal.returns-in_err-world-clause-fault
 returns-in_err-world-clause-fault c =
     let p = err_from_is_err_and c.from_residual.result c.from_residual.ensures.1 in
-    rw p.1 (world_refused (message_view c.args.message) c.args.modules.now c.in_err-world.field-0.0 p.0 c.in_err-world.ensures.fault p.2)
+    rw (p.1, p.2) (world_refused (message_view c.args.message) c.args.modules.now c.in_err-world.field-0.0 c.in_err-world.ensures.fault)
 
 pub returns-in_default-clause-fault : goal.returns-in_default-clause-fault
 returns-in_default-clause-fault c =
-    lengths_refused (message_view c.args.message) c.args.modules.now c.in_ok-world.world.0 c.from.result c.in_ok-world.ensures.named
-    (subst (λ o. IfNone o (length c.args.modules.now < c.args.message.length)) c.in_default.is c.split.ensures.fewer) c.from.ensures
+    lengths_refused (message_view c.args.message) c.args.modules.now c.in_ok-world.world.0 c.without_place.result c.in_ok-world.ensures.named
+    (subst (λ o. IfNone o (length c.args.modules.now < c.args.message.length)) c.in_default.is c.split.ensures.fewer) (c.without_place.ensures.fault, c.without_place.ensures.place)
 
 pub returns-clause-parts : goal.returns-clause-parts
 returns-clause-parts c =

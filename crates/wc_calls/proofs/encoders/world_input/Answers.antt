@@ -1,20 +1,21 @@
 use Rattle.std.proofs.Common.{rules, subst}
-use Rattle.json.specs.Json.{document}
 use Rattle.std.proofs.lemmas.Result.{err_from_is_err_and}
-use Rattle.wc_json.specs.Messages.{message, message_view}
-use Rattle.wc_json.specs.FromJson.{IsCauseOf}
+use Rattle.wc_json.specs.Messages.{message_view}
 use Rattle.wc_calls.specs.Encoders.{IsMessage}
+use Rattle.wc_calls.specs.Private.Refusals.{IsTextRefused}
 use Rattle.wc_calls.proofs.CauseLemmas.{json_refused, message_refused, no_memory, not_text}
 use Rattle.wc_calls.proofs.encoders.world_input.Goals as goal
 
 pub returns-in_default-clause-fault : goal.returns-in_default-clause-fault
-returns-in_default-clause-fault c = not_text c.args.message.now c.args.modules.now c.from.result (search rules) c.from.ensures
+returns-in_default-clause-fault c =
+    not_text c.args.message.now c.args.modules.now c.without_place.result (search rules)
+    (c.without_place.ensures.fault, c.without_place.ensures.place)
 
 pub returns-in_err-message-clause-fault : goal.returns-in_err-message-clause-fault
 returns-in_err-message-clause-fault c =
     let p = err_from_is_err_and c.from_residual.result c.from_residual.ensures.1 in
-    let cause = subst (λ t. IsCauseOf message (document t) c.in_err-message.field-0.0) c.in-Ok.ensures.cases.0 c.in_err-message.ensures.fault in
-    rw p.1 (json_refused c.args.message.now c.args.modules.now c.in_err-message.field-0.0 p.0 cause p.2)
+    let refused = subst (λ t. IsTextRefused t c.in_err-message.field-0.0) c.in-Ok.ensures.cases.0 c.in_err-message.ensures.fault in
+    rw (p.1, p.2) (json_refused c.args.message.now c.args.modules.now c.in_err-message.field-0.0 refused)
 
 pub returns-in_err-options-clause-fault : goal.returns-in_err-options-clause-fault
 returns-in_err-options-clause-fault c =

@@ -29,7 +29,7 @@ returns-clause-fault c =
     let wasm = c.args.wasm.now in
     let names = texts c.args.required.now in
     fault_of IsFault wasm (names_of c.in-Ok.names.keys) names c.why_text-text.result p.result c.args.out.now p.new.out (live_position wasm names)
-    c.in-Ok.ensures c.why_text-text.ensures.fault p.ensures.ok p.ensures.memory p.ensures.fault
+    c.in-Ok.ensures c.why_text-text.ensures.fault c.why_text-text.ensures.place p.ensures.ok p.ensures.memory p.ensures.fault
 
 pub returns-clause-statuses : goal.returns-clause-statuses
 returns-clause-statuses c = statuses_of c.why_text-text.result c.put_why.result.status c.put_why.ensures.ok c.put_why.ensures.fault_or_memory

@@ -19,4 +19,4 @@ returns-in-Err-clause-fault c =
     let g = c.args.input in
     input_refused g (option_map (λ (l : Bor LibraryInfo). library_view l.now) c.as_ref.result)
     (seen_library c.as_ref.result g.adapter.now.library_info c.as_ref.ensures.value) c.deref.result.now c.in-Err.refused c.adapter_refusal.result
-    c.from.result c.deref.ensures.value c.in-Err.ensures.fault c.in-Err.ensures.place c.adapter_refusal.ensures c.from.ensures
+    c.world_refusal.result c.deref.ensures.value c.in-Err.ensures.fault c.in-Err.ensures.place c.adapter_refusal.ensures c.world_refusal.ensures

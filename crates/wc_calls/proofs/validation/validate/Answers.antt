@@ -1,4 +1,5 @@
 use Rattle.std.specs.Option.{option_map}
+use Rattle.wc_calls.proofs.FaultAnswerLemmas.{fault_others}
 use Rattle.wc_calls.proofs.ModuleLemmas.{no_encoder_refused, validation_refused}
 use Rattle.wc_calls.proofs.validation.validate.Goals as goal
 
@@ -11,3 +12,6 @@ pub returns-in-Err-clause-fault : goal.returns-in-Err-clause-fault
 returns-in-Err-clause-fault c = λ is.
     no_encoder_refused c.args.message.now c.args.modules.now (option_map (λ n. n.now) c.args.adapter) c.in-Err.refused c.answer_refused.result
     c.args.out.now c.answer_refused.new.out c.in-Err.ensures.fault (c.answer_refused.ensures.fault is)
+
+pub returns-in-Err-clause-others : goal.returns-in-Err-clause-others
+returns-in-Err-clause-others c = fault_others c.answer_refused.result c.answer_refused.ensures.statuses c.answer_refused.ensures.others

@@ -1,7 +1,7 @@
 use Rattle.std.proofs.Common.{None, Some, ap, inr, sym, ◌∙◌}
 use Rattle.std.specs.Option.{option_copied}
 use Rattle.wc_validate.specs.Validate.{module_record}
-use Rattle.wc_world.proofs.PlaceLemmas.{adapter_found}
+use Rattle.wc_world.proofs.AdapterLemmas.{adapter_found}
 use Rattle.wc_calls.proofs.validation.validate_under.Goals as goal
 
 pub validate_adapter-requires-clause-there : goal.validate_adapter-requires-clause-there

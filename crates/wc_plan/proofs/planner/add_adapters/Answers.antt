@@ -4,7 +4,8 @@ use Rattle.std.proofs.lemmas.List.Elements.{All-head, All-rest}
 use Rattle.wc_world.specs.Views.{NamedWorldAdapter}
 use Rattle.wc_world.specs.WorldViews.{adapter_entry}
 use Rattle.wc_plan.specs.Calls.{Wanted, wanted_by}
-use Rattle.wc_plan.specs.Planner.{AreModuleNameable, IsPlanFault, IsPlanned, world_in}
+use Rattle.wc_plan.specs.Fault.{IsPlanRefusal}
+use Rattle.wc_plan.specs.Planner.{AreModuleNameable, IsPlanned, world_in}
 use Rattle.wc_uses.specs.Views.{adapter_owner}
 use Rattle.wc_plan.proofs.ProgressLemmas.{flat_here}
 use Rattle.wc_world.proofs.FaultLemmas.{passed_on}
@@ -28,7 +29,7 @@ loop-name-preserved c = record {
 
 pub returns-in_err-add_module-clause-fault : goal.returns-in_err-add_module-clause-fault
 returns-in_err-add_module-clause-fault c = λ rest p.
-    passed_on (IsPlanFault (world_in c.args.context)) c.from_residual.result _ c.from_residual.ensures.1
+    passed_on (IsPlanRefusal (world_in c.args.context)) c.from_residual.result _ c.from_residual.ensures.1
     (c.in_err-add_module.ensures.fault (flat_map (λ (a : NamedWorldAdapter). wanted_by (world_in c.args.context).encoder.resolve
     (adapter_owner a.0) a.1.info) (map adapter_entry c.next.new.self) ++ rest)
     (flat_here (world_in c.args.context).adapters (λ (xs : List Wanted). IsPlanned (world_in c.args.context) xs c.args.planner.now)

@@ -1,5 +1,6 @@
 use Rattle.std.proofs.Common.{◌∙◌}
-use Rattle.wc_plan.specs.Planner.{IsPlanFault, owner_in, wanted_call, world_in}
+use Rattle.wc_plan.specs.Fault.{IsPlanRefusal}
+use Rattle.wc_plan.specs.Planner.{owner_in, wanted_call, world_in}
 use Rattle.wc_plan.proofs.ProgressLemmas.{planned_fault, planned_new, planned_seen}
 use Rattle.wc_world.proofs.FaultLemmas.{passed_on}
 use Rattle.wc_plan.proofs.planner.add_call.Goals as goal
@@ -12,7 +13,7 @@ returns-then-not-is_new-clause-made c = λ rest p.
 
 pub returns-in_err-one-clause-fault : goal.returns-in_err-one-clause-fault
 returns-in_err-one-clause-fault c = λ rest p.
-    passed_on (IsPlanFault (world_in c.args.context)) c.from_residual-in_err-one.result _ c.from_residual-in_err-one.ensures.1
+    passed_on (IsPlanRefusal (world_in c.args.context)) c.from_residual-in_err-one.result _ c.from_residual-in_err-one.ensures.1
     (planned_fault (world_in c.args.context) (wanted_call c.args.importer c.args.call) rest c.args.planner.now.seen.keys c.insert.new.self.keys
     (c.args.importer.owner, c.in_ok-copy.copy) c.args.planner.now.uses.items c.args.planner.now.slots c.in_ok-is_new.is_new
     (c.in_ok-copy.ensures (owner_in c.args.importer.owner)) c.in_ok-is_new.ensures.added c.in_ok-is_new.ensures.keys p _ c.if-not-is_new.false

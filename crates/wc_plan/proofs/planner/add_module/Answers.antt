@@ -6,7 +6,8 @@ use Rattle.wc_validate.specs.Imports.Map.{imports_in}
 use Rattle.wc_validate.specs.Imports.Iter.{imports_left}
 use Rattle.wc_world.specs.Slots.{imports_of}
 use Rattle.wc_plan.specs.Calls.{IsNameable, Wanted}
-use Rattle.wc_plan.specs.Planner.{IsPlanFault, IsPlanned, world_in}
+use Rattle.wc_plan.specs.Fault.{IsPlanRefusal}
+use Rattle.wc_plan.specs.Planner.{IsPlanned, world_in}
 use Rattle.wc_plan.proofs.ProgressLemmas.{walk_here, wanted_of}
 use Rattle.wc_world.proofs.FaultLemmas.{passed_on}
 use Rattle.wc_plan.proofs.planner.add_module.Goals as goal
@@ -29,7 +30,7 @@ loop-module-preserved c = record {
 
 pub returns-in_err-add_import-clause-fault : goal.returns-in_err-add_import-clause-fault
 returns-in_err-add_import-clause-fault c = λ rest p.
-    passed_on (IsPlanFault (world_in c.args.context)) c.from_residual.result _ c.from_residual.ensures.1
+    passed_on (IsPlanRefusal (world_in c.args.context)) c.from_residual.result _ c.from_residual.ensures.1
     (c.in_err-add_import.ensures.fault (filter_map
     (λ (x : List ℕ × (List ℕ × ImportView)). wanted_of (world_in c.args.context).encoder.resolve c.args.owner c.args.info.now.exports x.1.1)
     (imports_left c.next.new.self) ++ rest)

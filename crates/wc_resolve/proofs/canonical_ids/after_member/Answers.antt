@@ -10,7 +10,7 @@ returns-in-Some-after_both c =
     let first : c.args.text.now ≡ namespace ++ (colon ∷ c.in-Some.member.now) = c.in-Some.ensures ∙ ap (λ z. z ++ (colon ∷ c.in-Some.member.now)) c.as_str.ensures.value in
     let second : c.in-Some.member.now ≡ member ++ (slash ∷ c.in-Some-after_both.rest.now) = c.in-Some-after_both.ensures ∙ ap (λ z. z ++ (slash ∷ c.in-Some-after_both.rest.now)) c.as_str-in-Some.ensures.value in
     after_front (λ z. namespace ++ (colon ∷ (member ++ (slash ∷ z)))) (two_separators_front namespace member colon slash) c.args.text.now c.in-Some-after_both.rest.now (first ∙ ap (λ z. namespace ++ (colon ∷ z)) second) (λ z. c.args.name.now ++ z)
-    c.after.result c.after.ensures
+    c.strip_prefix.result c.strip_prefix.ensures.found
 
 pub returns-in-None-after_both : goal.returns-in-None-after_both
 returns-in-None-after_both c = λ rest e.

@@ -1,10 +1,9 @@
 use Rattle.std.proofs.Common.{[], ◌∷◌, ◌++◌, map}
-use Rattle.wc_validate.specs.declared.refused.RefusedModule.{RefusedModule}
 use Rattle.wc_validate.specs.Exports.Map.{export_entry}
 use Rattle.wc_validate.specs.Exports.Record.{exports_in}
 use Rattle.wc_validate.specs.Private.Explain.{IsMissingIn}
 use Rattle.wc_validate.specs.Private.Requirements.{IsUnmetBy, requirements_of_functions, requirements_of_keys}
-use Rattle.wc_validate.specs.Refused.{IsMemoryRefusal, IsRefusedAt}
+use Rattle.wc_validate.specs.Refused.{IsMemoryRefusal, IsRefusedAt, RefusedModule}
 use Rattle.wc_validate.specs.Requirements.{callbacks, one_memory}
 use Rattle.wc_validate.proofs.MissingLemmas.{callbacks_place, callbacks_unmet, failed_unmet, functions_place, functions_unmet, keys_place, keys_unmet, memories_place, memories_unmet}
 use Rattle.wc_validate.proofs.RefusedLemmas.{failed_on, memory_at, passed_on, refused_by}

@@ -1,11 +1,10 @@
 use Rattle.std.proofs.Common.{inl, inr, map, refl, subst, sym}
 use Rattle.wc_read.specs.Modules.{module_value}
-use Rattle.wc_validate.specs.declared.refused.RefusedModule.{RefusedModule}
 use Rattle.wc_validate.specs.Exports.Map.{export_entry}
 use Rattle.wc_validate.specs.NameScope.{name_scope_of}
 use Rattle.wc_validate.specs.Private.Explain.{IsPlaceIn}
 use Rattle.wc_validate.specs.Private.ValidationInputs.{HasRefusedExports}
-use Rattle.wc_validate.specs.Refused.{IsMemoryRefusal, IsRefusedAt}
+use Rattle.wc_validate.specs.Refused.{IsMemoryRefusal, IsRefusedAt, RefusedModule}
 use Rattle.wc_validate.proofs.MissingLemmas.{world_keys}
 use Rattle.wc_validate.proofs.RefusedLemmas.{failed_on, memory_at, passed_on, refused_as}
 use Rattle.wc_validate.proofs.ValidateLemmas.{exports_cause, exports_record, missing_cause, world_items}

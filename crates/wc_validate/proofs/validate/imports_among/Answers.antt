@@ -1,12 +1,11 @@
 use Rattle.std.proofs.Common.{◌∙◌, subst, sym}
 use Rattle.wc_read.specs.Imports.{import_values}
 use Rattle.wc_read.specs.Modules.{module_value}
-use Rattle.wc_validate.specs.declared.refused.RefusedModule.{RefusedModule}
 use Rattle.wc_validate.specs.Explain.{IsPlaceOfImport}
 use Rattle.wc_validate.specs.Private.Explain.{IsStopIn}
-use Rattle.wc_validate.specs.Private.Imports.Contexts.{import_scope}
+use Rattle.wc_validate.specs.Private.Imports.Contexts.{import_scope, types_of}
 use Rattle.wc_validate.specs.Private.ValidationInputs.{validation_input_of}
-use Rattle.wc_validate.specs.Refused.{IsMemoryRefusal, IsRefusedAt}
+use Rattle.wc_validate.specs.Refused.{IsMemoryRefusal, IsRefusedAt, RefusedModule}
 use Rattle.wc_validate.specs.Validate.{IsCauseOfImports, library_of}
 use Rattle.wc_validate.proofs.ExplainLemmas.{import_refused}
 use Rattle.wc_validate.proofs.RefusedLemmas.{failed_on, memory_at}
@@ -23,23 +22,32 @@ returns-in_err-context-clause-place c =
     let P = IsPlaceOfImport (validation_input_of c.args.validation_input) (module_value c.args.module.now) in
     failed_on IsMemoryRefusal (IsRefusedAt P) _ (memory_at P) c.from_residual.ensures.1
 
-pub import_refusal-requires-clause-refused : goal.import_refusal-requires-clause-refused
-import_refusal-requires-clause-refused c =
-    subst (λ z. IsStopIn c.in_ok-context.context z c.in-Err.refused) (c.deref.ensures.value ∙ sym c.deref-in-Err.ensures.value) c.in-Err.ensures.refused
-
 pub returns-clause-fault : goal.returns-clause-fault
 returns-clause-fault c =
     let library = library_of c.args.validation_input.library in
-    subst (IsCauseOfImports (validation_input_of c.args.validation_input) (module_value c.args.module.now)) (sym c.import_refusal.ensures.fault)
+    subst (IsCauseOfImports (validation_input_of c.args.validation_input) (module_value c.args.module.now)) (sym c.in_ok-import_refusal-in-Err.ensures.0)
     (cause_is c.args.validation_input.encoder.now c.in_ok-context.context _ library c.args.module.now.types.items _ c.args.module.now.imports.items
     c.in_ok-context.ensures.name_scope c.in_ok-context.ensures.renames c.in_ok-context.ensures.types c.deref.ensures.value
-    c.in-Err.refused.index c.in-Err.refused.fault (c.in-Err.ensures.refused library c.in_ok-context.ensures.arguments))
+    c.in-Err.refused.index c.in-Err.refused.cause.fault (types_of c.in-Err.refused.cause)
+    (c.in-Err.ensures.refused library c.in_ok-context.ensures.arguments))
 
 pub returns-clause-place : goal.returns-clause-place
 returns-clause-place c =
     import_refused (validation_input_of c.args.validation_input) c.args.module.now c.in_ok-context.context _ c.in_ok-context.ensures.name_scope
     c.in_ok-context.ensures.renames c.in_ok-context.ensures.types c.in_ok-context.ensures.arguments c.deref-in-Err.ensures.value
-    c.import_refusal.result c.in-Err.refused.fault c.import_refusal.ensures.fault c.import_refusal.ensures.place
+    c.in_ok-import_refusal-in-Err.field-0 c.in-Err.refused
+    (subst (λ z. IsStopIn c.in_ok-context.context z c.in-Err.refused) (c.deref.ensures.value ∙ sym c.deref-in-Err.ensures.value) c.in-Err.ensures.refused)
+    c.in_ok-import_refusal-in-Err.ensures
+
+pub returns-in_err-import_refusal-in-Err-clause-fault : goal.returns-in_err-import_refusal-in-Err-clause-fault
+returns-in_err-import_refusal-in-Err-clause-fault c =
+    failed_on IsMemoryRefusal (λ (x : RefusedModule). IsCauseOfImports (validation_input_of c.args.validation_input) (module_value c.args.module.now) x.fault) _
+    (memory_of_imports (validation_input_of c.args.validation_input) (module_value c.args.module.now)) c.from_residual-in_err-import_refusal-in-Err.ensures.1
+
+pub returns-in_err-import_refusal-in-Err-clause-place : goal.returns-in_err-import_refusal-in-Err-clause-place
+returns-in_err-import_refusal-in-Err-clause-place c =
+    let P = IsPlaceOfImport (validation_input_of c.args.validation_input) (module_value c.args.module.now) in
+    failed_on IsMemoryRefusal (IsRefusedAt P) _ (memory_at P) c.from_residual-in_err-import_refusal-in-Err.ensures.1
 
 pub from_recorder-requires : goal.from_recorder-requires
 from_recorder-requires c =

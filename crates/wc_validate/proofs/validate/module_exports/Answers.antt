@@ -1,8 +1,7 @@
 use Rattle.wc_read.specs.Modules.{module_value}
-use Rattle.wc_validate.specs.declared.refused.RefusedModule.{RefusedModule}
 use Rattle.wc_validate.specs.Explain.{IsModulePlace}
 use Rattle.wc_validate.specs.Private.ValidationInputs.{validation_input_of}
-use Rattle.wc_validate.specs.Refused.{IsMemoryRefusal, IsRefusedAt}
+use Rattle.wc_validate.specs.Refused.{IsMemoryRefusal, IsRefusedAt, RefusedModule}
 use Rattle.wc_validate.specs.Validate.{IsCauseOfExports}
 use Rattle.wc_validate.proofs.ExplainLemmas.{placed_exports}
 use Rattle.wc_validate.proofs.RefusedLemmas.{failed_on, memory_at, refusals_as}

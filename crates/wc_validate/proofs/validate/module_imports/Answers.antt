@@ -1,10 +1,9 @@
 use Rattle.std.proofs.Common.{subst}
 use Rattle.wc_read.specs.Modules.{module_value}
-use Rattle.wc_validate.specs.declared.refused.RefusedModule.{RefusedModule}
 use Rattle.wc_validate.specs.Explain.{IsPlaceOfImport}
 use Rattle.wc_validate.specs.Private.ValidationInputs.{validation_input_of}
 use Rattle.wc_validate.specs.Private.WorldInterfaces.{AreInterfacesThere}
-use Rattle.wc_validate.specs.Refused.{IsMemoryRefusal, IsRefusedAt}
+use Rattle.wc_validate.specs.Refused.{IsMemoryRefusal, IsRefusedAt, RefusedModule}
 use Rattle.wc_validate.specs.Validate.{IsCauseOfImports}
 use Rattle.wc_validate.proofs.RefusedLemmas.{failed_on, memory_at}
 use Rattle.wc_validate.proofs.ValidateLemmas.{memory_of_imports}

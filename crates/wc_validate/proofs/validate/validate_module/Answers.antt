@@ -7,14 +7,14 @@ use Rattle.wc_validate.proofs.validate.validate_module.Goals as goal
 pub returns-clause-recorded : goal.returns-clause-recorded
 returns-clause-recorded c =
     ok_without (λ (v : ValidatedModule). IsRecordOf (main_input c.args.encoder.now (option_copied c.args.import_map)) c.args.bytes.now (module_record v))
-    c.validate_main.result c.without_place.result c.without_place.ensures c.validate_main.ensures.recorded
+    c.validate_module_explained.result c.without_place.result c.without_place.ensures c.validate_module_explained.ensures.recorded
 
 pub returns-clause-fault : goal.returns-clause-fault
 returns-clause-fault c =
-    err_without (IsValidateCause (main_input c.args.encoder.now (option_copied c.args.import_map)) c.args.bytes.now) c.validate_main.result
-    c.without_place.result c.without_place.ensures c.validate_main.ensures.fault
+    err_without (IsValidateCause (main_input c.args.encoder.now (option_copied c.args.import_map)) c.args.bytes.now) c.validate_module_explained.result
+    c.without_place.result c.without_place.ensures c.validate_module_explained.ensures.fault
 
 pub returns-clause-no_cause : goal.returns-clause-no_cause
 returns-clause-no_cause c =
-    on_without (HasNoCause (main_input c.args.encoder.now (option_copied c.args.import_map)) c.args.bytes.now) c.validate_main.result
-    c.without_place.result c.without_place.ensures c.validate_main.ensures.no_cause
+    on_without (HasNoCause (main_input c.args.encoder.now (option_copied c.args.import_map)) c.args.bytes.now) c.validate_module_explained.result
+    c.without_place.result c.without_place.ensures c.validate_module_explained.ensures.no_cause

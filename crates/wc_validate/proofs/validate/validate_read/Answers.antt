@@ -1,9 +1,8 @@
 use Rattle.std.proofs.Common.{inl, inr}
 use Rattle.wc_read.specs.Modules.{module_value}
-use Rattle.wc_validate.specs.declared.refused.RefusedModule.{RefusedModule}
 use Rattle.wc_validate.specs.Explain.{IsModulePlace, IsPlaceOfImport}
 use Rattle.wc_validate.specs.Private.ValidationInputs.{validation_input_of}
-use Rattle.wc_validate.specs.Refused.{IsRefusedAt}
+use Rattle.wc_validate.specs.Refused.{IsRefusedAt, RefusedModule}
 use Rattle.wc_validate.specs.Validate.{IsModuleCause}
 use Rattle.wc_validate.proofs.RefusedLemmas.{passed_on, refused_as}
 use Rattle.wc_validate.proofs.validate.validate_read.Goals as goal

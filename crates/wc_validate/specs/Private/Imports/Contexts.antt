@@ -19,7 +19,10 @@ use Rattle.wc_validate.specs.Private.Imports.Arguments.{HasArgumentsOf}
 use Rattle.wc_validate.specs.Imports.Entries.{Entry}
 use Rattle.wc_validate.specs.Imports.Record.{ImportScope, IsCoreImport, IsEntry, AreEntries, IsFaultOfImport}
 use Rattle.wc_validate.specs.Private.Imports.Recorder.{IsRecordedAfter, IsRecorderOf}
+pub use Rattle.wc_validate.specs.Private.Imports.Recorder.{types_of}
 use Rattle.wc_validate.specs.Imports.Classify.{IsClassified}
+use Rattle.wc_validate.specs.Explain.{DifferenceView, IsTypedAt}
+use Rattle.wc_validate.specs.declared.refused.ImportFault.{ImportFault}
 use Rattle.wc_validate.specs.NameScope.{name_scope_of}
 
 -- what imports are recorded by in a context, for a module that is this library
@@ -43,10 +46,10 @@ HasTypedImports m = All (λ (i : Import). IsTypeIn (length m.types.items) i.ty) 
 abbrev pub IsImportRecorded : ImportScope → List Entry → ImportValue → Recorder → Type 0
 IsImportRecorded s before i r = (x : Entry) × IsEntry s i x × IsRecordedAfter before x r
 
--- why an import was not recorded after entries
-abbrev pub IsImportRefusal : ImportScope → List Entry → ImportValue → ValidateFault → Type 0
-IsImportRefusal s before i Memory = Unit {0}
-IsImportRefusal s before i f = IsFaultOfImport s before i f
+-- why an import was not recorded after entries, and the types that differ
+abbrev pub IsImportRefusal : ImportScope → List Entry → ImportValue → ValidateFault → Option DifferenceView → Type 0
+IsImportRefusal s before i Memory types = Unit {0}
+IsImportRefusal s before i f types = IsFaultOfImport s before i f × IsTypedAt s before i f types
 
 -- all imports are recorded
 abbrev pub AreRecorded : ImportScope → List ImportValue → Recorder → Type 0
@@ -60,8 +63,8 @@ HasLibrary c library = HasArgumentsOf c.arguments library
 abbrev pub IsRecordedIn : ImportContext → Option LibraryView → List Entry → Import → Recorder → Type 0
 IsRecordedIn c library before i r = IsImportRecorded (import_scope c library) before (import_value i) r
 
-abbrev pub IsRefusedIn : ImportContext → Option LibraryView → List Entry → Import → ValidateFault → Type 0
-IsRefusedIn c library before i f = IsImportRefusal (import_scope c library) before (import_value i) f
+abbrev pub IsRefusedIn : ImportContext → Option LibraryView → List Entry → Import → ImportFault → Type 0
+IsRefusedIn c library before i x = IsImportRefusal (import_scope c library) before (import_value i) x.fault (types_of x)
 
 -- all imports of the code's are recorded
 abbrev pub AreRecordedIn : ImportContext → Option LibraryView → List Import → Recorder → Type 0
@@ -76,7 +79,7 @@ abbrev pub IsOneRecorded : {T F : Type 0} → ImportContext → Recorder → Imp
 IsOneRecorded c old i new result =
     (library : Option LibraryView) (before : List Entry) → HasLibrary c library → IsRecorderOf old before → OnOk result (IsRecordedIn c library before i new)
 
-abbrev pub IsOneRefused : {T : Type 0} → ImportContext → Recorder → Import → Result T ValidateFault → Type 0
+abbrev pub IsOneRefused : {T : Type 0} → ImportContext → Recorder → Import → Result T ImportFault → Type 0
 IsOneRefused c old i result =
     (library : Option LibraryView) (before : List Entry) → HasLibrary c library → IsRecorderOf old before → IfErr result (IsRefusedIn c library before i)
 

@@ -3,10 +3,9 @@ use Rattle.wc_adapters.specs.Adapters.{adapter_view as input_view}
 use Rattle.wc_validate.specs.Validate.{module_record}
 use Rattle.wc_world.specs.Trimming.{HasOtherName}
 use Rattle.wc_world.specs.Private.Refused.{IsFirstRefusal}
-use Rattle.wc_world.specs.Refused.{IsMemoryRefusal}
+use Rattle.wc_world.specs.Refused.{IsMemoryRefusal, RefusedWorld}
 use Rattle.wc_world.specs.World.{AreAdaptersAmong}
 use Rattle.wc_world.specs.WorldViews.{adapter_entry}
-use Rattle.wc_world.specs.declared.refused.RefusedWorld.{RefusedWorld}
 use Rattle.wc_world.proofs.AdapterLemmas.{first_by_walk, walk_next}
 use Rattle.wc_world.proofs.FaultLemmas.{passed_on}
 use Rattle.wc_world.proofs.adapters.adapters_by.Goals as goal

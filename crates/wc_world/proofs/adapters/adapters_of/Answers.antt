@@ -1,8 +1,7 @@
 use Rattle.std.proofs.Common.{◌⊎◌, inl}
 use Rattle.wc_validate.specs.Validate.{module_record}
 use Rattle.wc_world.specs.Private.Refused.{IsFirstRefusal}
-use Rattle.wc_world.specs.Refused.{IsMemoryRefusal}
-use Rattle.wc_world.specs.declared.refused.RefusedWorld.{RefusedWorld}
+use Rattle.wc_world.specs.Refused.{IsMemoryRefusal, RefusedWorld}
 use Rattle.wc_world.proofs.RefusedLemmas.{err_given}
 use Rattle.wc_world.proofs.adapters.adapters_of.Goals as goal
 

@@ -1,9 +1,8 @@
 use Rattle.std.proofs.Common.{IfErr, IfOk, subst}
 use Rattle.wc_encoder.specs.EncoderParts.{EncoderView}
 use Rattle.wc_validate.specs.Explain.{IsPlace}
-use Rattle.wc_validate.specs.Refused.{IsRefusedAt}
+use Rattle.wc_validate.specs.Refused.{IsRefusedAt, RefusedModule}
 use Rattle.wc_validate.specs.Validate.{IsRecordOf, IsValidateCause, adapter_input_of, module_record}
-use Rattle.wc_validate.specs.declared.refused.RefusedModule.{RefusedModule}
 use Rattle.wc_world.specs.Private.Refused.{IsModuleRefusal}
 use Rattle.wc_world.proofs.RefusedLemmas.{err_both}
 use Rattle.wc_world.proofs.adapters.validated.Goals as goal

@@ -1,5 +1,10 @@
-use Rattle.std.proofs.Common.{inr, refl}
+use Rattle.std.proofs.Common.{refl}
+use Rattle.wc_world.specs.declared.fault.WorldFault.TheVariants.{Adapter}
+use Rattle.wc_world.specs.declared.places.ModulePlace.TheVariants as place
+use Rattle.wc_world.proofs.RefusedLemmas.{named_if}
 use Rattle.wc_world.proofs.refused.adapter_refusal.Goals as goal
 
 pub returns-in-Ok : goal.returns-in-Ok
-returns-in-Ok c = inr (c.in-Ok.own, c.in-Ok.ensures.ok, refl, c.validation_place.ensures)
+returns-in-Ok c =
+    named_if (λ s. Adapter s c.args.refused.fault) place.Validation c.args.name.now c.args.refused.place c.in-Ok.own _ c.in_module.result c.refusal_in.result refl c.in-Ok.ensures.ok c.in_module.ensures
+    c.refusal_in.ensures

@@ -13,7 +13,7 @@ returns-in_err-parts-clause-fault g c =
     let before = g.F.FileStore.held c.args.files.now in
     let metadata = c.in_ok-chosen.chosen.metadata in
     let is = c.in_ok-chosen.ensures in
-    let chosen = chosen_worlds command before metadata.resolve metadata.world.0 is.worlds _ is.keys is.there in
+    let chosen = chosen_worlds command before metadata.resolve metadata.world.0 is.worlds _ is.keys is.there is.asked in
     let p = err_from_is_err_and c.from_residual-in_err-parts.result c.from_residual-in_err-parts.ensures.1 in
     rw (p.1, p.2) (modules_cause command before (FailsToRead g.F.FileStore.read_fails c.args.files.now) is.worlds.0 metadata.world.0 c.in_err-parts.field-0.0 chosen c.in_err-parts.ensures.fault)
 
@@ -23,7 +23,7 @@ returns-in_err-build-clause-fault g c =
     let before = g.F.FileStore.held c.args.files.now in
     let metadata = c.in_ok-chosen.chosen.metadata in
     let is = c.in_ok-chosen.ensures in
-    let chosen = chosen_worlds command before metadata.resolve metadata.world.0 is.worlds _ is.keys is.there in
+    let chosen = chosen_worlds command before metadata.resolve metadata.world.0 is.worlds _ is.keys is.there is.asked in
     let parts = parts_with command before metadata.resolve metadata.world.0 is.worlds _ (parts_view c.in_ok-parts.parts) chosen is.keys
     (ap (λ m. m.world.0) c.in_ok-parts.ensures.metadata) (ap (λ m. m.resolve) c.in_ok-parts.ensures.metadata) c.in_ok-parts.ensures.parts in
     let p = err_from_is_err_and c.from_residual-in_err-build.result c.from_residual-in_err-build.ensures.1 in
@@ -35,7 +35,7 @@ returns-clause-encoder g c =
     let before = g.F.FileStore.held c.args.files.now in
     let metadata = c.in_ok-chosen.chosen.metadata in
     let is = c.in_ok-chosen.ensures in
-    let chosen = chosen_worlds command before metadata.resolve metadata.world.0 is.worlds _ is.keys is.there in
+    let chosen = chosen_worlds command before metadata.resolve metadata.world.0 is.worlds _ is.keys is.there is.asked in
     let parts = parts_with command before metadata.resolve metadata.world.0 is.worlds _ (parts_view c.in_ok-parts.parts) chosen is.keys
     (ap (λ m. m.world.0) c.in_ok-parts.ensures.metadata) (ap (λ m. m.resolve) c.in_ok-parts.ensures.metadata) c.in_ok-parts.ensures.parts in
     record { parts = subst (IsPartsOf command before) (sym c.in_ok-build.ensures.ok) parts; formed = c.in_ok-build.ensures.formed }

@@ -1,12 +1,16 @@
-use Rattle.std.proofs.Common.{inl, inr, refl}
-use Rattle.wcplan_command.specs.JsonFaults.{members_text, memory_json}
+use Rattle.std.proofs.Common.{◌∙◌, List, ℕ, inl, inr, refl, subst}
+use Rattle.wc_program.specs.Program.{Prints, failure}
+use Rattle.wc_program.specs.Screen.{Becomes}
+use Rattle.wcplan_command.specs.JsonFaults.{fault_json, memory_json}
 use Rattle.wcplan_command.proofs.json_faults.report_made.Goals as goal
 
 pub returns-in-Ok : goal.returns-in-Ok
-returns-in-Ok g c =
-    let is = c.in-Ok.ensures in
-    let members = c.in-Ok.members in
-    (members_text members.0.items members.1.items, inl (λ i. members_text (is.text i) (is.place i)), c.print_members.ensures)
+returns-in-Ok g c = (
+  fault_json c.args.fault.now,
+  inl refl,
+  subst (λ (bytes : List ℕ). Prints bytes failure (Becomes g.E.Screen.ends c.args.err.now c.print_bytes.new.err) c.print_bytes.result)
+      (c.deref.ensures.value ∙ c.in-Ok.ensures) c.print_bytes.ensures,
+)
 
 pub returns-in-Err : goal.returns-in-Err
-returns-in-Err g c = (memory_json, inr (c.requires, refl), c.print_json.ensures)
+returns-in-Err g c = (memory_json, inr (c.requires, refl), c.print_text.ensures)

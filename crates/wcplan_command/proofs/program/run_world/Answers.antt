@@ -1,7 +1,6 @@
 use Rattle.std.proofs.Common.{refl}
 use Rattle.wc_world.specs.WorldViews.{world_view}
 use Rattle.wcplan_command.specs.Arguments.{command_view}
-use Rattle.wcplan_command.specs.Fault.{of_plan}
 use Rattle.wc_program.specs.Files.{store_change}
 use Rattle.wc_program.specs.Screen.{Becomes}
 use Rattle.wcplan_command.proofs.RunLemmas.{plan_cause, quiet}
@@ -20,5 +19,6 @@ returns-in-Err-clause-fault g c =
     let files = store_change store.held directories.makes store.read_fails directories.make_fails store.write_fails c.args.files.now c.args.files.now in
     let out = Becomes g.O.Screen.ends c.args.out.now c.args.out.now in
     let made = c.requires.made in
-    let cause = plan_cause command files.before files.IsFailedRead made.encoder (world_view c.args.world.now) c.in-Err.fault made.encodes made.world c.in-Err.ensures.fault in
-    rw c.from.ensures (quiet command files out (of_plan c.in-Err.fault) refl refl cause)
+    let cause = plan_cause command files.before files.IsFailedRead made.encoder (world_view c.args.world.now) c.in-Err.refused c.plan_fault.result made.encodes
+    made.world c.in-Err.ensures.place c.plan_fault.ensures in
+    quiet command files out c.plan_fault.result refl refl cause

@@ -1,7 +1,13 @@
 use Rattle.wc_calls.proofs.message_fault.MessageFaultFaultText.put_pieces.Goals as goal
 
+pub returns-in-UnknownWorld : goal.returns-in-UnknownWorld
+returns-in-UnknownWorld g c = rw (c.in-UnknownWorld.is, ← c.deref.ensures) c.put_quoted.ensures
+
 pub returns-in-AdapterTwice : goal.returns-in-AdapterTwice
-returns-in-AdapterTwice g c = rw (c.in-AdapterTwice.is, ← c.deref.ensures) c.put_quoted.ensures
+returns-in-AdapterTwice g c = rw (c.in-AdapterTwice.is, ← c.deref-in-AdapterTwice.ensures) c.put_quoted-in-AdapterTwice.ensures
+
+pub returns-in-SeveralWorlds : goal.returns-in-SeveralWorlds
+returns-in-SeveralWorlds g c = rw (c.in-SeveralWorlds.is, ← c.deref-in-SeveralWorlds.ensures) c.put_quoted-in-SeveralWorlds.ensures
 
 pub returns-in-UnknownKey : goal.returns-in-UnknownKey
 returns-in-UnknownKey g c = rw (c.in-UnknownKey.is, ← c.deref-in-UnknownKey.ensures) c.put_quoted-in-UnknownKey.ensures

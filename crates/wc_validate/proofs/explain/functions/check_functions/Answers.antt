@@ -4,9 +4,8 @@ use Rattle.wc_validate.specs.Exports.Record.{exports_in}
 use Rattle.wc_validate.specs.Imports.Map.{required_entry}
 use Rattle.wc_validate.specs.Private.ExportedFunctions.{IsExportIndexOf}
 use Rattle.wc_validate.specs.Explain.{IsFunctionPlace}
-use Rattle.wc_validate.specs.Refused.{IsMemoryRefusal, IsRefusedAt}
+use Rattle.wc_validate.specs.Refused.{IsMemoryRefusal, IsRefusedAt, RefusedModule}
 use Rattle.wc_validate.specs.Requirements.{IsUnmetFault, type_requirement}
-use Rattle.wc_validate.specs.declared.refused.RefusedModule.{RefusedModule}
 use Rattle.wc_validate.proofs.MissingLemmas.{function_refused, functions_failed}
 use Rattle.wc_validate.proofs.RefusedLemmas.{failed_on}
 use Rattle.wc_validate.proofs.explain.functions.check_functions.Goals as goal
@@ -18,7 +17,7 @@ returns-clause-refused c = λ r recorded.
     let same = subst (λ z. IsExportIndexOf c.in_ok-index.index.entries (exports_in c.args.module.now z)) c.deref.ensures.value c.in_ok-index.ensures in
     let lack = c.in-Err.ensures.lacking r xs recorded same in
     function_refused r xs recorded functions (c.in-Err.lacking.name.now, func_type_value c.in-Err.lacking.ty.now) c.in-Err.lacking.fault
-    c.function_refusal.result c.function_refusal.ensures.fault lack (c.function_refusal.ensures.place r xs recorded functions same lack)
+    c.in_ok-function_refusal-in-Err.field-0 c.in_ok-function_refusal-in-Err.ensures.fault lack (c.in_ok-function_refusal-in-Err.ensures.place r xs recorded functions same lack)
 
 pub returns-in-Ok-clause-met : goal.returns-in-Ok-clause-met
 returns-in-Ok-clause-met c = λ r recorded.
@@ -32,3 +31,10 @@ returns-in_err-index-clause-refused c = λ r recorded.
     let functions = map required_entry c.args.functions.now.entries in
     failed_on IsMemoryRefusal (λ (x : RefusedModule). IsUnmetFault r xs recorded (map type_requirement functions) x.fault
     × IsRefusedAt (IsFunctionPlace r xs recorded functions) x) _ (functions_failed r xs recorded functions) c.from_residual.ensures.1
+
+pub returns-in_err-function_refusal-in-Err-clause-refused : goal.returns-in_err-function_refusal-in-Err-clause-refused
+returns-in_err-function_refusal-in-Err-clause-refused c = λ r recorded.
+    let xs = exports_in c.args.module.now c.args.module.now.exports.items in
+    let functions = map required_entry c.args.functions.now.entries in
+    failed_on IsMemoryRefusal (λ (x : RefusedModule). IsUnmetFault r xs recorded (map type_requirement functions) x.fault
+    × IsRefusedAt (IsFunctionPlace r xs recorded functions) x) _ (functions_failed r xs recorded functions) c.from_residual-in_err-function_refusal-in-Err.ensures.1

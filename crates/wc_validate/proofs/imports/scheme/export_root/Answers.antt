@@ -16,12 +16,12 @@ returns-in_default g c =
     classified_nothing of_imports fault_kind _ _
     (no_export_root fault_kind s (name_scope_of c.args.names.now) c.args.function.name.now (func_type_value c.args.function.ty.now)
     c.args.function.module_name.now
-    (begins_not _ _ (export_prefix s) c.import_exported_intrinsic_prefix.ensures c.in_default.ensures (root_module s)))
+    (begins_not _ _ (export_prefix s) c.import_exported_intrinsic_prefix.ensures c.in_default.ensures.found (root_module s)))
 
 pub returns-then-ne : goal.returns-then-ne
 returns-then-ne g c =
     let s = g.N.NameMangling.scheme c.args.scheme.now in
-    let is = begins _ _ (export_prefix s) c.in-Some.rest.now c.import_exported_intrinsic_prefix.ensures c.in-Some.ensures in
+    let is = begins _ _ (export_prefix s) c.in-Some.rest.now c.import_exported_intrinsic_prefix.ensures c.in-Some.ensures.found in
     classified_nothing of_imports fault_kind _ _
     (no_export_root fault_kind s (name_scope_of c.args.names.now) c.args.function.name.now (func_type_value c.args.function.ty.now)
     c.args.function.module_name.now
@@ -31,7 +31,7 @@ returns-then-ne g c =
 pub returns : goal.returns
 returns g c =
     let s = g.N.NameMangling.scheme c.args.scheme.now in
-    let is = begins _ _ (export_prefix s) c.in-Some.rest.now c.import_exported_intrinsic_prefix.ensures c.in-Some.ensures in
+    let is = begins _ _ (export_prefix s) c.in-Some.rest.now c.import_exported_intrinsic_prefix.ensures c.in-Some.ensures.found in
     of_export_root fault_kind s (name_scope_of c.args.names.now) c.args.function.name.now (func_type_value c.args.function.ty.now)
     c.args.function.module_name.now _
     (is ∙ ap (λ z. export_prefix s ++ z) (equal c.in-Some.rest.now c.import_root.result.now (sym c.if-ne.ensures) ∙ c.import_root.ensures))

@@ -10,18 +10,18 @@ pub returns-in-Some : goal.returns-in-Some
 returns-in-Some c =
     decided_by (name_scope_of c.args.names.now) c.args.function.module_name.now c.args.function.name.now (func_type_value c.args.function.ty.now)
     standard c.in-Some.rest.now _
-    (inl (c.in-Some.ensures, refl)) c.import_by.ensures
+    (inl (c.in-Some.ensures.found, refl)) c.import_by.ensures
 
 pub returns-then-names : goal.returns-then-names
 returns-then-names c =
     decided_by (name_scope_of c.args.names.now) c.args.function.module_name.now c.args.function.name.now (func_type_value c.args.function.ty.now)
     standard c.args.function.module_name.now _
-    (inr (c.in_default.ensures, refl, sym (scheme_is c.args.names.now.task_hook.now c.args.names.now.reject_legacy_names _ c.if-names.true)))
+    (inr (c.in_default.ensures.found, refl, sym (scheme_is c.args.names.now.task_hook.now c.args.names.now.reject_legacy_names _ c.if-names.true)))
     c.import_by-then-names.ensures
 
 pub returns : goal.returns
 returns c =
     decided_by (name_scope_of c.args.names.now) c.args.function.module_name.now c.args.function.name.now (func_type_value c.args.function.ty.now)
     (legacy c.args.names.now.task_hook.now) c.args.function.module_name.now _
-    (inr (c.in_default.ensures, refl, sym (scheme_is c.args.names.now.task_hook.now c.args.names.now.reject_legacy_names _ c.if-names.false)))
+    (inr (c.in_default.ensures.found, refl, sym (scheme_is c.args.names.now.task_hook.now c.args.names.now.reject_legacy_names _ c.if-names.false)))
     c.import_by-2.ensures

@@ -1,8 +1,7 @@
 use Rattle.std.proofs.Common.{IfErr, IfOk, OnOk, subst}
 use Rattle.wc_validate.specs.Explain.{IsPlace}
-use Rattle.wc_validate.specs.Refused.{IsRefusedAt}
+use Rattle.wc_validate.specs.Refused.{IsRefusedAt, RefusedModule}
 use Rattle.wc_validate.specs.Validate.{HasNoCause, IsRecordOf, IsValidateCause, module_record}
-use Rattle.wc_validate.specs.declared.refused.RefusedModule.{RefusedModule}
 use Rattle.wc_validate.specs.declared.validate.ValidatedModule.{ValidatedModule}
 use Rattle.wc_validate.proofs.world_interfaces.WorldInterfaces.validate_adapter_module_explained.Goals as goal
 

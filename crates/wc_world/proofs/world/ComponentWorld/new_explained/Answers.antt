@@ -1,8 +1,7 @@
 use Rattle.std.proofs.Common.{◌⊎◌}
 use Rattle.wc_validate.specs.Validate.{module_record}
 use Rattle.wc_world.specs.Causes.{IsComponentWorldCause, IsMemory}
-use Rattle.wc_world.specs.Refused.{IsRefusedAt}
-use Rattle.wc_world.specs.declared.refused.RefusedWorld.{RefusedWorld}
+use Rattle.wc_world.specs.Refused.{IsRefusedAt, RefusedWorld}
 use Rattle.wc_world.proofs.AdapterLemmas.{first_or_memory, first_placed}
 use Rattle.wc_world.proofs.FaultLemmas.{passed_on}
 use Rattle.wc_world.proofs.world.ComponentWorld.new_explained.Goals as goal

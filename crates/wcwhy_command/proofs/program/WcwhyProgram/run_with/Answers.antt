@@ -1,4 +1,4 @@
-use Rattle.std.proofs.Common.{map, string_bytes}
+use Rattle.std.proofs.Common.{map, refl, string_bytes}
 use Rattle.wcwhy_command.specs.Arguments.{command_view}
 use Rattle.wcwhy_command.proofs.RunLemmas.{ends_by_command, ends_by_stop}
 use Rattle.wcwhy_command.proofs.program.WcwhyProgram.run_with.Goals as goal
@@ -6,9 +6,9 @@ use Rattle.wcwhy_command.proofs.program.WcwhyProgram.run_with.Goals as goal
 pub returns-in-Ok : goal.returns-in-Ok
 returns-in-Ok g c =
     let arguments = map string_bytes c.args.arguments.now in
-    ends_by_command arguments (command_view c.in-Ok.command) _ _ _ _ _ c.in-Ok.ensures c.run_and_report.ensures.files c.run_and_report.ensures.ends
+    ends_by_command arguments (command_view c.in-Ok.command) _ _ _ _ c.in-Ok.ensures c.run_and_report.ensures.files c.run_and_report.ensures.ends
 
 pub returns-in-Err : goal.returns-in-Err
 returns-in-Err g c =
     let arguments = map string_bytes c.args.arguments.now in
-    ends_by_stop arguments c.in-Err.stop _ _ _ _ c.in-Err.ensures c.answer_stop.ensures
+    ends_by_stop arguments c.in-Err.stop _ _ _ _ refl c.in-Err.ensures c.answer_stop.ensures

@@ -1,0 +1,38 @@
+-- The texts of the faults of calls on bytes, by their numbers.
+use Rattle.std.specs.Prelude.{◌≡◌, ◌⊎◌, ℕ, List, codes, false}
+use Rattle.wc_dedupe.specs.Fault.{dedupe_fault_number, dedupe_fault_text}
+use Rattle.wc_dedupe.specs.declared.fault.DedupeFault.{DedupeFault}
+use Rattle.wc_gc.specs.Fault.{gc_fault_number, gc_fault_text}
+use Rattle.wc_gc.specs.declared.fault.GcFault.{GcFault}
+use Rattle.wc_gc.specs.declared.fault.GcFault.TheVariants.{MissingExport}
+use Rattle.wc_calls.specs.MemoryFaults.{dedupe_is_memory, gc_is_memory}
+
+-- the text of a fault of trimming, without the name that it carries
+abbrev pub unnamed_text : GcFault → List ℕ
+unnamed_text (MissingExport name) = codes "adapter module does not have export"
+unnamed_text f = gc_fault_text f
+
+-- a fault of renaming has this number and this text; one of trimming has. It neither is nor carries a Memory
+
+abbrev pub IsDedupeText : ℕ → List ℕ → Type 0
+IsDedupeText number text =
+    (f : DedupeFault) × (dedupe_is_memory f ≡ false) × (dedupe_fault_number f ≡ number) × (text ≡ dedupe_fault_text f)
+
+abbrev pub IsTrimText : ℕ → List ℕ → Type 0
+IsTrimText number text = (f : GcFault) × (gc_is_memory f ≡ false) × (gc_fault_number f ≡ number) × (text ≡ unnamed_text f)
+
+-- the calls on bytes, by their numbers; two of them answer faults of trimming
+
+abbrev pub dedupe_call : ℕ
+dedupe_call = 0
+
+abbrev pub trim_call : ℕ
+trim_call = 1
+
+abbrev pub why_call : ℕ
+why_call = 2
+
+-- a fault of a call has this number and this text
+abbrev pub IsFaultText : ℕ → ℕ → List ℕ → Type 0
+IsFaultText call number text =
+    ((call ≡ dedupe_call) × IsDedupeText number text) ⊎ (((call ≡ trim_call) ⊎ (call ≡ why_call)) × IsTrimText number text)
