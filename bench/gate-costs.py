@@ -3,6 +3,7 @@
 
     bench/gate-costs.py [--write] [--cores LIST] [-- ARGUMENT..]   # `rt ci --anew`, or `rt ci ARGUMENT..`
     bench/gate-costs.py [--write] --join FILE..                     # of the records of several runs
+    bench/gate-costs.py --check | --figures                         # nothing is run
 
 It runs `rt ci` in this checkout and reads, twice a second, which processes it has and the processor time of each. So
 that the figures mean something the machine has to have nothing else to do; the load before the run is in the record.
@@ -24,10 +25,12 @@ import tempfile
 import time
 
 sys.path.append(os.path.join(os.path.dirname(os.path.dirname(os.path.abspath(__file__))), "tools"))
-from repository import TOP, crates_below, used_by_crates
+from repository import TESTS, TOP, crates_below, read, used_by_crates
 
 DATA = f"{TOP}/bench/data"
 TICK = os.sysconf("SC_CLK_TCK")
+# the programs, and the page of each that says what its proof takes
+PROOFS = {"wctrim": "docs/WCTRIM.md", "wcwhy": "", "wcplan": "docs/WCPLAN.md"}
 BEGIN, END = "<!-- costs: bench/gate-costs.py -->", "<!-- end of costs -->"
 
 
@@ -168,11 +171,71 @@ def table(runs):
     two, four = by_the_clock(crates, 2), by_the_clock(crates, 4)
     lines.append(f"With one processor for each proof that takes {two:.0f} minutes on two processors, and {four:.0f} on four.")
     minutes, chain = longest_chain(crates)
-    lines.append(f"The longest chain has {minutes:.0f} minutes: {', '.join(f'`{it}`' for it in chain)}.")
+    each = ", ".join(f"`{it}` {crates.get(it, {'proof': 0.0})['proof'] / 60:.1f}" for it in chain)
+    lines.append(f"The longest chain has {minutes:.0f} minutes: {each}.")
+    rows = sum(of["proof"] for name, of in crates.items() if TESTS.match(name)) / 60
+    lines.append(f"The crates of the tests take {rows:.0f} minutes of the proofs, {100 * rows / max(proofs, 0.01):.0f}%.")
     for run in (it for it in runs if it["clock"]):
         whole = f"`{run['commit']}`: {run['clock'] / 60:.0f} minutes by the clock on {len(run['cores'])} processors"
         lines.append(f"Run {whole}, with a load of {run['load']:.1f} before it; {run['answer']}.")
     return "\n".join(lines)
+
+
+def costs_on(page):
+    """The minutes of each crate's proof and of its edits, in the table on a page; the last row is of all."""
+    rows = re.findall(r"^\| `?(\w+)`? \| ([\d.]+) \| ([\d.]*) \|$", page.partition(BEGIN)[2].partition(END)[0], re.M)
+    return {name: (float(proof), float(edits or 0)) for name, proof, edits in rows}
+
+
+def figures(costs):
+    """What is made of the table elsewhere: a file, a pattern around a number, and the number."""
+    used = used_by_crates()
+    for name, proof in PROOFS.items():
+        minutes = sum(costs.get(it, (0.0, 0.0))[0] for it in crates_below(name, used))
+        minutes = round(minutes, -1 if minutes >= 100 else 0)
+        for file in ("wctrim", proof) if proof else ("wctrim",):
+            before = rf"{name}\)[^\n]* proof='some " if file == "wctrim" else rf"{name}: not proved: \./{name} --build proves it, in some "
+            yield file, f"({before})(\\d+)( processor minutes)", f"{minutes:.0f}"
+    wctrim = sum(costs.get(it, (0.0, 0.0))[0] for it in crates_below("wctrim", used))
+    yield "README.md", r"(--build` proves it, in some )(\d+)( processor minutes)", f"{wctrim:.0f}"
+    two = re.search(r"takes (\d+) minutes on two processors", read("docs/MAP.md"))
+    if two:
+        yield "README.md", r"(in some \[)(\d+)(\s+minutes\]\(docs/MAP.md#what-the-gate-costs\))", f"{round(int(two[1]), -1)}"
+
+
+def write_figures():
+    """Puts what is made of the table where it belongs."""
+    for file, pattern, number in figures(costs_on(read("docs/MAP.md"))):
+        text = re.sub(pattern, lambda it: it[1] + number + it[3], read(file))
+        (TOP / file).write_text(text, encoding="utf-8")
+
+
+def check():
+    """Prints what is otherwise than the table's rows make it; how many figures there are is the last line."""
+    page, wrong, count = read("docs/MAP.md"), [], 3
+    costs = costs_on(page)
+    of_all = costs.pop("all")
+    for n, what in enumerate(("proofs", "edits")):
+        if abs(sum(it[n] for it in costs.values()) - of_all[n]) > 0.5:
+            wrong.append(f"docs/MAP.md: the {what} have {sum(it[n] for it in costs.values()):.1f} minutes together, not {of_all[n]}")
+    rest = re.search(r"With ([\d.]+) minutes for linking, running and the rest that is (\d+) processor minutes", page)
+    if abs(sum(of_all) + float(rest[1]) - int(rest[2])) > 1:
+        wrong.append(f"docs/MAP.md: {of_all} and {rest[1]} minutes are not {rest[2]}")
+    chain = re.search(r"The longest chain has (\d+) minutes: ([^\n]*)\.\n", page)
+    for name, minutes in re.findall(r"`(\w+)` ([\d.]+)", chain[2]):
+        if float(minutes) != costs.get(name, (0.0, 0.0))[0]:
+            wrong.append(f"docs/MAP.md: {name} has {minutes} minutes in the longest chain, and other ones in its row")
+    tests = re.search(r"The crates of the tests take (\d+) minutes of the proofs, (\d+)%", page)
+    minutes, count = sum(it[0] for name, it in costs.items() if TESTS.match(name)), count + 2
+    if abs(minutes - int(tests[1])) > 1 or abs(100 * minutes / of_all[0] - int(tests[2])) > 1:
+        wrong.append(f"docs/MAP.md: the crates of the tests take {minutes:.1f} minutes of {of_all[0]}")
+    for file, pattern, number in figures(costs):
+        found = re.search(pattern, read(file))
+        count += 1
+        if not found or found[2] != number:
+            wrong.append(f"{file}: {found[0] if found else pattern}: {number}, by the table in docs/MAP.md: bench/gate-costs.py --figures")
+    print("\n".join([*wrong, f"{count} figures"]))
+    return 1 if wrong else 0
 
 
 def main():
@@ -181,8 +244,15 @@ def main():
     parser.add_argument("--write", action="store_true")
     parser.add_argument("--cores", default="")
     parser.add_argument("--join", nargs="+")
+    parser.add_argument("--check", action="store_true")
+    parser.add_argument("--figures", action="store_true", help="write what is made of the table in docs/MAP.md, and run nothing")
     parser.add_argument("rest", nargs="*")
     given = parser.parse_args()
+    if given.figures:
+        write_figures()
+        return 0
+    if given.check:
+        return check()
     if given.join:
         runs = []
         for path in given.join:
@@ -206,6 +276,7 @@ def main():
         new = re.sub(f"(?s){re.escape(BEGIN)}.*{re.escape(END)}", lambda _: f"{BEGIN}\n\n{text}\n\n{END}", old)
         with open(page, "w", encoding="utf-8") as file:
             file.write(new)
+        write_figures()
     return 0 if all(re.fullmatch(r"\d+ passed, 0 failed", run["answer"]) for run in runs) else 1
 
 

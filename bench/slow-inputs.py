@@ -35,8 +35,9 @@ TOP = pathlib.Path(__file__).resolve().parent.parent
 sys.path += [str(TOP / "bench"), str(TOP / "checks")]
 import chosen_names
 from slow_cases import CASES
-from slow_shapes import FOLDER, MESSAGE, MODULES, ROWS
+from slow_shapes import FOLDER, MESSAGE, MODULES, OUT, ROWS
 
+OUTPUTS = OUT, chosen_names.OUT
 GRIND, PEAK, MESSENGER = (str(FOLDER / file) for file in ("callgrind.out", "peak", "message"))
 TIME = "/usr/bin/time"
 PROGRAMS = "wctrim", "wcplan", "wc_tests"
@@ -74,6 +75,9 @@ class Run:
 
     def __init__(self, asked, program, words, stdin):
         self.is_stopped = False
+        # what an earlier run wrote is no input of this one
+        for file in OUTPUTS:
+            pathlib.Path(file).unlink(missing_ok=True)
         self.read = size_of(words, stdin)
         timed = [TIME, "-f", "%M", "-o", PEAK, program, *words]
         with open(stdin, "rb") as file:

@@ -4,7 +4,7 @@
     checks/c-header.py
 
 Compared are the functions of crates/nuigatre, with the names, the order and the types of their parameters and their
-results; the number of their form; the fields of an answer, and the statuses; the numbers of faults, and which faults carry
+results; the number of their form; the fields of an answer, the statuses, and the numbers of calls; the numbers of faults, and which faults carry
 which; and the functions that give the library its memory, with those of the Rust crate. Each difference is a line. The
 status is 1 where there is one.
 """
@@ -107,12 +107,21 @@ def faults_of(crates):
 def faults_of_header(text):
     for kind, inside in re.findall(r"enum (nuigatre_\w+) \{(.*?)\n\}", text, re.S):
         for name, number, carried in re.findall(r"(NUIGATRE_\w+) = (\d+),?(?: /\* carries a (\w+) \*/)?", inside):
-            if kind != "nuigatre_status":
+            if kind not in ("nuigatre_status", "nuigatre_call"):
                 yield f"{kind}: {name} = {number}" + (f", which carries a {carried}" if carried else "")
 
 
 def statuses_of(text):
     return [f"NUIGATRE_{name} = {number}" for name, number in re.findall(r"^(?:pub )?const ([A-Z_]+): u32 = (\d);", text, re.M)]
+
+
+def calls_of(text):
+    """The calls on bytes: in the Rust crate its tests have them."""
+    return [f"NUIGATRE_{name} = {number}" for name, number in re.findall(r"const ([A-Z]+_CALL): u32 = (\d);", text)]
+
+
+def calls_of_header(text):
+    return re.findall(r"NUIGATRE_\w+ = \d+", re.search(r"enum nuigatre_call \{(.*?)\}", text, re.S)[1])
 
 
 def statuses_of_header(text):
@@ -132,6 +141,7 @@ def differences(what, wanted, found):
 def compared():
     library = code_of(TOP / "crates/nuigatre/src/lib.rt")
     answers = code_of(TOP / "crates/wc_calls/src/answers.rt")
+    calls = calls_of(code_of(TOP / "crates/wc_calls/src/fault_texts.rt"))
     text = read("include", "nuigatre.h")
     header = without_comments(text)
     ffi = without_comments(read("rust", "nuigatre", "src", "ffi.rs"))
@@ -144,11 +154,13 @@ def compared():
     yield "answer of the header", fields_of(answers, "Answer"), fields_of_header(header, "nuigatre_answer")
     yield "block of the header", fields_of(heap, "Allocated"), fields_of_header(header, "nuigatre_allocated")
     yield "statuses of the header", statuses_of(answers), statuses_of_header(header)
+    yield "calls of the header", calls, calls_of_header(header)
     yield "faults of the header", sorted(faults_of(libraries())), sorted(faults_of_header(text))
     yield "functions of the Rust crate", sorted(of_library(library)), sorted(of_rust(ffi))
     yield "form of the Rust crate", form, re.findall(r"const ABI: u32 = (\d+);", ffi)
     yield "answer of the Rust crate", fields_of(answers, "Answer"), fields_of(ffi, "Answer")
     yield "statuses of the Rust crate", statuses_of(answers), [it for it in statuses_of(ffi) if "_ABI" not in it]
+    yield "calls of the Rust crate", calls, calls_of(ffi)
 
 
 def main():

@@ -12,7 +12,8 @@ It prints a line for each thing that is wrong, and ends with status 1 where ther
 - names in backquotes: paths of files are there. The words of a name, of a path of names (`a::b`) and of a call
   (`a.b(c)`) occur in the sources, comments aside; so do names of two words and more with hyphens, as those of edits;
 - README.md: its lines have at most 120 columns, and KIT is one line;
-- docs/MAP.md has a row for each crate;
+- docs/MAP.md has a row for each crate, in the order of crates.txt, and each crate is in its drawing;
+- docs/PERFORMANCE.md: each table comes after a date in its section;
 - a library's README: each public function says in its source what it does, and each variant of a fault when it comes; a
   function is on the page unless it is of a type;
   under "What is promised" each function has the clauses that are named after it; under "What functions require" is each
@@ -403,12 +404,34 @@ def check_crate(crate, is_library):
 
 
 def check_list():
-    """The list of crates in MAP: each crate is in a row."""
+    """The list of crates in MAP: each crate is in the drawing and in a row, and the rows are in the order of crates.txt, by
+    their first crates."""
     document = os.path.join(TOP, "docs", "MAP.md")
-    rows = [cells[0] for _, cells in rows_of(document)]
-    for crate in used_by_crates():
-        if not any(f"[{crate}](" in cell for cell in rows):
+    rows, crates, last = list(rows_of(document)), list(used_by_crates()), -1
+    drawn = set(re.findall(r"\w+", read(document).split("```")[1]))
+    for crate in crates:
+        if not any(f"[{crate}](" in cells[0] for _, cells in rows):
             fault(document, 1, f"no row for {crate}")
+        if crate not in drawn and not (crate.endswith("_command") and "_command" in drawn):
+            fault(document, 1, f"{crate} is not in the drawing")
+    for number, cells in rows:
+        first = re.match(r"\[(\w+)\]\(\.\./crates/", cells[0])
+        if first and first[1] in crates:
+            if crates.index(first[1]) < last:
+                fault(document, number, f"{first[1]} is not in the order of crates.txt")
+            last = max(last, crates.index(first[1]))
+
+
+MONTHS = "January|February|March|April|May|June|July|August|September|October|November|December"
+
+
+def check_dates():
+    """docs/PERFORMANCE.md: each table comes after a date in its section."""
+    document, dated = os.path.join(TOP, "docs", "PERFORMANCE.md"), False
+    for number, line in enumerate(read(document).split("\n"), 1):
+        dated = not line.startswith("#") and (dated or bool(re.search(rf"\d ({MONTHS})\b", line)))
+        if line.startswith("|---") and not dated:
+            fault(document, number, "a table without a date before it in its section")
 
 
 def check_top():
@@ -431,6 +454,7 @@ def main():
         check_names(document, words)
     check_top()
     check_list()
+    check_dates()
     for crate in crates:
         check_crate(crate, crate.name in public)
     for line in faults:

@@ -232,7 +232,7 @@ def kind_of(printed):
     """The kind of a fault: its name, and of the worlds' text what is wrong, without the path there."""
     words = printed.decode(errors="replace").split("\n")[0].split(": ")[1:]
     if words[:1] == ["Json"]:
-        return " Json: " + words[-1]
+        return " Json: " + re.sub(r"byte \d+", "byte N", words[-1])
     return " " + re.sub("`.*", "..", words[0]) if words else ""
 
 

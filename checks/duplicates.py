@@ -1,7 +1,8 @@
 #!/usr/bin/env python3
-"""Finds product code that stands twice: lines of sources and specs, and definitions of specs.
+"""Finds what stands twice: lines of the product's sources and specs, definitions of specs, and statements of lemmas.
 
     checks/duplicates.py [--all] [CRATE ..]
+    checks/duplicates.py --shrink
 
 Lines: each text of ten lines or more that stands in two places, or more, of crates/*/src and crates/*/specs. Comments,
 blank lines, `use` lines and lines of brackets alone don't count, nor does how far a line is indented; and ten lines of
@@ -9,23 +10,35 @@ which fewer than five differ are a table. Definitions: each `abbrev`, `record` a
 another one, but for its own name, the names of its variables, and names under which things are imported; in one crate, or
 of other types, a body has to have ten words, else six.
 
-The crates are those of crates.txt but for the tests', or those that are named. Left out is what BOILERPLATE and
-ALIKE name, each with its reason; --all prints that too. The status is 1 where anything else is found, or where an entry of
-these lists fits nothing any more.
+Statements: each lemma of proofs/*Lemmas.antt that states what another one does, but for its name and those of variables.
+
+The crates are those of crates.txt, or those that are named; those of the tests but for lines. Left out is what BOILERPLATE and
+ALIKE name, each with its reason; --all prints that too. How many there may be of other statements and definitions is stored
+in checks/duplicates.txt, which only shrinks: more are refused, and where there are fewer --shrink takes them out. State a
+lemma once, in the lowest crate that all who cite it see.
+
+The status is 1 where anything else is found, or where an entry of these lists fits nothing any more.
 """
 import argparse
 import collections
+import hashlib
 import itertools
 import pathlib
 import re
 import sys
 
 sys.path.append(str(pathlib.Path(__file__).resolve().parent.parent / "tools"))
-from repository import TOP, files_of, parts_of, product_crates
+from repository import TOP, files_of, parts_of, product_crates, used_by_crates
 
 LEAST_LINES, LEAST_DIFFERENT = 10, 5
 # the words of a body that has the types of another one in another crate, and of one that has not
 LEAST_WORDS, LEAST_ALIKE = 6, 10
+# the words of a lemma's statement
+LEAST_STATEMENT = 6
+STORE = TOP / "checks" / "duplicates.txt"
+STORED_HEAD = """# Lemmas and definitions that stand more than once: a sum of what is stated or defined, how many there are, and their names.
+# checks/duplicates.py refuses more; --shrink takes out those that went.
+"""
 
 # Texts that may stand twice: their places, as a regular expression on how they are printed, and why.
 BOILERPLATE = [
@@ -49,9 +62,10 @@ BOILERPLATE = [
 ALIKE = [
     ("wc_adapters::argument_view wc_validate::instance_entry",
      "a name and a view: the views are different definitions of different types"),
-    ("wc_validate::IsMemoryRefusal wc_world::IsMemoryRefusal", "a refusal of a module, and one of a world"),
+    ("wc_resolve::IsMemoryRefusal wc_validate::IsMemoryRefusal wc_world::IsMemoryRefusal wc_plan::IsMemoryRefusal wctrim_command::IsMemoryRefusal",
+     "refusals of five types: of worlds, of a module, of a component's world, of a plan, of a command"),
     ("wc_validate::IsRefusedAt wc_world::IsRefusedAt", "a refusal of a module, and one of a world"),
-    ("wcplan_command::innermost wcplan_command::first_path", "the first of a list: of what is open in the one, of paths in the other"),
+    ("wc_json::innermost wc_json::first_path", "the first of a list: of what is open in the one, of paths in the other"),
     ("wc_dedupe::new_name wc_dedupe::import_name", "the name of a rename and that of an import: records of two types"),
     ("wc_read::func_value wc_read::global_value", "one for each kind of item, at its types"),
     ("wc_read::table_value wc_read::memory_value", "one for each kind of item, at its types"),
@@ -65,11 +79,9 @@ ALIKE = [
     ("wc_selection::text_of wcwhy_command::text_of", "the bytes of a text, in crates that don't cite each other"),
     ("wc_validate::core_import wc_validate::imported_function", "records of two types: of any import, of a function's"),
     ("wc_resolve::item_function wc_names::as_function", "an item that is a function: in a function's place in the one, under a name in the other"),
+    ("wcwhy_command::is_alike wcplan_command::is_alike", "each over the `unversioned_text` that it has: its own in the one, that of wc_selection in the other"),
     ("wc_encoder::IsExported wc_selection::IsKeyOf", "a key of some entries: of a world's exports in the one, of its imports too in the other"),
 ]
-
-# Two programs that read arguments in one form, which no crate has for both: their definitions of it may be alike.
-READERS = {"wcwhy_command", "wcplan_command"}
 
 # Lines
 
@@ -149,6 +161,28 @@ def imported(text):
     return names
 
 
+def bound_in(text):
+    """The names that a text binds: by `λ x.`, and in `(x y : T)` and `{x : T}`."""
+    texts = [*re.findall(r"λ ([^.]*)\.", text), *re.findall(r"[({]([\w' ]+) : ", text)]
+    return {word for it in texts for word in re.findall(r"[\w']+", it)}
+
+
+def words_of(text, bound, names, own=""):
+    """The words of a text: what is bound in it is called alike wherever it is bound in the same order; what is imported has
+    the name that it has where it comes from; and its own name is a point."""
+    # the point after what is bound is none of a field
+    variables, found, before, words = {}, [], "", WORD.findall(re.sub(r"\.(?=\s)", " ⋅ ", text))
+    for word, after in zip(words, words[1:] + [""]):
+        is_field = before == "." or before in ("{", ";") and after == "="
+        if word in bound and not is_field:
+            word = variables.setdefault(word, "v%d" % len(variables))
+        elif not is_field:
+            word = "·" if own and word == own else names.get(word, word)
+        found.append(word)
+        before = word
+    return tuple(found)
+
+
 class Definition:
     """A definition: its type, and its body, as words, with its own name and its variables made alike."""
 
@@ -157,22 +191,13 @@ class Definition:
         self.crate = path.relative_to(TOP / "crates").parts[0]
         # what is bound on the left of `=`, by `λ x.`, and in `(x : T)`
         lefts = [line.split(" = ")[0].removesuffix(" =") for line in body if line.startswith(name + " ")]
-        texts = [*lefts, *re.findall(r"λ ([^.]*)\.", " ".join(body)), *re.findall(r"[({]([\w' ]+) : ", signature + " ".join(body))]
-        self.bound = {word for text in texts for word in re.findall(r"[\w']+", text)} - known - set(names) - {name}
-        self.type = self.words(signature.partition(name)[2], names)
-        self.key = kind, self.words(" ".join(body), names)
+        bound = {word for text in lefts for word in re.findall(r"[\w']+", text)} | bound_in(signature + " ".join(body))
+        self.bound = bound - known - set(names) - {name}
+        self.type = words_of(signature.partition(name)[2], self.bound, names, name)
+        self.key = kind, words_of(" ".join(body), self.bound, names, name)
 
-    def words(self, text, names):
-        variables, found, before, words = {}, [], "", WORD.findall(text)
-        for word, after in zip(words, words[1:] + [""]):
-            is_field = before == "." or before in ("{", ";") and after == "="
-            if word in self.bound and not is_field:
-                word = variables.setdefault(word, "v%d" % len(variables))
-            elif not is_field:
-                word = "·" if word == self.name else names.get(word, word)
-            found.append(word)
-            before = word
-        return tuple(found)
+    def shown(self):
+        return " ".join(self.key[1])[:200]
 
 
 def definitions(crate):
@@ -201,6 +226,100 @@ def definitions(crate):
             at += 1
 
 
+# Statements
+
+STATEMENT = re.compile(r"( *)((?:pub |abbrev |unfoldable |lemma )*)([^\s:]+) : (.*)")
+
+
+class Statement:
+    """What a lemma states, as words, with its variables made alike; in a section, after what the section has."""
+
+    def __init__(self, crate, path, name, text, names):
+        self.crate, self.path, self.name = crate, path, name
+        self.key = words_of(text, bound_in(text) - set(names) - {name}, names)
+
+    def shown(self):
+        return " ".join(self.key)[:200]
+
+
+def statements(crate):
+    """The lemmas of a crate, in the files of its proofs that have lemmas."""
+    for path in files_of(crate, "proofs", "Lemmas.antt"):
+        text = path.read_text(encoding="utf-8")
+        names, section = imported(text), ""
+        for lines in plain_parts(text):
+            head = re.match(r"module _ (.*?)(?: where)?$", lines[0])
+            section, indent = (" ".join(lines).partition("where")[0].removeprefix("module _"), 2) if head else ("", 0)
+            if lines[0].startswith(("use ", "mod ", "pub use ", "pub mod ")):
+                continue
+            at = 0
+            while at < len(lines):
+                found = STATEMENT.match(lines[at])
+                at += 1
+                if found and len(found[1]) == indent:
+                    stated = found[4]
+                    while at < len(lines) and len(lines[at]) - len(lines[at].lstrip()) > indent:
+                        stated += " " + lines[at].strip()
+                        at += 1
+                    # what has a type that states nothing is a definition of the file's own
+                    if not found[3][0].isupper() and re.search("[→≡≢<≤↔]", stated) and not stated.endswith("Type 0"):
+                        yield Statement(crate, path, found[3], section + " → " + stated, names)
+
+
+def stated_twice(crates):
+    """The lemmas that state one thing, in groups, by what is stored of a group: a sum of what they state."""
+    return grouped(it for crate in crates for it in statements(crate) if len(it.key) >= LEAST_STATEMENT)
+
+
+def grouped(its):
+    """Those that are equal, in groups of two and more, by their sums."""
+    groups = collections.defaultdict(list)
+    for it in its:
+        groups[sum_of(it.key)].append(it)
+    return {key: its for key, its in groups.items() if len(its) > 1}
+
+
+def sum_of(words):
+    return hashlib.sha256(" ".join(words).encode()).hexdigest()[:12]
+
+
+def defined_twice(crates):
+    """The definitions that have one body, in groups, by their sums, but for those of ALIKE; and which entries there fit."""
+    groups, used = {}, set()
+    for its in alike([it for crate in crates for it in definitions(crate)]):
+        names = {"%s::%s" % (it.crate, it.name) for it in its}
+        reasons = [n for n, (of, _) in enumerate(ALIKE) if names <= set(of.split())]
+        used |= {("alike", n) for n in reasons}
+        if not reasons:
+            groups[sum_of((*its[0].key[1], *sorted({" ".join(it.type) for it in its})))] = its
+    return groups, used
+
+
+def stored():
+    """How many copies of each there may be, by its sum."""
+    lines = [line.split() for line in STORE.read_text(encoding="utf-8").splitlines() if line[:1] != "#"]
+    return {key: int(count) for key, count, *_ in lines}
+
+
+def compare(groups, may, shows_all):
+    """Prints which groups have more copies than are stored; how many."""
+    wrong = 0
+    for key, its in groups.items():
+        is_more = len(its) > may.get(key, 1)
+        wrong += is_more
+        if is_more or shows_all:
+            where = "; ".join("%s::%s (%s)" % (it.crate, it.name, it.path.relative_to(TOP / "crates" / it.crate)) for it in its)
+            print("%d times, %d stored: %s: %s" % (len(its), may.get(key, 1), where, its[0].shown()))
+    return wrong
+
+
+def shrink(groups, may):
+    """Stores fewer copies where there are fewer; none more."""
+    lines = ["%s %d %s\n" % (key, min(len(its), may[key]), " ".join("%s::%s" % (it.crate, it.name) for it in its))
+             for key, its in groups.items() if key in may]
+    STORE.write_text(STORED_HEAD + "".join(sorted(lines, key=lambda line: line.split()[2])), encoding="utf-8")
+
+
 def alike(found):
     """The definitions that have one body, in groups: those of one type, where they are of different crates, or else long."""
     groups, kept = collections.defaultdict(list), []
@@ -221,10 +340,15 @@ def alike(found):
 def main():
     parser = argparse.ArgumentParser(description=__doc__, formatter_class=argparse.RawDescriptionHelpFormatter)
     parser.add_argument("--all", action="store_true")
+    parser.add_argument("--shrink", action="store_true")
     parser.add_argument("crates", nargs="*", metavar="CRATE")
     given = parser.parse_args()
-    chosen = given.crates or product_crates()
-    found, used = 0, set()
+    chosen, every = given.crates or product_crates(), given.crates or list(used_by_crates())
+    stated, (defined, used) = stated_twice(every), defined_twice(every)
+    if given.shrink and not given.crates:
+        shrink({**stated, **defined}, stored())
+    may = stored()
+    found = compare(stated, may, given.all) + compare(defined, may, given.all)
     paths = [path for crate in chosen for path in files_of(crate, "src", ".rt") + files_of(crate, "specs", ".antt")]
     show = lambda path: path.relative_to(TOP / "crates")
     for text, places in matches({path: counted(path) for path in paths}):
@@ -234,23 +358,17 @@ def main():
         found += not reasons
         if given.all or not reasons:
             print("%d lines: %s%s" % (len(text), where, "; left out: " + BOILERPLATE[reasons[0]][1] if reasons else ""))
-    for its in alike([it for crate in chosen for it in definitions(crate)]):
-        names = {"%s::%s" % (it.crate, it.name) for it in its}
-        reasons = [n for n, (of, _) in enumerate(ALIKE) if names <= set(of.split())]
-        used |= {("alike", n) for n in reasons}
-        if {it.crate for it in its} == READERS and not given.all:
-            continue
-        found += not reasons
-        if given.all or not reasons:
-            same = "" if len({it.type for it in its}) == 1 else " (other types)"
-            where = ", ".join("%s (%s)" % ("%s::%s" % (it.crate, it.name), show(it.path)) for it in its)
-            print("%s of %d words%s: %s%s" % (its[0].kind, len(its[0].key[1]), same, where, "; left out: " + ALIKE[reasons[0]][1] if reasons else ""))
     stale = [("lines", n) for n in range(len(BOILERPLATE))] + [("alike", n) for n in range(len(ALIKE))]
     for kind, n in stale if not given.crates else []:
         if (kind, n) not in used:
             print("fits nothing any more: %s" % (BOILERPLATE if kind == "lines" else ALIKE)[n][0])
             found += 1
-    print("%d found in %d crates" % (found, len(chosen)))
+    groups = {**stated, **defined}
+    for key, count in may.items() if not given.crates else []:
+        if len(groups.get(key, [])) < count:
+            print("%s stands %d times, %d stored: checks/duplicates.py --shrink" % (key, len(groups.get(key, [])), count))
+            found += 1
+    print("%d found in %d crates" % (found, len(every)))
     return 1 if found else 0
 
 

@@ -14,7 +14,7 @@ import pathlib
 import sys
 
 sys.path += [str(pathlib.Path(__file__).resolve().parent.parent / part) for part in ("tools", "edits")]
-from batches import KINDS, Edit, known
+from batches import KINDS, Edit, Sources, known
 from repository import TOP, edits_of, put_between, texts_of, used_by_crates
 
 PAGE = TOP / "docs" / "TRIED.md"
@@ -42,8 +42,8 @@ def main():
     wrong = [f"edits/{path.name}: no crate" for path in (TOP / "edits").iterdir()
              if path.is_dir() and path.name not in crates and path.name != "__pycache__"]
     for crate in crates:
-        texts, names = texts_of(crate), set()
-        edits[crate] = [(Edit(name, path.read_text(encoding="utf-8"), texts), path) for name, path in edits_of(crate)]
+        sources, names = Sources(texts_of(crate)), set()
+        edits[crate] = [(Edit(name, path.read_text(encoding="utf-8"), sources), path) for name, path in edits_of(crate)]
         for edit, path in edits[crate]:
             why = edit.fault or ("another edit has its name" if edit.name in names else "") or ("" if "-" in edit.name else "its name has no hyphen")
             wrong += [f"{path.relative_to(TOP)}: {why}"] if why else []

@@ -53,10 +53,9 @@ WHOLE = {
     "validate_adapter_module", "resolve_build", "encoder_build", "live_types", "document", "wcplan", "wcplan_mute",
 }
 
-# Calls that run wcplan or wcwhy. Where memory runs out for what a fault is about, that is the line under the fault's; where
-# it runs out in the store of files, which is the row's, a directory can't be made, or a file can't be read or written.
+# Calls that run wcplan or wcwhy. Where memory runs out in the store of files, which is the row's, a directory can't be made, or
+# a file can't be read or written.
 PROGRAMS = {"wcplan", "wcplan_failing", "wcplan_mute", "wcwhy", "wcwhy_failing"}
-NO_PLACE = "error   out of memory for what it is about"
 STORE = ("error wcplan: cannot make directory ", "error wcplan: cannot write ", "error wcwhy: cannot read ")
 # How a line ends that says that memory ran out, also where it is JSON.
 ENDED = re.compile(r'out of memory(","place":null\})?$')
@@ -173,8 +172,7 @@ def is_memory(row, lines):
         return False
     if (row.call, actual) in UNCOUNTED:
         return True
-    if row.call in PROGRAMS and (actual[0].startswith(STORE) or NO_PLACE in actual and [line for line in actual if line != NO_PLACE]
-                                 == [line for line in expected if not line.startswith("error   ")]):
+    if row.call in PROGRAMS and actual[0].startswith(STORE):
         return True
     for place, line in enumerate(actual):
         if ENDED.search(line):

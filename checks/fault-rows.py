@@ -6,7 +6,8 @@ shows it, as the tables of docs/ROWS.md.
     fault-rows.py --write    writes them into docs/ROWS.md
     fault-rows.py --check    compares them with those of docs/ROWS.md; status 1 where they differ
 
-The faults and their texts are those of the definitions in specs/ (tools/fault_texts.py). A row reaches a fault where it wants the fault's text of
+The faults and their texts are those of the definitions in specs/ (tools/fault_texts.py); the text of a variant for `Display`,
+`#[error("..")]`, has to be the same. A row reaches a fault where it wants the fault's text of
 a call that answers faults of this enum (CALLS), or that of another fault which carries it. No row can reach those of BARRED,
 and Memory is reached where an allocation fails (failing-allocations.py). The faults of the enums of PLACED have places, but
 for those of UNPLACED; a row shows one where it wants it after the fault. The status is 1 where any other fault has no row.
@@ -18,7 +19,7 @@ import sys
 
 sys.path.append(str(pathlib.Path(__file__).resolve().parent.parent / "tools"))
 from fault_texts import texts_of_faults
-from repository import TOP, libraries, put_between, row_files
+from repository import TOP, files_of, libraries, put_between, row_files
 
 PAGE = TOP / "docs" / "ROWS.md"
 MARKS = {name: ("<!-- fault-rows.py: %s begin -->\n" % name, "<!-- fault-rows.py: %s end -->\n" % name)
@@ -26,8 +27,8 @@ MARKS = {name: ("<!-- fault-rows.py: %s begin -->\n" % name, "<!-- fault-rows.py
 
 # The enums of faults, and the calls that answer them.
 ANSWERED = {
-    "ReadFault": "frames, read_imports, read_module, read_body, read_init, example exports_memory, function_names_of",
-    "DedupeFault": "dedupe, dedupe_owned, example original_name",
+    "ReadFault": "frames, read_imports, read_module, explain_read, read_body, read_init, example exports_memory, function_names_of",
+    "DedupeFault": "dedupe, dedupe_owned, explain_dedupe, example original_name",
     "ResolveFault": "resolve_build",
     "JsonFault": "document",
     "EncoderFault": "encoder_build, example encoder_for",
@@ -38,8 +39,8 @@ ANSWERED = {
         "explain_trim, liveness_counted, trim, trim_for, unfolding_trimmed, why, why_imports, call_chain, example "
         "reaches_memory, example trim_both",
     "WorldFault": "component_world, example can_use_slot_1, example summary",
-    "PlanFault": "plan, plan_failing, plan_without_lowerings, example printed_plan",
-    "ToolFault": "execute, execute_failing, each_put_failing",
+    "PlanFault": "plan, plan_explain, plan_failing, plan_without_lowerings, example printed_plan",
+    "CommandFault": "execute, execute_failing, each_put_failing",
     "PutFailed": "writer_sink",
     "RunFault": "run_program",
     "Usage": "parse",
@@ -66,8 +67,9 @@ STATED = {
 # The calls that list the texts of all faults of an enum.
 LISTS = {
     "read_faults": "ReadFault", "write_faults": "WriteFault", "dedupe_faults": "DedupeFault", "gc_faults": "GcFault",
-    "tool_faults": "ToolFault", "resolve_faults": "ResolveFault", "encoder_faults": "EncoderFault",
-    "validate_faults": "ValidateFault", "world_faults": "WorldFault", "plan_faults": "PlanFault",
+    "command_faults": "CommandFault", "resolve_faults": "ResolveFault", "encoder_faults": "EncoderFault", "json_faults": "JsonFault",
+    "validate_faults": "ValidateFault", "world_faults": "WorldFault", "plan_faults": "PlanFault", "request_faults": "RequestFault",
+    "selection_faults": "SelectionFault", "message_faults": "MessageFault",
 }
 # The faults that no such call can make.
 UNLISTED = {("ValidateFault", "AdapterModuleDidNotExport")}
@@ -81,19 +83,20 @@ BARRED = listed({
 })
 FAILED = "where an allocation fails"
 # The enums whose faults have places.
-PLACED = ("ResolveFault", "ValidateFault", "GcFault", "WorldFault", "PlanFault")
+PLACED = ("ReadFault", "DedupeFault", "ResolveFault", "ValidateFault", "GcFault", "WorldFault", "PlanFault")
 # Which of their faults have none, and why.
 UNPLACED = listed({
     "an allocation failed":
-        "ResolveFault::Memory ValidateFault::Memory GcFault::Memory WorldFault::Memory PlanFault::Memory",
-    "it is about the module as a whole": "ValidateFault::Read ValidateFault::NotAModule",
-    "it is answered for no module": "ValidateFault::WholeDiffers ValidateFault::Mixed",
-    "it is about the adapter as a whole": "GcFault::Read GcFault::TooLarge",
+        "ReadFault::Memory DedupeFault::Memory ResolveFault::Memory ValidateFault::Memory GcFault::Memory WorldFault::Memory "
+        "PlanFault::Memory",
+    "it is answered for no module": "ReadFault::BadNesting ValidateFault::WholeDiffers ValidateFault::Mixed",
+    "no row has so many imports": "ReadFault::TooLarge",
+    "it is about the adapter as a whole": "GcFault::TooLarge",
+    "it is about what is made of the module": "DedupeFault::TooLarge",
     "it has the export's name": "GcFault::MissingExport",
     "it is about all that is live":
         "GcFault::SeveralNamed GcFault::LiveTable GcFault::SeveralMemories GcFault::LocalMemory GcFault::ReallocType "
         "GcFault::ReallocMemory",
-    "it has the adapter's name and both sizes": "WorldFault::PageSize",
     "it has that of the world's fault": "PlanFault::World",
     "it is about the sink": "PlanFault::Output",
 })
@@ -163,7 +166,7 @@ def texts(call, lines):
             yield line[len("printed wctrim: "):]
         elif call in ("wcwhy", "wcwhy_failing") and line.startswith("error wcwhy: "):
             yield line[len("error wcwhy: "):]
-        elif call in ("wcplan", "wcplan_failing") and line.startswith("error wcplan: ") and "status 2" not in lines:
+        elif call in ("wcplan", "wcplan_failing") and re.match("error wcplan: (?!warning: )", line) and "status 2" not in lines:
             yield re.sub(r"(PageSize) `.*`: page size \d+, main module's \d+$", r"\1", line[len("error wcplan: "):])
         elif call == "parse_wcplan" and line in ("help", "version"):
             yield line
@@ -183,7 +186,8 @@ def has_place(words, lines):
         return any(line.startswith("error   ") for line in lines)
     if words[0] in ("plan", "plan_failing", "plan_without_lowerings"):
         return lines[1:2] != [] and lines[1].startswith("of ")
-    return (words[0] == "explain_trim" or "explain" in words[1:]) and len(lines) > 1 and lines[-1] != "none"
+    return (words[0] in ("explain_read", "explain_dedupe", "explain_trim", "plan_explain") or "explain" in words[1:]) \
+        and len(lines) > 1 and lines[-1] != "none"
 
 
 def reached(known):
@@ -262,13 +266,32 @@ def place_table(known, places):
     return "".join(lines), wrong
 
 
+DERIVED = re.compile(r'#\[error\("((?:[^"\\]|\\.)*)"\)\]\n(?:\s*(?:///|#)[^\n]*\n)*\s*(\w+)')
+
+
+def unlike():
+    """Lines on variants whose text for `Display` (`#[error("..")]`) is none of those that the definitions give."""
+    texts = {crate: {} for _, crate in texts_of_faults()}
+    for (enum, crate), variants in texts_of_faults().items():
+        for variant, shown, _ in variants:
+            texts[crate].setdefault((enum, variant), set()).add(shown)
+    for crate in texts:
+        for path in files_of(crate, "src", ".rt"):
+            for enum, body in re.findall(r"^pub(?:\([^)]*\))? enum (\w+)[^{]*\{\n(.*?)^\}", path.read_text(encoding="utf-8"), re.M | re.S):
+                for shown, variant in DERIVED.findall(body):
+                    known = texts[crate].get((enum, variant))
+                    # what is carried has the whole text itself
+                    if known and shown != "{0}" and shown.replace('\\"', '"') not in known:
+                        yield f"{enum}::{variant} of {crate}: Display has `{shown}`, and FaultText {', '.join(sorted(known))}"
+
+
 def tables():
     """The tables by their names, and lines on what is wrong: faults that have no row, and texts that are those of no
     fault."""
     known = faults()
     found, places, wrong = reached(known)
     made = {"faults": fault_table(known, found), "places": place_table(known, places)}
-    wrong += unlisted(known)
+    wrong += [*unlisted(known), *unlike()]
     return {name: text for name, (text, _) in made.items()}, wrong + [line for _, lines in made.values() for line in lines]
 
 

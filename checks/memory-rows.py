@@ -1,14 +1,21 @@
 #!/usr/bin/env python3
-"""Checks that each public function of the libraries that can run out of memory is called by a row of tests.
+"""Checks that rows of the tests reach each public function of the libraries that can run out of memory, and that each public
+function is called at all.
 
-    memory-rows.py
+    memory-rows.py [--from FUNCTION]
 
 Such a function answers AllocError or a fault, and could be proved if it answered Memory always; a row with ample memory
-that calls it refuses that. REACHED names a call of the rows for each; that the call reaches the function was seen by
-breakpoints in a build of the program of rows without its proof. Here it is compared with the sources and the rows: each
-function is named, nothing else is, and each call has a row whose answer begins with no fault. Those of UNREACHED have no
-row. Also, `args` of the program of rows has each file of rows, and its `stdout` how many rows are in each. Prints what is
-missing, and how many functions there are; the status is 1 where something is.
+that calls it refuses that. Which functions the program of rows reaches is found in the sources: from its `main`, each
+function that the text of one names, then what these name. A name means the function of its file's crate, or of the crate that
+the file has it from; after a type's name a function of that type or trait; after a point any method of that name. So what is
+not reached is called by no row; that a row goes through a call which is in the text, it doesn't say. Besides, each call of
+rows has a row whose answer begins with no fault (FAULTS names the others). UNREACHED names what no row reaches, and why.
+
+Each public function of the libraries is also named by something: by the rows, by a program, or by a call from C; laws aside,
+which do nothing. And `args` of the program of rows has each file of rows, and its `stdout` how many rows are in each.
+
+Prints what is missing, and how many functions there are; the status is 1 where something is. With --from, prints by which
+functions rows reach one, as `wc_gc::run`.
 """
 import argparse
 import pathlib
@@ -16,102 +23,156 @@ import re
 import sys
 
 sys.path.append(str(pathlib.Path(__file__).resolve().parent.parent / "tools"))
-from repository import exports_of_crate, files_of, functions_of, libraries, read, row_files
+from repository import exports_of_crate, files_of, functions_of, libraries, read, row_files, used_by_crates
 
-# Of each library the functions, and the call of rows that reaches each, where it has another name.
-REACHED = {
-    "wc_calls":
-        "dedupe=dedupe_into plan=plan_into trim=trim_into validate=validate_into why=why_into world=world_into",
-    "wc_dedupe": "ModuleImportMap::new=dedupe",
-    "wc_encoder": "ComponentEncoder::build=encoder_build",
-    "wc_adapters": "Item::clone=item_clone MainOrAdapter::clone=which_clone",
-    "wc_gc":
-        "ImportChains::chain=why_imports LiveSet::insert=bit_vec LiveSet::numbers_below=range_set LiveSet::ranks=trim "
-        "LiveSets::insert=liveness_counted RangeSet::extend=range_set allocate_stack_via_realloc explain=wcplan "
-        "liveness_counted realloc_via_memory_grow run=trim why why_imports",
-    "wc_json":
-        "FromJson::from_json=document at_member=document document_from_json=document escaped=wcplan "
-        "fault_here=document message_from_json=world_into optional_member=document quoted=document "
-        "required_member=document value_from_json=document",
-    "wc_maps": "OrderedMap::insert=read_module",
-    "wc_names":
-        "ExportNames::function=match_wit_export Import::clone=env_import InterfaceNames::interface=interface_names "
-        "NameIndexes::export_names=validated_exports NameIndexes::interface_names NameMangling::match_wit_export "
-        "NameMangling::match_wit_resource_dtor NameMangling::module_to_interface NameMangling::payload_intrinsic "
-        "NameMangling::payload_intrinsic_in_world=classify PayloadInfo::clone=payload_infos "
-        "PayloadLookupContext::function=payload_lookup PayloadLookupContext::key_of=payload_lookup "
-        "PayloadLookupContext::named_function=classify PayloadLookupContext::resource=payload_lookup "
-        "PayloadType::clone=payload_infos",
-    "wc_plan": "plan plan_encoder=plan write_plan=plan",
-    "wcplan_command":
-        "ProgramFault::details=wcplan ProgramFault::text=wcplan WrongArgument::text=parse_wcplan run_command=wcplan",
-    "wc_read":
-        "function_names=function_names_of FuncType::clone=func_type Operators::locals=trim "
-        "Operators::new=liveness_counted Operators::next=liveness_counted frames read_body read_imports read_init "
-        "read_module",
-    "wc_record":
-        "function_to_json=plan_into import_chains_to_json=why_into "
-        "page_sizes_to_json=world_into part_to_json=world_into plan_to_json=plan_json planned_world_to_json=wcplan "
-        "trim_place_to_json=trim_into world_place_to_json=plan_into world_to_json=world_into",
-    "wc_resolve":
-        "Function::clone=function_clone Function::find_futures_and_streams Function::legacy_core_export_name "
-        "LiveTypes::add_func=live_types LiveTypes::add_type=live_types LiveTypes::add_type_id=live_types "
-        "LiveTypes::add_world_item=live_types LiveTypes::add_world_item_beside=live_types "
-        "PackageName::clone=package_name_clone PackageName::version_compat_track "
-        "Resolve::build=resolve_build Resolve::build_explained=wcplan Resolve::canonicalized_id_of "
-        "Resolve::external_id_value Resolve::id_of Resolve::interface_direct_deps Resolve::name_world_key "
-        "Resolve::wasm_signature Resolve::wasm_signature_at=classify WorldKey::clone=key_clone explain_parts=wcplan",
-    "wc_selection":
-        "AdapterKeys::new=wcplan AdapterKeys::required=wcplan KeyIndex::keys_under=world_into KeyIndex::new=world_into "
-        "MainModule::new=wcplan check_keys=wcplan export_keys=wcplan first_missing=wcplan first_repeated=wcplan "
-        "indexed_keys=world_into no_task_hook=wcplan request_keys=wcplan required_keys=wcplan select_world=wcplan "
-        "world_name=wcplan",
-    "wc_texts": "text_of=wcplan",
-    "wc_ways": "ways_graph=wcplan ways_json=wcplan ways_text=wcplan",
-    "wcwhy_command":
-        "WhyFault::text=wcwhy WrongArgument::text=wcwhy graph_text=wcwhy item_text=wcwhy push_items=wcwhy "
-        "run_command=wcwhy word=wcwhy",
-    "wctrim_command": "execute run=run_program run_command=run_program",
-    "wc_validate":
-        "AdapterModuleDidNotExport::clone=validate_adapter_module ImportMap::required_from_adapter=validate_module "
-        "WorldInterfaces::new=validate_adapter_module WorldInterfaces::validate_adapter_module "
-        "WorldInterfaces::validate_adapter_module_explained=validate_adapter_module explain_adapter_module=wcplan "
-        "explain_module=wcplan validate_adapter_module validate_adapter_module_explained=validate_adapter_module "
-        "validate_module validate_module_explained=validate_module",
-    "wc_world":
-        "ComponentWorld::new=component_world ComponentWorld::new_explained=component_world "
-        "ImportOptions::for_import=plain_options adapter_refusal=component_world explain=wcplan "
-        "main_refusal=component_world required_exports=component_world",
-    "wc_write":
-        "BodyText::put=write_module append_import_section append_locals=allocate_stack_via_realloc "
-        "append_operator=allocate_stack_via_realloc append_raw_section raw_section write_body write_import_section "
-        "write_module write_module_of=write_module",
+ROWS = "wc_tests"
+# What no row reaches, and why.
+UNREACHED = {"wc_calls::planned_world": "tests of the Rust crate call it"}
+# Calls of rows that have no answer but a fault, and why.
+FAULTS = {
+    "no_such_call": "no call has this name",
+    "plan_without_lowerings": "the plan's fault is what it is for",
+    "plan_failing": "the sink fails",
 }
-# The one that no row reaches: tests of the Rust crate call it.
-UNREACHED = {"wc_calls": "planned_world"}
+# Functions of traits that are called without their names.
+IMPLIED = ("fmt", "from", "drop", "clone", "eq", "hash", "cmp", "next", "default")
 # Functions whose status says that memory ran out.
 OTHERS = {"wctrim_command": "run", "wc_calls": "dedupe plan planned_world trim validate why world"}
+WORD = re.compile(r"(?:((?:\w+::)+)|(\.\s*))?\b([a-z_]\w*)\b(?!\s*!)")
+
+
+class Node:
+    """A function, or what is beside the functions of a file: its crate, its file, its type and trait, its name, and its text."""
+
+    def __init__(self, crate, path, owner, trait, name, text):
+        self.crate, self.path, self.owner, self.trait, self.name, self.text = crate, path, owner, trait, name, text
+
+    def __str__(self):
+        return "::".join(word for word in (self.crate, self.owner, self.name) if word)
+
+
+def imports_of(crate, text):
+    """The crates and the names there of what a file has from others, by the names here; for modules and functions alike."""
+    found = {}
+
+    def read_tree(path, tree):
+        depth, part, parts = 0, "", []
+        for sign in tree + ",":
+            depth += (sign == "{") - (sign == "}")
+            if sign == "," and not depth:
+                parts.append(part.strip())
+                part = ""
+            else:
+                part += sign
+        for part in filter(None, parts):
+            head, braced, inner = part.partition("{")
+            if braced:
+                read_tree(path + [it for it in head.split("::") if it], inner.rpartition("}")[0])
+                continue
+            real, _, here = part.partition(" as ")
+            words = path + real.split("::")
+            found[here.strip() or words[-1].strip()] = (crate if words[0] in ("crate", "super", "self") else words[0], words[-1].strip())
+
+    for tree in re.findall(r"^(?:pub(?:\([^)]*\))? )?use ([^;]*);", text, re.M):
+        read_tree([], " ".join(tree.split()))
+    return found
+
+
+def nodes_of(crate):
+    """The functions of a crate, and what is beside them."""
+    for path in files_of(crate, "src", ".rt"):
+        text = path.read_text(encoding="utf-8")
+        rest, at = "", 0
+        for it in functions_of(str(path), text):
+            rest += text[at : it.begins]
+            at = max(at, it.ends)
+            if it.has_body or it.in_trait:
+                yield Node(crate, path, it.owner, it.trait, it.name, plain(text[it.begins : it.ends]))
+        rest = re.sub(r"^(?:pub(?:\([^)]*\))? )?(?:ghost )?(?:use|mod) [^;]*;", "", rest + text[at:], flags=re.M)
+        yield Node(crate, path, "", "", "", plain(rest))
+
+
+def plain(text):
+    """A text without comments and quoted texts, and without clauses."""
+    text = re.sub(r"\n\s*(?:requires|ensures)\b[^\n]*(?:\n(?! *\{\n| *(?:requires|ensures)\b)[^\n]*)*(?=\n *\{\n)", "", text)
+    return re.sub(r'"(?:[^"\\]|\\.)*"', '""', re.sub(r"//.*|^ *ghost .*", "", text, flags=re.M))
+
+
+class Graph:
+    """The functions of crates, and which of them the text of one names."""
+
+    def __init__(self, crates):
+        self.nodes = [it for crate in crates for it in nodes_of(crate)]
+        self.free, self.methods, self.imports, self.beside = {}, {}, {}, {}
+        for it in self.nodes:
+            (self.methods if it.owner else self.free).setdefault(it.name, []).append(it)
+            if not it.name:
+                self.beside[it.path] = it
+                self.imports[it.path] = imports_of(it.crate, it.path.read_text(encoding="utf-8"))
+
+    def named(self, node):
+        """The functions that the text of one names."""
+        imports = self.imports[node.path]
+        yield self.beside[node.path]
+        for path, dot, name in WORD.findall(node.text):
+            if dot:
+                yield from self.methods.get(name, [])
+                continue
+            words = path.split("::")[:-1]
+            last = words[-1] if words else ""
+            if last[:1].isupper():
+                of = imports.get(last, ("", last))[1]
+                its = [it for it in self.methods.get(name, []) if of in (it.owner, it.trait)]
+                its = its or (self.methods.get(name, []) if last == "Self" or len(last) == 1 else [])
+                yield from its
+                continue
+            crate, real = imports.get(words[0] if words else name, (node.crate, words[0] if words else name))
+            crate = words[0] if words and words[0] in CRATES else crate
+            module = (real if len(words) == 1 else last) if words else ""
+            for it in self.free.get(real if not words else name, []):
+                if it.crate == crate and (not module or module == crate or module in ("crate", "self", "super") or it.path.stem == module):
+                    yield it
+
+    def reached(self, roots):
+        """What is reached, and of each by what."""
+        found, todo = {it: None for it in roots}, list(roots)
+        while todo:
+            node = todo.pop()
+            for it in self.named(node):
+                if it not in found:
+                    found[it] = node
+                    todo.append(it)
+        return found
+
+
+CRATES = used_by_crates()
+# the body of a function that does nothing
+LAW = re.compile(r"\{?\s*(let _ = [\w.&]*;)?\s*\}?")
 
 
 def functions():
-    """The public functions that answer AllocError or a fault, with their crates and types, and those of OTHERS."""
+    """The public functions of the libraries, with their crates and types but without laws; and whether each answers AllocError
+    or a fault, or is one of OTHERS."""
     for crate in libraries():
         exported = exports_of_crate(crate)
         for path in files_of(crate, "src", ".rt"):
-            for it in functions_of(str(path), path.read_text(encoding="utf-8")):
+            text = path.read_text(encoding="utf-8")
+            for it in functions_of(str(path), text):
                 answer = re.split(r"\n\s*(?:requires|ensures)\b", it.text)[0].rpartition("->")[2]
                 can_fail = re.search("AllocError|Fault|Refused", answer) or it.name in OTHERS.get(crate, "").split()
-                if can_fail and (it.is_public or it.in_trait == "pub trait") and (it.owner or it.name) in exported:
-                    yield "::".join(word for word in (crate, it.owner, it.name) if word)
+                is_law = it.has_body and LAW.fullmatch(text[it.opens : it.ends].strip())
+                if not is_law and (it.is_public or it.in_trait == "pub trait") and (it.owner or it.name) in exported:
+                    yield "::".join(word for word in (crate, it.owner, it.name) if word), bool(can_fail)
 
 
-def answered_calls():
-    """The calls of rows whose answer begins with no fault."""
+def calls_without_answer():
+    """The calls of rows of which each answer begins with a fault."""
+    answers = {}
     for path in row_files():
-        for row in re.findall(r"^call (\S+)[^\n]*\n((?:(?!row |fixture |call ).*\n)*)", path.read_text(), re.M):
-            answer = re.search(r"^out (.*)", row[1], re.M)
-            if answer and not answer.group(1).startswith(("fault", "bad row")):
-                yield row[0]
+        for call, row in re.findall(r"^call (\S+)[^\n]*\n((?:(?!row |fixture |call ).*\n)*)", path.read_text(encoding="utf-8"), re.M):
+            first = re.search(r"^out (.*)", row, re.M)
+            answers[call] = answers.get(call) or bool(first) and not first[1].startswith(("fault", "bad row"))
+    return [call for call, is_answered in answers.items() if not is_answered]
 
 
 def wrong_counts():
@@ -126,21 +187,30 @@ def wrong_counts():
 
 
 def main():
-    argparse.ArgumentParser(description=__doc__, formatter_class=argparse.RawDescriptionHelpFormatter).parse_args()
-    known, calls, wrong, reached = set(functions()), set(answered_calls()), [], {}
-    for crate, names in REACHED.items():
-        for name, _, call in (word.partition("=") for word in names.split()):
-            reached[crate + "::" + name] = call or name.split("::")[-1]
-    unreached = {crate + "::" + name for crate, names in UNREACHED.items() for name in names.split()}
-    for name in sorted(known - unreached):
-        if name not in reached:
-            wrong.append("no row reaches " + name)
-        elif reached[name] not in calls:
-            wrong.append("no row with ample memory calls " + reached[name])
-    wrong += ["no such function: " + name for name in sorted(set(reached) - known)] + list(wrong_counts())
+    parser = argparse.ArgumentParser(description=__doc__, formatter_class=argparse.RawDescriptionHelpFormatter)
+    parser.add_argument("--from", dest="of", metavar="FUNCTION")
+    given = parser.parse_args()
+    graph = Graph(list(CRATES))
+    found = graph.reached([it for it in graph.nodes if it.crate == ROWS and it.name == "main"])
+    # what is called without its name: texts of faults, for one
+    implied = [it for it in graph.nodes if it.trait and it.name in IMPLIED]
+    named = graph.reached([it for it in graph.nodes if it.name == "main" or it.crate == "nuigatre"] + implied)
+    if given.of:
+        for it in [it for it in found if str(it) == given.of]:
+            while it:
+                print(it, "in", it.path.relative_to(it.path.parents[3]))
+                it = found[it]
+        return
+    public = dict(functions())
+    known, reached = {name for name, can_fail in public.items() if can_fail}, set(map(str, found))
+    wrong = ["no row reaches " + name for name in sorted(known - reached - set(UNREACHED))]
+    wrong += ["nothing calls " + name for name in sorted(set(public) - set(map(str, named)))]
+    wrong += [f"UNREACHED has {name}, which " + ("a row reaches" if name in known else "is not there") for name in UNREACHED if name not in known - reached]
+    wrong += ["no row answers without a fault to " + call for call in calls_without_answer() if call not in FAULTS]
+    wrong += wrong_counts()
     for line in wrong:
         print(line)
-    print("%d functions" % len(known))
+    print("%d functions, %d of them can fail" % (len(public), len(known)))
     sys.exit(1 if wrong else 0)
 
 

@@ -14,6 +14,7 @@ import argparse
 import collections
 import pathlib
 import re
+import signal
 import sys
 
 sys.path.append(str(pathlib.Path(__file__).resolve().parent.parent / "tools"))
@@ -29,14 +30,13 @@ REASONS = {
         "wc_read/distinct wc_read/section_contents wc_resolve/canonical_ids wc_resolve/flattening wc_resolve/functions wc_resolve/validate/order "
         "wc_resolve/validate/type_test wc_resolve/walk wc_write/contents wc_write/module_sections wc_encoder/well_formed wc_names/payloads "
         "wc_names/standard wc_validate/exports/first_singles wc_validate/name_fault wc_validate/signatures wc_gc/assemble wc_gc/ranks "
-        "wc_world/import_map wc_plan/lowerings wc_calls/explained wc_ways/lines wc_ways/marks wc_ways/recorded",
+        "wc_world/import_map wc_plan/lowerings wc_ways/lines wc_ways/marks wc_ways/recorded",
     "what all parts of imports answer, and the kinds of these, are in `Functions` and `Kinds`":
         "wc_validate/imports/environment wc_validate/imports/root wc_validate/imports/scheme",
     "the stages of the program are in `Program`, in their order, what private functions answer in `Private/Runs`":
         "wcplan_command/documents wcplan_command/explained wcplan_command/inputs wcplan_command/outputs",
-    "a law, whose statement is beside the definition that it is of": "wcplan_command/laws",
     "named after what it defines: the parts of an encoder, arguments, texts of faults, what was put, what is found":
-        "wc_encoder/encoder nuigatre/lib wc_texts/fault_text wc_texts/pieces wc_texts/prefixes",
+        "wc_encoder/encoder nuigatre/lib wc_texts/fault_text wc_texts/pieces",
 }
 
 
@@ -81,6 +81,8 @@ def main():
     parser = argparse.ArgumentParser(description=__doc__, formatter_class=argparse.RawDescriptionHelpFormatter)
     parser.add_argument("--all", action="store_true")
     given = parser.parse_args()
+    # a reader that has read enough ends the script
+    signal.signal(signal.SIGPIPE, signal.SIG_DFL)
     reasons = {name: why for why, names in REASONS.items() for name in names.split()}
     used, wrong = set(), 0
     for crate in used_by_crates():

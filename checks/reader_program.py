@@ -60,7 +60,7 @@ def reader_program(is_unproved=None):
         sys.exit(f"{sys.argv[0]}: no rt on PATH: it builds the program (README.md says where it comes from)")
     make_repository(crates)
     if is_unproved:
-        words = ["--optimise", "--top", HOME, "--head", f"{sys.argv[0]}: compiling the reader without its proof"]
+        words = ["--top", HOME, "--head", f"{sys.argv[0]}: compiling the reader without its proof"]
         subprocess.run([TOP / "tools" / "unproved.py", *words, "reader", program], stdout=sys.stderr, check=True)
         return program
     print(f"{sys.argv[0]}: building the proved reader: minutes where the crates are proved, else an hour", file=sys.stderr)

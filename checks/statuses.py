@@ -158,21 +158,21 @@ class Trim(Checked):
     def check_refused_by_system(self):
         """Files that can't be read or written, though they are there."""
         for command, more in (("dedupe", []), ("trim", ["f"])):
-            for path in ("folder", "gone", "/proc/self/mem"):
-                self.check_fault([command, path, "out", *more], "wctrim: cannot read " + path)
-            for path in ("folder", "function/out", "/dev/full"):
-                self.check_fault([command, "function", path, *more], "wctrim: cannot write " + path)
-        self.check_fault(["scan", "folder"], "wctrim: cannot read folder")
-        self.check_fault(["scan", "gone"], "wctrim: cannot read gone")
-        self.check(["dedupe", "three", "/dev/full"], 1, LINES + "wctrim: cannot write /dev/full\n")
+            for path in ("folder: is a directory", "gone: not found", "/proc/self/mem"):
+                self.check_fault([command, path.partition(": ")[0], "out", *more], "wctrim: cannot read " + path)
+            for path in ("folder: is a directory", "function/out: not a directory", "/dev/full: no space left on device"):
+                self.check_fault([command, "function", path.partition(": ")[0], *more], "wctrim: cannot write " + path)
+        self.check_fault(["scan", "folder"], "wctrim: cannot read folder: is a directory")
+        self.check_fault(["scan", "gone"], "wctrim: cannot read gone: not found")
+        self.check(["dedupe", "three", "/dev/full"], 1, LINES + "wctrim: cannot write /dev/full: no space left on device\n")
         self.folder.chmod(0o777)
         (self.folder / "locked").chmod(0)
         for words in (["dedupe", "locked", "out"], ["trim", "locked", "out", "f"], ["scan", "locked"]):
             found = (*self.run(words, **USER)[:2], self.out.exists())
-            if found != (1, "wctrim: cannot read locked\n", False):
-                self.differs(words, found, "cannot read locked")
+            if found != (1, "wctrim: cannot read locked: permission denied\n", False):
+                self.differs(words, found, "cannot read locked: permission denied")
         (self.folder / "locked").chmod(0o444)
-        words, wanted = ["dedupe", "three", "locked"], (1, LINES + "wctrim: cannot write locked\n")
+        words, wanted = ["dedupe", "three", "locked"], (1, LINES + "wctrim: cannot write locked: permission denied\n")
         with self.unchanged(words):
             found = self.run(words, **USER)[:2]
         if found != wanted:
@@ -202,17 +202,17 @@ class Trim(Checked):
         self.check(["dedupe", "component", "out"], 0, "", FILES["component"])
         self.check(["scan", "three"], 0, "import a f func\n" * 3)
         self.check(["trim", "function", "out", "f"], 0, "", FILES["function"])
-        self.check(["dedupe", "three", "none/out"], 1, LINES + "wctrim: cannot write none/out\n")
+        self.check(["dedupe", "three", "none/out"], 1, LINES + "wctrim: cannot write none/out: not found\n")
         for words, fault in {
-            "dedupe none out": "cannot read none",
+            "dedupe none out": "cannot read none: not found",
             "dedupe text out": "Dedupe: Read: NotWasm",
             "dedupe cut out": "Dedupe: Read: Truncated",
             "scan component": "Read: Component",
             "scan text": "Read: NotWasm",
-            "scan none": "cannot read none",
+            "scan none": "cannot read none: not found",
             "scan cut": "Read: Truncated",
-            "trim none out f": "cannot read none",
-            "trim function none/out f": "cannot write none/out",
+            "trim none out f": "cannot read none: not found",
+            "trim function none/out f": "cannot write none/out: not found",
             "trim text out f": "Trim: Read: NotWasm",
             "trim component out f": "Trim: Read: Component",
             "trim cut out f": "Trim: Read: Truncated",
@@ -277,10 +277,10 @@ class Plan(Checked):
         self.check_written("made")
         # a directory that isn't there is made, with those that it is in
         self.check_written("new/deep")
-        self.check([*words, "--out", "text"], 1, "", "wcplan: cannot make directory text\n")
+        self.check([*words, "--out", "text"], 1, "", "wcplan: cannot make directory text: file exists\n")
         (self.folder / "made" / "old-notes.wasm").unlink()
         (self.folder / "made" / "old-notes.wasm").mkdir()
-        self.check([*words, "--out", "made"], 1, "", "wcplan: cannot write made/old-notes.wasm\n")
+        self.check([*words, "--out", "made"], 1, "", "wcplan: cannot write made/old-notes.wasm: is a directory\n")
         with open("/dev/full", "wb") as full:
             for each in (words, [*words, "--json"], [], ["--help"], ["-h"], ["--version"]):
                 said = '{"text":"cannot print","place":null}\n' if "--json" in each else "wcplan: cannot print\n"
@@ -309,7 +309,7 @@ class Plan(Checked):
         self.folder.chmod(0o755)
         closed.chmod(0o555)
         path = os.path.relpath(closed, self.folder)
-        self.check([*self.words, "--out", path], 1, "", f"wcplan: cannot write {path}/main.wasm\n", **USER)
+        self.check([*self.words, "--out", path], 1, "", f"wcplan: cannot write {path}/main.wasm: permission denied\n", **USER)
         if held(closed) != {"main.wasm": b"as it was"}:
             self.differs([*self.words, "--out", path], held(closed), "main.wasm as it was")
         closed.chmod(0o755)
@@ -342,15 +342,16 @@ class Plan(Checked):
             ("notes.json", "nothing", *words[2:]): "no world `nothing`; worlds: `my:notes/guest@1.2.0` "
                                                    "`my:notes/old-notes@1.2.0` `my:notes/app@1.2.0`",
             (*plain, *adapter, *adapter): "adapter `old-notes` twice",
-            (*plain, *exported): "no adapter `old-notes`",
-            (*plain, "--adapter-export", "a\nb=is-ready"): "no adapter `a\\nb`",
+            (*plain, *exported): "no adapter `old-notes`; adapters: none",
+            (*plain, "--adapter-export", "a\nb=is-ready"): "no adapter `a\\nb`; adapters: none",
             (*plain, "--adapt", "main=adapter.wasm", "--out", "made"): "adapter `main` in the main module's file",
             (*words, "--out", ""): "empty path of --out",
             (*plain, *adapter, "--export", "nothing"): "no export `nothing`; exports: `print` `is-ready`",
             (*plain, *adapter, "--export", "is-ready", *exported): "export `is-ready` twice",
-            ("notes.json", "app", "text", *words[3:]): "Dedupe: Read: NotWasm",
+            ("notes.json", "app", "text", *words[3:]): "Main module: Read: NotWasm\n  byte 0",
             (*plain, *adapter): 'World: Main: MissingWorldExport\n  missing export "is-ready"',
-            tuple(plain): 'World: Main: UnknownInterface\n  import "old-notes" "length_of"',
+            tuple(plain): 'World: Main: UnknownInterface\n  import "old-notes" "length_of"\n'
+                          "  no adapter is given: `--adapt NAME=FILE` gives one",
         }.items():
             self.check(list(given), 1, "", f"wcplan: {fault}\n")
         for name in ("", ".", "..", "../evil", "./main", "a\\b"):
@@ -367,6 +368,10 @@ class Plan(Checked):
             status, printed, said = self.run([asked])
             if (status, said) != (0, "") or not printed.startswith(usage) or "--out" not in printed[len(usage) :]:
                 self.differs([asked], (status, printed, said), "the usage text and more")
+            # the script prints the same without a program
+            script = subprocess.run([TOP / "wcplan", asked], stdout=subprocess.PIPE, text=True, check=False).stdout
+            if script != printed:
+                self.differs([asked], script, printed)
         self.check(["--version"], 0, "wcplan 0.262.0\n", "")
         for given, wrong in {
             tuple(words[:1]): "missing MAIN.wasm",

@@ -6,7 +6,8 @@
  * Slices. A slice is passed as a pointer and then a length: of bytes, or of slices. One that is read and one that is
  * written must not overlap. The library keeps no pointer after a call, and writes to nothing but `out`.
  *
- * NULL. The pointer of an empty slice may be NULL, that of `out` too. No other pointer may.
+ * NULL. What is proved of these functions is proved for pointers that are not NULL. The pointer of an empty slice may be
+ * NULL all the same, that of `out` too: that is tested. No other pointer may.
  *
  * Memory. Each call takes what it needs from the three functions at the end, and has given all of it back when it
  * returns, whatever it answers. Nothing that it answers has to be freed: all bytes are in the caller's `out`.
@@ -38,7 +39,7 @@ extern "C" {
 #endif
 
 /* What nuigatre_abi has to answer, for the library to be of this header's form of calls, messages and answers. */
-#define NUIGATRE_ABI 5
+#define NUIGATRE_ABI 6
 
 /* Bytes that are read. */
 typedef struct nuigatre_slice {
@@ -53,7 +54,7 @@ typedef struct nuigatre_answer {
     /* With NUIGATRE_FAULT the number of the fault; else 0. */
     uint32_t fault;
     /* With NUIGATRE_DONE and NUIGATRE_TOO_SMALL how many bytes the answer has. With NUIGATRE_FAULT how many bytes say
-     * what is wrong. Else 0. */
+     * what is wrong, or what that is about. Else 0. */
     size_t length;
     /* How many of the answer's bytes are modules. They are the first ones. */
     size_t module_length;
@@ -74,7 +75,16 @@ enum nuigatre_status {
     /* The call has no answer for such arguments. */
     NUIGATRE_BAD_ARGUMENT = 4,
     /* An allocation failed. */
-    NUIGATRE_MEMORY = 5
+    NUIGATRE_MEMORY = 5,
+    /* No fault of the call has the number: of nuigatre_fault_text alone. */
+    NUIGATRE_NO_SUCH_FAULT = 6
+};
+
+/* The calls on bytes, for nuigatre_fault_text. */
+enum nuigatre_call {
+    NUIGATRE_DEDUPE_CALL = 0,
+    NUIGATRE_TRIM_CALL = 1,
+    NUIGATRE_WHY_CALL = 2
 };
 
 /* Renames imports so that no two share a module and a name: the first keeps its name, and each that is there again
@@ -83,7 +93,8 @@ enum nuigatre_status {
  * NUIGATRE_DONE: `out` has the renamed module, `module_length` bytes, and then its renames: how many they are, and of
  * each the import's module, its original name and its new name, each with its length before it. Numbers are LEB128.
  * NUIGATRE_SAME: no import repeats, or the bytes are a component's.
- * NUIGATRE_FAULT: a fault of nuigatre_dedupe_fault. Nothing is written.
+ * NUIGATRE_FAULT: a fault of nuigatre_dedupe_fault. `out` has a JSON object that says at which byte the module stops to
+ * be right, or `length` is 0.
  * NUIGATRE_TOO_SMALL, NUIGATRE_MEMORY. */
 nuigatre_answer nuigatre_dedupe(const uint8_t *wasm, size_t wasm_length, uint8_t *out, size_t out_length);
 
@@ -116,7 +127,8 @@ nuigatre_answer nuigatre_why(uint64_t seed0, uint64_t seed1, const uint8_t *wasm
  * NUIGATRE_DONE: `out` has modules, `module_length` bytes: the main module, with its repeated imports renamed, and the
  * trimmed adapters and the libraries that are needed. After them is the world as JSON, with the length of each adapter.
  * NUIGATRE_FAULT: a fault of nuigatre_message_fault. `out` has its text, `position` bytes, and then, if `length` is
- * more, a JSON object that says what it is about: its member `kind` says which object it is.
+ * more, a JSON object that says what it is about: its member `kind` says which object it is. All names that the fault
+ * has are members of it, so nothing has to be read out of the text.
  * NUIGATRE_TOO_SMALL, NUIGATRE_MEMORY. */
 nuigatre_answer nuigatre_world(uint64_t seed0, uint64_t seed1, const uint8_t *message, size_t message_length,
                                const uint8_t *modules, size_t modules_length, uint8_t *out, size_t out_length);
@@ -145,6 +157,14 @@ nuigatre_answer nuigatre_planned_world(uint64_t seed0, uint64_t seed1, const uin
 nuigatre_answer nuigatre_validate(uint64_t seed0, uint64_t seed1, const uint8_t *message, size_t message_length,
                                   const uint8_t *modules, size_t modules_length, bool has_adapter,
                                   const uint8_t *adapter, size_t adapter_length, uint8_t *out, size_t out_length);
+
+/* Gives the text of a fault of a call on bytes, by the number that it answers: `call` is one of nuigatre_call. The text of a
+ * fault that is carried is there too, as in `Read: NotWasm`; the name of a missing export is not.
+ *
+ * NUIGATRE_DONE: `out` has the text.
+ * NUIGATRE_NO_SUCH_FAULT: the call answers no fault by this number, or there is no such call.
+ * NUIGATRE_TOO_SMALL, NUIGATRE_MEMORY. */
+nuigatre_answer nuigatre_fault_text(uint32_t call, uint32_t number, uint8_t *out, size_t out_length);
 
 /* The number of the form of these calls, their messages and answers: NUIGATRE_ABI. It goes up with each change that a
  * caller can see, but for objects of a new kind that say what a fault is about. */

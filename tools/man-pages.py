@@ -6,7 +6,8 @@
 
 Of docs/WCTRIM.md, for example, the text up to the usage is the description, the usage the synopsis and what is completed;
 each section follows, but those of SKIPPED, its tables as lists whose first column is what is looked up. Read them with
-`man docs/wctrim.1`, and `source docs/wctrim.bash`.
+`man docs/wctrim.1`, and `source docs/wctrim.bash`. Of a link in brackets of its own, as `([how](#a-section))`, the man page
+names the section, if it has that, and else nothing.
 """
 import argparse
 import pathlib
@@ -29,12 +30,31 @@ def escaped(text):
     return re.sub(r"^([.'])", r"\\&\1", text.replace("\\", "\\e").replace("-", "\\-"))
 
 
+LINK = r"\[((?:[^\]`]|`[^`]*`)*)\]\(([^)]*)\)"
+
+
+def anchor_of(title):
+    return re.sub(r"[^\w -]", "", title.lower()).replace(" ", "-")
+
+
+def pointed(titles):
+    """What a link in brackets of its own says, as `([how](#a-section))`: its section, if the man page has that; else nothing."""
+    shown = {"#" + anchor_of(it): TITLES.get(it, it.upper()) for it in titles if it not in SKIPPED}
+    return lambda it: f" (see {shown[it[2]]})" if it[2] in shown else ""
+
+
 def inline(text):
-    """A text of a page: what is in backquotes and between asterisks is bold, and of a link the text stays."""
-    made, text = "", re.sub(r"\[((?:[^\]`]|`[^`]*`)*)\]\([^)]*\)", r"\1", text.strip())
+    """A text of a page: what is in backquotes and between asterisks is bold; of a link the text stays, and none of one in
+    brackets of its own."""
+    made, text = "", re.sub(LINK, r"\1", text.strip())
     for part in re.split(r"(``.+?``|`[^`]+`|\*\*[^*]+\*\*)", text):
-        code = re.fullmatch(r"(``|`|\*\*)\s?(.+?)\s?\1", part)
-        made += "\\fB" + escaped(code[2]) + "\\fR" if code else escaped(part) if not made else part.replace("\\", "\\e")
+        code = re.fullmatch(r"(``|`|\*\*)(.+?)\1", part)
+        if code:
+            # a blank on both sides is none of the code, as in Markdown; others stay
+            own = re.sub(r"^ (.*[^ ].*) $", r"\1", code[2])
+            made += "\\fB" + re.sub("^ +", lambda it: "\\ " * len(it[0]), escaped(own)) + "\\fR"
+        else:
+            made += escaped(part) if not made else part.replace("\\", "\\e")
     return made
 
 
@@ -80,6 +100,8 @@ def blocks(text):
 def page_of(name):
     """The parts of a program's page: its first sentence, its usage, and its sections with their titles."""
     text = (TOP / "docs" / (name.upper() + ".md")).read_text(encoding="utf-8")
+    titles = re.findall(r"(?m)^##+ (.*)$", text)
+    text = re.sub(r" \(" + LINK + r"\)", pointed(titles), text)
     front, *sections = re.split(r"(?m)^## ", text.partition("\n")[2])
     usage = next("\n".join(it[4:] for it in lines) for lines in blocks(front) if lines[0].startswith("    usage: "))
     said = re.match(r"`%s` (.*?)\.(?= |\n)" % name, front.strip(), re.S)[1]
@@ -103,23 +125,65 @@ def man_page(name):
     return "\n".join(made) + "\n"
 
 
+# What options of a program have for values that are no files: words, or lines of bash that set `what` to them.
+VALUES = {
+    ("wcplan", "--why"): "what=(-W \"all \\\\\\$root $(_wcplan_keys)\")",
+    ("wcplan", "--export"): "what=(-W \"$(_wcplan_keys)\")",
+    ("wcplan", "--adapter-export"): "what=(-W \"$(_wcplan_adapters)\"); compopt -o nospace",
+}
+# What these lines call: the ids of the interfaces in the first file of worlds on the line, and the names of its adapters. The
+# shell expands a list of words, so a text of other signs than theirs is left out.
+HELPERS = {"wcplan": """\
+_wcplan_keys() {
+    local each
+    for each in "${COMP_WORDS[@]:1:COMP_CWORD-1}"; do
+        [[ $each == *.json && -r $each ]] || continue
+        python3 -c 'import json, re, sys
+resolve = json.load(open(sys.argv[1]))
+for package in resolve["packages"]:
+    name, _, version = package["name"].partition("@")
+    for interface in package["interfaces"]:
+        key = name + "/" + interface + ("@" + version if version else "")
+        print(key if re.fullmatch("[A-Za-z0-9:/@.+-]+", key) else "")' "$each" 2>/dev/null
+        return
+    done
+}
+_wcplan_adapters() {
+    local each before=
+    for each in "${COMP_WORDS[@]:1:COMP_CWORD-1}"; do
+        [[ $each != = ]] || continue
+        if [[ $before == --adapt ]]; then
+            each=${each##*/}
+            each=${each%%[.=]*}
+            [[ $each == *[!A-Za-z0-9_:-]* ]] || printf '%s=\\n' "$each"
+        fi
+        before=$each
+    done
+}
+"""}
+
+
 def completion(name):
-    """What completes the arguments of a program in bash: commands, options, and else files; nothing after an option whose
-    value is no file."""
+    """What completes the arguments of a program in bash: commands, options, and else files; after an option whose value is
+    no file what VALUES says, else nothing."""
     usage = page_of(name)[2]
     commands = sorted(set(re.findall(r"%s ([a-z]+) [A-Z]" % name, usage)))
     options = {}
     for option, value in re.findall(r"(--[\w-]+)(?: ((?:\[NAME=\])?[A-Z][A-Z=]*|0\|16))?", usage):
         options.setdefault(option, value)
-    made = [f"# Completes the arguments of {name} in bash. Made by tools/man-pages.py of docs/{name.upper()}.md.", f"_{name}() {{"]
-    made += ["    local word=${COMP_WORDS[COMP_CWORD]} what=(-f)"]
+    made = [f"# Completes the arguments of {name} in bash. Made by tools/man-pages.py of docs/{name.upper()}.md."]
+    made += [HELPERS[name].rstrip("\n")] if name in HELPERS else []
+    made += [f"_{name}() {{", "    local word=${COMP_WORDS[COMP_CWORD]} what=(-f)"]
     made += [f"    [ \"$COMP_CWORD\" -gt 1 ] || what=(-W '{' '.join(commands)}')"] if commands else []
     made += ["    case ${COMP_WORDS[COMP_CWORD - 1]} in"]
     for option, value in options.items():
         asked = FILES.get(value) or (f"-W '{value.replace('|', ' ')}'" if "|" in value else "-W ''")
-        made += [f"        {option}) what=({asked}) ;;"] if value else []
+        made += [f"        {option}) {VALUES.get((name, option), f'what=({asked})')} ;;"] if value else []
     made += ["    esac", f"    [[ $word != -* ]] || what=(-W '{' '.join(options)}')"]
-    made += ['    mapfile -t COMPREPLY < <(compgen "${what[@]}" -- "$word")', "}", f"complete -o filenames -F _{name} {name}"]
+    made += ['    mapfile -t COMPREPLY < <(compgen "${what[@]}" -- "$word")']
+    # a colon begins a new word for readline, so what is before it is not put again
+    made += ["    ! declare -F __ltrim_colon_completions >/dev/null || __ltrim_colon_completions \"$word\""] if name in HELPERS else []
+    made += ["}", f"complete -o filenames -F _{name} {name}"]
     return "\n".join(made) + "\n"
 
 

@@ -6,8 +6,8 @@
 // Inputs and `out` end where a page begins that can't be read, or begin where one ends. Each case is asked with a
 // buffer of random length, with exactly the room that its answer needs, with one byte less, and with an allocation that
 // fails. An empty slice is passed as NULL now and then. The answers have to be the same, whatever the seed; the bytes that
-// are not of an answer have to be as they were, and all memory has to be given back. Of each call it is printed how many
-// cases ended with each status, 0 to 5. The status is 1 where a case is wrong. Its number as SEED runs it again, first.
+// are not of an answer have to be as they were, and all memory has to be given back. A fault of a call on bytes has a text by
+// its number. Of each call it is printed how many cases ended with each status, 0 to 5. The status is 1 where a case is wrong. Its number as SEED runs it again, first.
 #include "nuigatre.h"
 
 #include <inttypes.h>
@@ -346,6 +346,18 @@ static const char *wrong_beside(nuigatre_answer a, nuigatre_answer b, const buff
     return NULL;
 }
 
+// What is wrong with the text of a fault of a call on bytes; NULL for nothing.
+static const char *wrong_text(size_t call, uint32_t number) {
+    uint8_t text[64];
+    nuigatre_answer asked = nuigatre_fault_text((uint32_t)call, number, NULL, 0);
+    if (asked.status != NUIGATRE_TOO_SMALL || asked.length == 0 || asked.length > sizeof text) return "a fault without a text";
+    nuigatre_answer given = nuigatre_fault_text((uint32_t)call, number, text, asked.length);
+    if (given.status != NUIGATRE_DONE || given.length != asked.length) return "another text of a fault";
+    nuigatre_answer none = nuigatre_fault_text((uint32_t)call, number + (1u << 16), text, sizeof text);
+    if (none.status != NUIGATRE_NO_SUCH_FAULT || none.length != 0) return "the text of no fault";
+    return held == 0 ? NULL : "blocks of a text that were not given back";
+}
+
 static size_t counts[CALLS][STATUSES];
 
 // Asks a question in all ways; what is wrong, or NULL.
@@ -355,6 +367,7 @@ static const char *wrong_with(const question *of) {
     const char *wrong = wrong_by_itself(of->call, first, room);
     if (wrong != NULL) return wrong;
     long allocations = count_of_allocations;
+    if (of->call < 3 && first.status == NUIGATRE_FAULT && (wrong = wrong_text(of->call, first.fault)) != NULL) return wrong;
     nuigatre_answer full = ask(of, first.length);
     if ((wrong = wrong_by_itself(of->call, full, first.length)) != NULL) return wrong;
     counts[of->call][full.status]++;

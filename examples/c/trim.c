@@ -31,10 +31,11 @@ static int say_why(nuigatre_answer answer, const buffer *out, char **names) {
     default:
         break;
     }
-    if (answer.fault == NUIGATRE_GC_MISSING_EXPORT)
-        fprintf(stderr, "the adapter does not export `%s`\n", names[answer.position]);
-    else
-        fprintf(stderr, "fault %u %.*s\n", answer.fault, (int)answer.length, (const char *)out->bytes);
+    uint8_t text[64];
+    nuigatre_answer fault = nuigatre_fault_text(NUIGATRE_TRIM_CALL, answer.fault, text, sizeof text);
+    fprintf(stderr, "%.*s", fault.status == NUIGATRE_DONE ? (int)fault.length : 0, (const char *)text);
+    if (answer.fault == NUIGATRE_GC_MISSING_EXPORT) fprintf(stderr, " `%s`", names[answer.position]);
+    fprintf(stderr, " %.*s\n", (int)answer.length, (const char *)out->bytes);
     return 1;
 }
 

@@ -4,7 +4,7 @@
 #
 #     examples/wasi/make.sh [--picture]
 #
-# With --picture it makes docs/why.svg besides, by `wcwhy --dot` and Graphviz: why the component imports some interfaces.
+# With --picture it makes why.svg there besides, by `wcwhy --dot` and Graphviz: why the component imports some interfaces.
 set -e
 here=$(CDPATH='' cd -P -- "$(dirname -- "$0")" && pwd -P)
 case ${1-} in
@@ -44,4 +44,4 @@ used='fd_close fd_fdstat_get fd_seek fd_write proc_exit wasi:cli/run@0.2.6#run c
 # shellcheck disable=SC2086
 "$here/../../wcwhy" "$here/out/adapter.wasm" --dot $asked $used | c++filt |
     sed -E 's/::h[0-9a-f]{16}"/"/; s/(func [0-9]+) wasi_snapshot_preview1::/\1 /; /label="func/s/::([^:]+::[^:"]+")/::\\n\1/' |
-    dot -Grankdir=LR -Nfontsize=11 -Nheight=0.3 -Granksep=0.3 -Gnodesep=0.15 -Tsvg >"$here/../../docs/why.svg"
+    dot -Grankdir=TB -Nfontsize=13 -Nheight=0.3 -Granksep=0.35 -Gnodesep=0.25 -Tsvg >"$here/out/why.svg"

@@ -7,6 +7,7 @@ use crate::memory::{OutOfMemory, Text, concat};
 use crate::read::{Read, Unread, list, member};
 use crate::required_options::RequiredOptions;
 use crate::resolved::Worlds;
+use crate::world_error::BEFORE_WORLDS;
 use std::borrow::Cow;
 use std::fmt::{self, Display, Formatter};
 
@@ -189,7 +190,7 @@ impl<'a> ComponentEncoder<'a> {
     }
 
     fn put_message(&self, out: &mut Text, resolve: &str) -> Result<(), OutOfMemory> {
-        out.put("{\"resolve\":")?;
+        out.put(BEFORE_WORLDS)?;
         out.put(resolve)?;
         out.put(",\"world\":")?;
         match self.world {

@@ -1,6 +1,6 @@
 //! Why a call has no answer.
 
-use crate::faults::{DedupeFault, TrimError};
+use crate::faults::{DedupeError, TrimError};
 use crate::memory::OutOfMemory;
 use crate::place::Place;
 use crate::world_error::WorldError;
@@ -39,7 +39,7 @@ pub enum Error {
     /// this crate does not know.
     OtherVersion,
     /// The imports of the module could not be renamed.
-    Dedupe(DedupeFault),
+    Dedupe(DedupeError),
     /// The adapter could not be trimmed.
     Trim(TrimError),
     /// There is no world of the component.
@@ -47,10 +47,11 @@ pub enum Error {
 }
 
 impl Error {
-    /// What the error is about, if that is known: [`WorldError::place`] or [`TrimError::place`].
+    /// What the error is about, if that is known: [`Refused::place`](crate::Refused::place).
     #[must_use]
     pub fn place(&self) -> Option<&Place> {
         match self {
+            Error::Dedupe(error) => error.place(),
             Error::Trim(error) => error.place(),
             Error::World(error) => error.place(),
             _ => None,
@@ -72,7 +73,7 @@ impl Display for Error {
             Error::LargePageSize => f.write_str("a page has more than 2^16 bytes"),
             Error::UnknownAdapter => f.write_str("no adapter has the name"),
             Error::OtherVersion => f.write_str("libnuigatre.a is of another version"),
-            Error::Dedupe(fault) => write!(f, "Dedupe: {fault}"),
+            Error::Dedupe(error) => write!(f, "Dedupe: {error}"),
             Error::Trim(error) => write!(f, "Trim: {error}"),
             Error::World(error) => write!(f, "{error}"),
         }

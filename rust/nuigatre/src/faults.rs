@@ -1,11 +1,12 @@
 //! The faults of renaming and trimming, and how their numbers are read.
 
 use crate::ffi::Fault;
-use crate::memory::{Held, string};
-use crate::place::{Place, Shown};
+use crate::memory::string;
+use crate::place::{About, Place};
 use crate::read::{Backquoted, Unread};
+use crate::refused::Refused;
 use std::error;
-use std::fmt::{self, Debug, Display, Formatter};
+use std::fmt::{self, Display, Formatter};
 
 /// An enum of faults that carry nothing, with the numbers that the archive has for them. These never change. Each is
 /// shown by its name, or by a text if it has one.
@@ -127,33 +128,30 @@ pub enum GcFault {
     TooLarge,
 }
 
-/// Why an adapter could not be trimmed. Its text is that of the fault, and its source [the place](TrimError::place).
-#[derive(Clone, PartialEq, Eq)]
-pub struct TrimError {
-    fault: GcFault,
-    place: Held<Place>,
+/// Why the imports of a module could not be renamed, and where.
+pub type DedupeError = Refused<DedupeFault>;
+
+/// Why an adapter could not be trimmed, and where.
+pub type TrimError = Refused<GcFault>;
+
+/// The error of a fault of renaming that the archive answered.
+pub(crate) fn dedupe_error(answered: &Fault) -> Result<DedupeError, Unread> {
+    let fault = DedupeFault::from_number(answered.number)?;
+    Ok(Refused::new(fault, place_of(answered)?)?)
 }
 
-impl TrimError {
-    /// The error of a fault that the archive answered. `missing` is the name of the export that is missing.
-    pub(crate) fn of(answered: &Fault, missing: Option<&str>) -> Result<TrimError, Unread> {
-        Ok(TrimError {
-            fault: GcFault::from_number(answered.number, missing)?,
-            place: Held::of(Place::parse(&answered.text)?)?,
-        })
-    }
+/// The error of a fault of trimming that the archive answered. `missing` is the name of the export that is missing.
+pub(crate) fn trim_error(answered: &Fault, missing: Option<&str>) -> Result<TrimError, Unread> {
+    let fault = GcFault::from_number(answered.number, missing)?;
+    Ok(Refused::new(fault, place_of(answered)?)?)
+}
 
-    /// What is wrong.
-    #[must_use]
-    pub fn fault(&self) -> &GcFault {
-        &self.fault
-    }
-
-    /// What the fault is about, if that is known: of [`UnsupportedSection`](GcFault::UnsupportedSection) the section, and
-    /// of [`LiveBody`](GcFault::LiveBody) the body of a function and, where one is at fault, its operator.
-    #[must_use]
-    pub fn place(&self) -> Option<&Place> {
-        self.place.get()
+/// The place of a fault of a call on the bytes of one module.
+fn place_of(answered: &Fault) -> Result<Option<Place>, Unread> {
+    match About::parse(&answered.text)? {
+        None => Ok(None),
+        Some(About::Place(place)) => Ok(Some(place)),
+        Some(_) => Err(Unread::Unknown),
     }
 }
 
@@ -217,35 +215,13 @@ impl Display for GcFault {
     }
 }
 
-impl Display for TrimError {
-    fn fmt(&self, f: &mut Formatter<'_>) -> fmt::Result {
-        write!(f, "{}", self.fault)
-    }
-}
-
-impl Debug for TrimError {
-    /// The place is there by its text.
-    fn fmt(&self, f: &mut Formatter<'_>) -> fmt::Result {
-        f.debug_struct("TrimError")
-            .field("fault", &self.fault)
-            .field("place", &Shown(self.place()))
-            .finish()
-    }
-}
-
 impl error::Error for DedupeFault {}
 impl error::Error for GcFault {}
-
-impl error::Error for TrimError {
-    /// [The place](TrimError::place).
-    fn source(&self) -> Option<&(dyn error::Error + 'static)> {
-        self.place().map(|place| place as _)
-    }
-}
 
 #[cfg(test)]
 mod tests {
     use super::{DedupeFault, GcFault, ReadFault};
+    use crate::ffi::fault_text::{DEDUPE_CALL, TRIM_CALL, WHY_CALL, fault_text};
 
     /// How many numbers are those of a fault, each of one of its own.
     fn count<T: PartialEq>(fault: impl Fn(u32) -> Option<T>) -> usize {
@@ -262,5 +238,20 @@ mod tests {
         assert_eq!(count(|number| DedupeFault::from_number(number).ok()), 19);
         let of_gc = |number| GcFault::from_number(number, Some("f")).ok();
         assert_eq!(count(of_gc), 28);
+    }
+
+    /// The library has the same texts for the same numbers, but that it knows no name.
+    #[test]
+    fn texts_are_those_of_the_library() {
+        for number in 0..100_000 {
+            let fault = DedupeFault::from_number(number).ok();
+            let text = fault.map(|it| it.to_string());
+            assert_eq!(fault_text(DEDUPE_CALL, number), text, "{number}");
+            let fault = GcFault::from_number(number, Some("")).ok();
+            let text = fault.map(|it| it.to_string().trim_end_matches(" ``").to_owned());
+            assert_eq!(fault_text(TRIM_CALL, number), text, "{number}");
+            assert_eq!(fault_text(WHY_CALL, number), text, "{number}");
+            assert_eq!(fault_text(WHY_CALL + 1, number), None);
+        }
     }
 }

@@ -3,7 +3,7 @@
 
 use crate::error::Error;
 use crate::memory::OutOfMemory;
-use crate::place::Place;
+use crate::place::About;
 use crate::read::Unread;
 use std::collections::hash_map::RandomState;
 use std::hash::BuildHasher;
@@ -36,9 +36,11 @@ const TOO_SMALL: u32 = 2;
 const SAME: u32 = 3;
 const BAD_ARGUMENT: u32 = 4;
 const MEMORY: u32 = 5;
+#[cfg(test)]
+const NO_SUCH_FAULT: u32 = 6;
 
 /// The form of the calls, of messages and of answers that this crate knows: the archive's own number has to be this one.
-const ABI: u32 = 5;
+const ABI: u32 = 6;
 
 unsafe extern "C" {
     safe fn nuigatre_abi() -> u32;
@@ -122,6 +124,9 @@ unsafe extern "C" {
         out: *mut u8,
         out_length: usize,
     ) -> Answer;
+
+    #[cfg(test)]
+    fn nuigatre_fault_text(call: u32, number: u32, out: *mut u8, out_length: usize) -> Answer;
 }
 
 /// Whether the library that is linked was built of what is proved. One that was compiled without its proof has a symbol
@@ -172,23 +177,17 @@ pub(crate) enum Answered {
 /// A fault, as it is answered.
 pub(crate) struct Fault {
     pub(crate) number: u32,
-    /// Of a trim where the name of a missing export is among those passed. Of the calls on a message where the place
-    /// begins in the text; 0 where there is none.
+    /// Of a trim where the name of a missing export is among those passed. Of the calls on a message how many bytes the
+    /// fault's text has.
     pub(crate) position: usize,
-    /// Of a trim the fault's place, as JSON; of the calls on a message its text, and then its place.
+    /// What the fault is about, as JSON; of the calls on a message the fault's text before it.
     pub(crate) text: String,
 }
 
 impl Fault {
-    /// The text and the place of a fault of a call on a message.
-    pub(crate) fn into_parts(mut self) -> Result<(String, Option<Place>), Unread> {
-        if self.position == 0 {
-            return Ok((self.text, None));
-        }
-        let place = self.text.get(self.position..).ok_or(Unread::Unknown)?;
-        let place = Place::parse(place)?;
-        self.text.truncate(self.position);
-        Ok((self.text, place))
+    /// What a fault of a call on a message is about. Its text is passed over: the number says what is wrong.
+    pub(crate) fn about(&self) -> Result<Option<About>, Unread> {
+        About::parse(self.text.get(self.position..).ok_or(Unread::Unknown)?)
     }
 }
 
@@ -358,7 +357,7 @@ fn start(out: &mut [MaybeUninit<u8>]) -> *mut u8 {
 /// Calls with a buffer of `room` bytes; once more, with one as long as the answer, where that is too small.
 fn answered(
     room: usize,
-    call: impl Fn(&mut [MaybeUninit<u8>]) -> Answer,
+    mut call: impl FnMut(&mut [MaybeUninit<u8>]) -> Answer,
 ) -> Result<Answered, Error> {
     if nuigatre_abi() != ABI {
         return Err(Error::OtherVersion);
@@ -371,11 +370,11 @@ fn answered(
         let answer = call(&mut bytes.spare_capacity_mut()[..room]);
         let is_long = answer.length > room;
         match answer.status {
-            // of a fault its text and its place have no room
+            // of a fault its text, and what it is about, have no room
             TOO_SMALL | FAULT if is_long => room = answer.length,
             DONE | FAULT if !is_long => {
                 // SAFETY: as is proved of the archive, the front of the buffer has `length` bytes, which are the answer,
-                // or the text and the place of the fault.
+                // or what is said of the fault.
                 unsafe { bytes.set_len(answer.length) };
                 return answer.with(bytes);
             }
@@ -405,10 +404,44 @@ impl Answer {
     }
 }
 
+/// The texts of the faults of calls on bytes. This crate has them itself; its tests compare them.
+#[cfg(test)]
+pub(crate) mod fault_text {
+    use super::{Answered, DONE, NO_SUCH_FAULT, answered, nuigatre_fault_text, start};
+
+    pub(crate) const DEDUPE_CALL: u32 = 0;
+    pub(crate) const TRIM_CALL: u32 = 1;
+    pub(crate) const WHY_CALL: u32 = 2;
+
+    /// The text of the fault that this call answers by this number; `None` where it has none.
+    pub(crate) fn fault_text(call: u32, number: u32) -> Option<String> {
+        let mut is_there = true;
+        let answer = answered(8, |out| {
+            // SAFETY: `out` is the call's alone, which reads nothing of it.
+            let mut answer = unsafe { nuigatre_fault_text(call, number, start(out), out.len()) };
+            if answer.status == NO_SUCH_FAULT {
+                is_there = false;
+                answer.status = DONE;
+            }
+            answer
+        });
+        match answer {
+            Ok(Answered::Bytes { bytes, .. }) => {
+                assert!(is_there || bytes.is_empty());
+                is_there.then(|| String::from_utf8(bytes).expect("a text"))
+            }
+            _ => panic!("call {call}, fault {number}"),
+        }
+    }
+}
+
 #[cfg(test)]
 mod tests {
-    use super::{Answer, Answered, DONE, FAULT, Fault, MEMORY, SAME, TOO_SMALL, answered};
+    use super::{
+        Answer, Answered, DONE, FAULT, Fault, MEMORY, NO_SUCH_FAULT, SAME, TOO_SMALL, answered,
+    };
     use crate::error::Error;
+    use crate::place::About;
     use crate::read::Unread;
     use std::cell::Cell;
     use std::mem::MaybeUninit;
@@ -464,7 +497,7 @@ mod tests {
     fn statuses() {
         assert!(matches!(ask(SAME, b"", 1).0, Ok(Answered::Same)));
         assert!(matches!(ask(MEMORY, b"", 1).0, Err(Error::Memory)));
-        for (status, bytes) in [(6, ""), (TOO_SMALL, "a"), (u32::MAX, "")] {
+        for (status, bytes) in [(NO_SUCH_FAULT, ""), (TOO_SMALL, "a"), (u32::MAX, "")] {
             let answer = ask(status, bytes.as_bytes(), 1).0;
             assert!(matches!(answer, Err(Error::OtherVersion)));
         }
@@ -477,22 +510,20 @@ mod tests {
     }
 
     #[test]
-    fn parts_of_faults() {
-        let parts = |position: usize, text: &str| {
+    fn what_faults_are_about() {
+        let about = |position: usize, text: &str| {
             let fault = Fault {
                 number: 9,
                 position,
                 text: text.to_owned(),
             };
-            let (text, place) = fault.into_parts()?;
-            Ok((text, place.map(|it| it.to_string())))
+            fault.about()
         };
-        assert_eq!(parts(0, "text"), Ok(("text".to_owned(), None)));
-        assert_eq!(parts(4, "text"), Ok(("text".to_owned(), None)));
-        let world = (String::from("é"), Some(String::from("world 0")));
-        assert_eq!(parts(2, r#"é{"kind":"world","index":0}"#), Ok(world));
-        assert_eq!(parts(1, "é"), Err(Unread::Unknown));
-        assert_eq!(parts(5, "text"), Err(Unread::Unknown));
-        assert_eq!(parts(1, "text"), Err(Unread::Unknown));
+        assert_eq!(about(4, "text"), Ok(None));
+        let key = r#"é{"kind":"key","key":"é"}"#;
+        assert_eq!(about(2, key), Ok(Some(About::Key("é".to_owned()))));
+        assert_eq!(about(1, "é"), Err(Unread::Unknown));
+        assert_eq!(about(5, "text"), Err(Unread::Unknown));
+        assert_eq!(about(1, "text"), Err(Unread::Unknown));
     }
 }

@@ -1,7 +1,7 @@
 //! Trimming of adapters, and why they import what they do.
 
 use crate::error::Error;
-use crate::faults::TrimError;
+use crate::faults::trim_error;
 use crate::ffi::{self, Answered, Slice, TrimArguments};
 use crate::json::Value;
 use crate::memory::{collect, fitted, push, string};
@@ -65,7 +65,7 @@ fn run_on(
         Answered::Same | Answered::BadArgument => Err(Error::OtherVersion),
         Answered::Fault(fault) => {
             let missing = required.get(fault.position).copied();
-            Err(Error::Trim(TrimError::of(&fault, missing)?))
+            Err(Error::Trim(trim_error(&fault, missing)?))
         }
     }
 }
@@ -222,7 +222,7 @@ fn why_of(wasm: &[u8], required: &[&str]) -> Result<Chains, Error> {
         Answered::Same | Answered::BadArgument => Err(Error::OtherVersion),
         Answered::Fault(fault) => {
             let missing = required.get(fault.position).copied();
-            Err(Error::Trim(TrimError::of(&fault, missing)?))
+            Err(Error::Trim(trim_error(&fault, missing)?))
         }
     }
 }

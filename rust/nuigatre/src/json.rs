@@ -208,18 +208,6 @@ impl<'a> Reader<'a> {
         Ok(raw)
     }
 
-    /// Goes past a string.
-    fn skip_string(&mut self) -> Result<(), Unread> {
-        self.expect("\"")?;
-        self.plain()?;
-        while !self.takes("\"") {
-            self.expect("\\")?;
-            self.escape()?;
-            self.plain()?;
-        }
-        Ok(())
-    }
-
     fn string(&mut self) -> Result<Cow<'a, str>, Unread> {
         self.expect("\"")?;
         let plain = self.plain()?;
@@ -288,13 +276,6 @@ impl<'a> Reader<'a> {
 
 /// What may be between the pieces of a JSON text.
 pub(crate) const SPACES: [char; 4] = [' ', '\t', '\n', '\r'];
-
-/// How many bytes the string has that a text begins with, quotes included.
-pub(crate) fn string_length(text: &str) -> Option<usize> {
-    let mut reader = Reader::new(text);
-    reader.skip_string().ok()?;
-    Some(text.len() - reader.rest.len())
-}
 
 /// Whether a text is no more than one JSON value wherever it is put: where what is around it makes it part of a JSON
 /// text, it is one value of that. Whether it is JSON is not looked at.

@@ -7,7 +7,7 @@
 //! what it is about ([`Error::place`]), which is its source.
 //!
 //! The work is done by `libnuigatre.a`, whose functions are proved: each ends on all bytes, and answers what its
-//! contract says. This crate is the way there, and is tested: a heap, seven calls, and the reading of their answers. It
+//! contract says. This crate is the way there, and is tested: a heap, the calls, and the reading of their answers. It
 //! has no dependency but the standard library. Calls may run on several threads at once, and keep nothing but the seed of
 //! their maps, which the first trim, world or plan draws for the process.
 //!
@@ -59,11 +59,11 @@ mod ordered_map;
 mod place;
 mod plan;
 mod read;
+mod refused;
 mod renames;
 mod required_options;
 mod resolved;
 mod shapes;
-mod syntax;
 mod table;
 mod validation;
 mod wit_types;
@@ -93,13 +93,14 @@ pub use encoder::{
 };
 pub use error::Error;
 pub use exports::{Export, ExportMap};
-pub use faults::{DedupeFault, GcFault, ReadFault, TrimError};
+pub use faults::{DedupeError, DedupeFault, GcFault, ReadFault, TrimError};
 pub use ids::{AbiVariant, InterfaceId, StringEncoding, TypeId, WorldKey};
 pub use imports::{Import, ImportInstance, ImportMap, PayloadInfo, PayloadType};
 pub use module_import_map::{ModuleImportMap, Rename};
 pub use ordered_map::{Iter, Lookup, OrderedMap};
 pub use place::{Place, Subject, TypeDifference};
 pub use plan::{Plan, Use, UsedImport};
+pub use refused::Refused;
 pub use required_options::RequiredOptions;
 pub use resolved::{Resolved, Worlds};
 pub use table::{Filler, Slot, Table};

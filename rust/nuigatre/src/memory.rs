@@ -79,8 +79,6 @@ pub(crate) fn fitted_text(text: String) -> String {
 pub(crate) struct Held<T>(Vec<T>);
 
 impl<T> Held<T> {
-    pub(crate) const NOTHING: Held<T> = Held(Vec::new());
-
     pub(crate) fn of(value: Option<T>) -> Result<Self, OutOfMemory> {
         Ok(Held(collect(value)?))
     }

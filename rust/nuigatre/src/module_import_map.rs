@@ -1,7 +1,7 @@
 //! Distinct names for the imports of a module.
 
 use crate::error::Error;
-use crate::faults::DedupeFault;
+use crate::faults::dedupe_error;
 use crate::ffi::{self, Answered};
 use crate::index::Index;
 use crate::memory::{OutOfMemory, fitted};
@@ -47,7 +47,7 @@ impl ModuleImportMap {
     /// # Errors
     ///
     /// - `Dedupe`: the bytes are no component, and can't be cut into sections or have a malformed import section; or a
-    ///   section would become too large.
+    ///   section would become too large. The error has [a place](Error::place), if bytes are wrong.
     /// - `Memory`: an allocation failed.
     /// - `OtherVersion`: the library is of another version than this crate.
     pub fn new(wasm: Cow<'_, [u8]>) -> Result<(Cow<'_, [u8]>, Option<Self>), Error> {
@@ -65,7 +65,7 @@ impl ModuleImportMap {
             }
             Answered::Same => Ok((wasm, None)),
             Answered::BadArgument => Err(Error::OtherVersion),
-            Answered::Fault(fault) => Err(Error::Dedupe(DedupeFault::from_number(fault.number)?)),
+            Answered::Fault(fault) => Err(Error::Dedupe(dedupe_error(&fault)?)),
         }
     }
 

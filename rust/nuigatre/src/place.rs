@@ -1,7 +1,7 @@
 //! What faults are about.
 
 use crate::core_types::FuncType;
-use crate::ids::{InterfaceId, TypeId};
+use crate::ids::{AbiVariant, InterfaceId, TypeId};
 use crate::json::Value;
 use crate::read::{Read, Unread, member, optional_member};
 use std::error;
@@ -56,6 +56,14 @@ pub enum Subject {
         /// Its name.
         name: String,
     },
+    /// A byte of a module, at which it stops to be right.
+    #[non_exhaustive]
+    Bytes {
+        /// How many bytes of the module are before it.
+        offset: usize,
+        /// The id of the section in whose content it is; `None` outside of all.
+        section: Option<u8>,
+    },
     /// A section of an adapter.
     #[non_exhaustive]
     Section {
@@ -80,12 +88,18 @@ pub enum Subject {
         /// How many bytes one of the main module's has.
         main: u64,
     },
-    /// A function that core modules import, which needs what is not there.
+    /// A function that a core module imports, which needs what is not there.
     #[non_exhaustive]
     Function {
+        /// Its interface, by the name that the world has for it; `None` for a function of the world.
+        interface: Option<String>,
         /// Its name in its interface or in the world.
         name: String,
+        /// How it is imported.
+        abi: AbiVariant,
     },
+    /// The worlds that there are, by their full names.
+    Worlds(Vec<String>),
     /// The world at an index among those of the JSON.
     World(u32),
     /// An interface.
@@ -106,13 +120,79 @@ pub struct TypeDifference {
     pub found: FuncType,
 }
 
-impl Place {
-    /// The place of this text, which the archive wrote; `None` where it wrote none.
-    pub(crate) fn parse(text: &str) -> Result<Option<Place>, Unread> {
+/// What a fault is about, as the archive writes it after the fault.
+#[derive(Debug, PartialEq, Eq)]
+pub(crate) enum About {
+    /// A place.
+    Place(Place),
+    /// An adapter as a whole, by its name.
+    Adapter(String),
+    /// A key of the world's exports.
+    Key(String),
+    /// Of a name of a world the name, and the worlds that there are.
+    Worlds { name: String, worlds: Vec<String> },
+    /// A byte of the message.
+    Byte(usize),
+    /// A path in the message.
+    Path(String),
+}
+
+impl About {
+    /// What a fault is about, of this text; `None` where the archive wrote none.
+    pub(crate) fn parse(text: &str) -> Result<Option<About>, Unread> {
         if text.is_empty() {
             return Ok(None);
         }
-        Ok(Some(Place::read(&Value::parse(text)?)?))
+        Ok(Some(About::read(&Value::parse(text)?)?))
+    }
+
+    /// The adapter that it is in, or is.
+    pub(crate) fn adapter(&self) -> Option<&str> {
+        match self {
+            About::Place(place) => place.adapter.as_deref(),
+            About::Adapter(name) => Some(name),
+            _ => None,
+        }
+    }
+
+    /// The name of the export that is missing.
+    pub(crate) fn missing_export(&self) -> Option<&str> {
+        match self {
+            About::Place(Place {
+                subject: Subject::MissingExport { name },
+                ..
+            }) => Some(name),
+            _ => None,
+        }
+    }
+
+    /// It, as the place of an error; `None` for what the fault of the error has itself.
+    pub(crate) fn into_place(self) -> Option<Place> {
+        match self {
+            About::Place(place) => Some(place),
+            About::Worlds { worlds, .. } => Some(Place {
+                adapter: None,
+                subject: Subject::Worlds(worlds),
+                types: None,
+            }),
+            _ => None,
+        }
+    }
+}
+
+impl Read for About {
+    fn read(value: &Value<'_>) -> Result<Self, Unread> {
+        Ok(match value.kind()? {
+            "module" => About::Adapter(member(value, "adapter")?),
+            "key" => About::Key(member(value, "key")?),
+            "worlds" => About::Worlds {
+                name: member(value, "name")?,
+                worlds: member(value, "worlds")?,
+            },
+            "json-byte" => About::Byte(member(value, "byte")?),
+            "json-path" => About::Path(member(value, "path")?),
+            _ => About::Place(Place::read(value)?),
+        })
     }
 }
 
@@ -152,6 +232,10 @@ impl Read for Subject {
             "missing-export" => Subject::MissingExport {
                 name: member(value, "name")?,
             },
+            "bytes" => Subject::Bytes {
+                offset: member(value, "offset")?,
+                section: optional_member(value, "section")?,
+            },
             "section" => Subject::Section {
                 id: member(value, "id")?,
             },
@@ -164,7 +248,9 @@ impl Read for Subject {
                 main: member(value, "main")?,
             },
             "function" => Subject::Function {
+                interface: optional_member(value, "interface")?,
                 name: member(value, "name")?,
+                abi: member(value, "abi")?,
             },
             "world" => Subject::World(member(value, "index")?),
             "interface" => Subject::Interface(member(value, "index")?),
@@ -197,6 +283,26 @@ impl Display for Place {
     }
 }
 
+/// What a section of this id is called, if the format has one.
+fn section_name(id: u8) -> Option<&'static str> {
+    let names = [
+        "custom",
+        "type",
+        "import",
+        "function",
+        "table",
+        "memory",
+        "global",
+        "export",
+        "start",
+        "element",
+        "code",
+        "data",
+        "data count",
+    ];
+    names.get(usize::from(id)).copied()
+}
+
 impl error::Error for Place {}
 
 /// A place, or that there is none, by its text, also where it is debugged.
@@ -219,11 +325,21 @@ impl Display for Subject {
             Subject::Export { name } => write!(f, "export {name:?}"),
             Subject::MissingFunction { module, name } => write!(f, "missing {module:?} {name:?}"),
             Subject::MissingExport { name } => write!(f, "missing export {name:?}"),
-            Subject::Section { id: 8 } => f.write_str("start section"),
-            Subject::Section { id: 9 } => f.write_str("element section"),
-            Subject::Section { id: 11 } => f.write_str("data section"),
-            Subject::Section { id: 12 } => f.write_str("data count section"),
-            Subject::Section { id } => write!(f, "section {id}"),
+            Subject::Bytes {
+                offset,
+                section: None,
+            } => write!(f, "byte {offset}"),
+            Subject::Bytes {
+                offset,
+                section: Some(id),
+            } => match section_name(*id) {
+                Some(name) => write!(f, "byte {offset}, in the {name} section"),
+                None => write!(f, "byte {offset}, in section {id}"),
+            },
+            Subject::Section { id } => match section_name(*id) {
+                Some(name) => write!(f, "{name} section"),
+                None => write!(f, "section {id}"),
+            },
             Subject::Body {
                 function,
                 operator: Some(operator),
@@ -232,7 +348,21 @@ impl Display for Subject {
             Subject::PageSizes { own, main } => {
                 write!(f, "page size {own}, main module's {main}")
             }
-            Subject::Function { name } => write!(f, "function {name:?}"),
+            Subject::Function {
+                interface: None,
+                name,
+                ..
+            } => write!(f, "function {name:?}"),
+            Subject::Function {
+                interface: Some(interface),
+                name,
+                ..
+            } => write!(f, "function {interface:?} {name:?}"),
+            Subject::Worlds(names) if names.is_empty() => f.write_str("there is no world"),
+            Subject::Worlds(names) => {
+                f.write_str("worlds")?;
+                names.iter().try_for_each(|name| write!(f, " {name:?}"))
+            }
             Subject::World(index) => write!(f, "world {index}"),
             Subject::Interface(id) => write!(f, "{id}"),
             Subject::Type(id) => write!(f, "{id}"),
@@ -249,12 +379,13 @@ impl Display for TypeDifference {
 
 #[cfg(test)]
 mod tests {
-    use super::{Place, Subject};
+    use super::{About, Place, Subject};
     use crate::read::Unread;
 
     /// The text of the place that a JSON text is.
     fn shown(json: &str) -> String {
-        let place = Place::parse(json).expect("a place");
+        let about = About::parse(json).expect("a place");
+        let place = about.and_then(About::into_place);
         place.map_or_else(String::new, |it| it.to_string())
     }
 
@@ -267,8 +398,8 @@ mod tests {
             r#"import "m" "f", wanted (i32, (ref null 3)) -> i64, found () -> (externref, (ref func)), in adapter "a \"b\"""#
         );
         assert_eq!(
-            Place::parse(&of_import.replace("TYPES", "null")),
-            Ok(Some(Place {
+            About::parse(&of_import.replace("TYPES", "null")),
+            Ok(Some(About::Place(Place {
                 adapter: Some("a \"b\"".into()),
                 subject: Subject::Import {
                     module: "m".into(),
@@ -276,7 +407,7 @@ mod tests {
                     index: 3
                 },
                 types: None
-            }))
+            })))
         );
         for (json, text) in [
             (
@@ -308,7 +439,30 @@ mod tests {
                 r#"{"kind":"page-sizes","adapter":"old","own":1,"main":65536}"#,
                 r#"page size 1, main module's 65536, in adapter "old""#,
             ),
-            (r#"{"kind":"function","name":"log"}"#, r#"function "log""#),
+            (
+                r#"{"kind":"function","adapter":null,"interface":null,"name":"log","abi":"guest-import"}"#,
+                r#"function "log""#,
+            ),
+            (
+                r#"{"kind":"function","adapter":"old","interface":"a:b/c","name":"f","abi":"guest-import-async"}"#,
+                r#"function "a:b/c" "f", in adapter "old""#,
+            ),
+            (
+                r#"{"kind":"bytes","adapter":null,"offset":57,"section":2}"#,
+                "byte 57, in the import section",
+            ),
+            (
+                r#"{"kind":"bytes","adapter":"old","offset":4,"section":null}"#,
+                r#"byte 4, in adapter "old""#,
+            ),
+            (
+                r#"{"kind":"worlds","name":"a","worlds":["b:c/d","e"]}"#,
+                r#"worlds "b:c/d" "e""#,
+            ),
+            (
+                r#"{"kind":"worlds","name":"a","worlds":[]}"#,
+                "there is no world",
+            ),
             (r#"{"kind":"world","index":0}"#, "world 0"),
             (r#"{"kind":"interface","index":1}"#, "interface 1"),
             (r#"{"kind":"type","index":2}"#, "type 2"),
@@ -323,7 +477,27 @@ mod tests {
             r#"{"kind":"section","id":256}"#,
             r#"{"kind":"export","adapter":3,"name":"f"}"#,
         ] {
-            assert_eq!(Place::parse(json), Err(Unread::Unknown), "{json}");
+            assert_eq!(About::parse(json), Err(Unread::Unknown), "{json}");
+        }
+    }
+
+    /// What an error has in its fault, and not as a place.
+    #[test]
+    fn others() {
+        for (json, about) in [
+            (
+                r#"{"kind":"module","adapter":"`"}"#,
+                About::Adapter("`".into()),
+            ),
+            (r#"{"kind":"key","key":"a`b"}"#, About::Key("a`b".into())),
+            (r#"{"kind":"json-byte","byte":7}"#, About::Byte(7)),
+            (
+                r#"{"kind":"json-path","path":"a[0]"}"#,
+                About::Path("a[0]".into()),
+            ),
+        ] {
+            assert_eq!(shown(json), "");
+            assert_eq!(About::parse(json), Ok(Some(about)));
         }
     }
 }

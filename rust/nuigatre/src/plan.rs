@@ -10,7 +10,7 @@ use crate::json::Value;
 use crate::memory::OutOfMemory;
 use crate::read::{Read, Unread, member, optional_member};
 use crate::world::ComponentWorld;
-use crate::world_error::WorldError;
+use crate::world_error::world_error;
 use std::fmt::{self, Display, Formatter};
 use std::{iter, slice, str, vec};
 
@@ -71,7 +71,7 @@ impl Plan {
         match ffi::plan(message.as_bytes(), &modules, room)? {
             Answered::Bytes { bytes, .. } => Ok(read_plan(&bytes)?),
             Answered::Same | Answered::BadArgument => Err(Error::OtherVersion),
-            Answered::Fault(fault) => Err(Error::World(WorldError::of(fault, encoder)?)),
+            Answered::Fault(fault) => Err(Error::World(world_error(&fault, encoder)?)),
         }
     }
 }

@@ -3,13 +3,14 @@
 use crate::compact::compact;
 use crate::encoder::ComponentEncoder;
 use crate::error::Error;
+use crate::ffi::{self, Answered};
 use crate::ids::TypeId;
 use crate::json::{Reader, Value, is_one_value};
 use crate::memory::{fitted_text, push};
 use crate::read::{Unread, optional};
 use crate::wit_types::Type;
 use crate::world::ComponentWorld;
-use crate::world_error::{WorldError, WorldFault};
+use crate::world_error::{WorldFault, not_json};
 use std::str::FromStr;
 
 /// Resolved worlds that were read once, for the encoding of many components: worlds, interfaces, types and packages.
@@ -99,7 +100,7 @@ impl<'a> Worlds<'a> {
     pub(crate) fn json(self) -> Result<&'a str, Error> {
         match self {
             Worlds::Json(json) if is_one_value(json) => Ok(json),
-            Worlds::Json(json) => Err(Error::World(WorldError::not_json(json)?)),
+            Worlds::Json(json) => Err(not_one_value(json)),
             Worlds::Resolved(resolved) => Ok(&resolved.json),
         }
     }
@@ -110,6 +111,18 @@ impl<'a> Worlds<'a> {
             Worlds::Json(json) => json,
             Worlds::Resolved(resolved) => &resolved.json,
         }
+    }
+}
+
+/// How many bytes a first buffer has for what is said of a text.
+const ROOM: usize = 1024;
+
+/// Why a text is not one value of JSON, by a call to which it is the message.
+fn not_one_value(json: &str) -> Error {
+    match ffi::world(json.as_bytes(), b"", ROOM) {
+        Ok(Answered::Fault(fault)) => not_json(&fault).map_or_else(Error::from, Error::World),
+        Ok(_) => Error::OtherVersion,
+        Err(error) => error,
     }
 }
 

@@ -3,7 +3,7 @@
 use crate::encoder::ComponentEncoder;
 use crate::error::Error;
 use crate::ffi::{self, Answered};
-use crate::world_error::WorldError;
+use crate::world_error::world_error;
 
 /// How many bytes the buffer has for the text and the place of a fault. Where they are longer the call is made twice.
 const ROOM: usize = 4096;
@@ -44,6 +44,6 @@ fn validate(encoder: &ComponentEncoder<'_>, adapter: Option<&str>) -> Result<(),
         // no adapter has a name that is not given
         Answered::BadArgument if adapter.is_some() => Err(Error::UnknownAdapter),
         Answered::Same | Answered::BadArgument => Err(Error::OtherVersion),
-        Answered::Fault(fault) => Err(Error::World(WorldError::of(fault, encoder)?)),
+        Answered::Fault(fault) => Err(Error::World(world_error(&fault, encoder)?)),
     }
 }

@@ -15,7 +15,7 @@ use crate::ordered_map::OrderedMap;
 use crate::plan::Plan;
 use crate::read::{Read, Unread, list, map, member, optional_member};
 use crate::required_options::RequiredOptions;
-use crate::world_error::WorldError;
+use crate::world_error::world_error;
 
 /// How many bytes of a first buffer are for the record of the modules' imports and exports, at most.
 const MORE: usize = 1 << 22;
@@ -239,7 +239,7 @@ fn made<T>(
             Ok((world, more))
         }
         Answered::Same | Answered::BadArgument => Err(Error::OtherVersion),
-        Answered::Fault(fault) => Err(Error::World(WorldError::of(fault, encoder)?)),
+        Answered::Fault(fault) => Err(Error::World(world_error(&fault, encoder)?)),
     }
 }
 

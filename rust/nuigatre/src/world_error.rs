@@ -1,27 +1,24 @@
 //! Why a component has no world.
 
-use crate::encoder::ComponentEncoder;
+use crate::encoder::{ComponentEncoder, World};
 use crate::faults::{DedupeFault, GcFault, ReadFault, numbered, parts_of};
 use crate::ffi::Fault;
-use crate::memory::{Held, string};
-use crate::place::{Place, Shown};
+use crate::memory::string;
+use crate::place::About;
 use crate::read::{Backquoted, Unread};
-use crate::syntax::json_end;
+use crate::refused::Refused;
 use std::error;
-use std::fmt::{self, Debug, Display, Formatter};
+use std::fmt::{self, Display, Formatter};
 
-/// Why a component has no world. Its text is that of the fault, which has all names that it carries, with escapes for what is
-/// not printed, and the path to what is wrong in the message of which the worlds are the member `resolve`. Its source is
-/// [the place](WorldError::place).
-#[derive(Clone, PartialEq, Eq)]
-pub struct WorldError {
-    fault: WorldFault,
-    text: String,
-    place: Held<Place>,
-}
+/// Why a component has no world, and where. Its text has all names that the fault carries, with escapes for what is not
+/// printed, and the path to what is wrong in the JSON of the worlds.
+pub type WorldError = Refused<WorldFault>;
 
 /// The number of the encoder's fault that no world is at the index.
 const UNKNOWN_WORLD: u32 = 1;
+
+/// The number of the fault of JSON that a text is none.
+const NOT_JSON: u32 = 1;
 
 /// Why a component has no world. Of several causes the first in this order is named, and of several keys the first, those
 /// of the main module before those of adapters; but a key that is given twice after all that are unknown or of several
@@ -31,10 +28,12 @@ const UNKNOWN_WORLD: u32 = 1;
 pub enum WorldFault {
     /// The JSON of the worlds is not what it has to be.
     Json(JsonFault),
-    /// No world has the name, or none is at the index.
-    UnknownWorld,
-    /// Several worlds have the name.
-    SeveralWorlds,
+    /// No world has this name. The place of the error has those that there are.
+    UnknownWorld(String),
+    /// No world is at this index.
+    UnknownIndex(u32),
+    /// Several worlds have this name. The place of the error has all that there are.
+    SeveralWorlds(String),
     /// The world is given by its name, and a world says to be of a package that is not there.
     PackageRange,
     /// The worlds, interfaces, types and packages are not well-formed.
@@ -72,12 +71,16 @@ pub enum JsonFault {
     /// The text is not JSON, or not one value of it.
     #[non_exhaustive]
     NotJson {
-        /// The byte of the JSON of the worlds at which the first piece begins that JSON can't have there; its length, where
-        /// it ends too early.
+        /// The byte of the JSON of the worlds at which the first piece begins that JSON can't have there, or the comma is; its
+        /// length, where it ends too early.
         position: usize,
     },
     /// An object has two members of one name.
-    RepeatedMember,
+    #[non_exhaustive]
+    RepeatedMember {
+        /// The path in the JSON of the worlds to the first member whose object has one of its name before.
+        path: String,
+    },
     /// A value is not what it has to be.
     #[non_exhaustive]
     Wrong {
@@ -227,38 +230,40 @@ pub enum ValidateFault {
     TypedReference,
 }
 
-impl JsonFault {
-    /// The fault of this number, whose text is this one, of these worlds.
-    fn from_number(number: u32, text: &str, worlds: &str) -> Result<JsonFault, Unread> {
-        match parts_of(number) {
-            (1, 0) => Ok(JsonFault::not_json(worlds)),
-            (2, 0) => Ok(JsonFault::RepeatedMember),
-            (3, carried) => Ok(JsonFault::Wrong {
-                path: string(path_of(text).ok_or(Unread::Unknown)?)?,
-                problem: Problem::from_number(carried)?,
-            }),
-            _ => Err(Unread::Unknown),
-        }
-    }
+/// What a message begins with, before the worlds.
+pub(crate) const BEFORE_WORLDS: &str = "{\"resolve\":";
 
-    /// The fault of worlds that are not JSON.
-    fn not_json(worlds: &str) -> JsonFault {
-        JsonFault::NotJson {
-            position: json_end(worlds),
-        }
+/// The member of a message that the worlds are.
+const WORLDS: &str = "resolve";
+
+impl JsonFault {
+    /// The fault of this number of a message with these worlds.
+    fn from_number(number: u32, about: Option<&About>, worlds: &str) -> Result<JsonFault, Unread> {
+        Ok(match (parts_of(number), about) {
+            ((1, 0), Some(About::Byte(byte))) => JsonFault::NotJson {
+                position: byte.saturating_sub(BEFORE_WORLDS.len()).min(worlds.len()),
+            },
+            ((2, 0), Some(About::Path(path))) => JsonFault::RepeatedMember {
+                path: path_in_worlds(path)?,
+            },
+            ((3, carried), Some(About::Path(path))) => JsonFault::Wrong {
+                path: path_in_worlds(path)?,
+                problem: Problem::from_number(carried)?,
+            },
+            _ => return Err(Unread::Unknown),
+        })
     }
 }
 
-/// The path of the text `Json: PATH: PROBLEM`, from the worlds on, which are the member `resolve` of the message.
-fn path_of(text: &str) -> Option<&str> {
-    let (path, _) = text.strip_prefix("Json: ")?.rsplit_once(": ")?;
-    let path = path.strip_prefix("resolve")?;
-    Some(path.strip_prefix('.').unwrap_or(path))
+/// A path of the message, from the worlds on, in which it is.
+fn path_in_worlds(path: &str) -> Result<String, Unread> {
+    let path = path.strip_prefix(WORLDS).ok_or(Unread::Unknown)?;
+    Ok(string(path.strip_prefix('.').unwrap_or(path))?)
 }
 
 impl ValidateFault {
-    /// The fault of this number, whose text is this one.
-    fn from_number(number: u32, text: &str) -> Result<ValidateFault, Unread> {
+    /// The fault of this number.
+    fn from_number(number: u32, about: Option<&About>) -> Result<ValidateFault, Unread> {
         Ok(match parts_of(number) {
             (1, carried) => ValidateFault::Read(ReadFault::from_number(carried)?),
             (2, 0) => ValidateFault::NotAModule,
@@ -280,7 +285,10 @@ impl ValidateFault {
             (18, 0) => ValidateFault::MissingCallback,
             (19, 0) => ValidateFault::MissingInterfaceExport,
             (20, 0) => ValidateFault::MissingWorldExport,
-            (21, 0) => ValidateFault::AdapterModuleDidNotExport(quoted(text, NOT_EXPORTED)?),
+            (21, 0) => {
+                let name = about.and_then(About::missing_export);
+                ValidateFault::AdapterModuleDidNotExport(string(name.ok_or(Unread::Unknown)?)?)
+            }
             (22, 0) => ValidateFault::AdapterExportType,
             (23, 0) => ValidateFault::TypedReference,
             _ => return Err(Unread::Unknown),
@@ -288,190 +296,97 @@ impl ValidateFault {
     }
 }
 
-impl WorldError {
-    /// What is wrong.
-    #[must_use]
-    pub fn fault(&self) -> &WorldFault {
-        &self.fault
-    }
+/// The error of a fault that the archive answered to the message of an encoder.
+pub(crate) fn world_error(
+    answered: &Fault,
+    encoder: &ComponentEncoder<'_>,
+) -> Result<WorldError, Unread> {
+    let about = answered.about()?;
+    let fault = WorldFault::from_number(answered.number, about.as_ref(), encoder)?;
+    Ok(Refused::new(fault, about.and_then(About::into_place))?)
+}
 
-    /// What the fault is about, if that is known:
-    ///
-    /// - of [`Main`](WorldFault::Main), [`Adapter`](WorldFault::Adapter) and [`Minimized`](WorldFault::Minimized) an import
-    ///   or an export of the module, or what it lacks; nothing where its bytes are no module;
-    /// - of [`Trim`](WorldFault::Trim) a section, or the body of a function, where that is unsupported or no code;
-    /// - of [`PageSize`](WorldFault::PageSize) the adapter, and both sizes;
-    /// - of [`Plan`](WorldFault::Plan) the function;
-    /// - of [`Resolve`](WorldFault::Resolve) a world, an interface, a type or a package.
-    #[must_use]
-    pub fn place(&self) -> Option<&Place> {
-        self.place.get()
+/// The error of worlds that are no value of JSON, of the archive's answer to them alone.
+pub(crate) fn not_json(answered: &Fault) -> Result<WorldError, Unread> {
+    match (parts_of(answered.number), answered.about()?) {
+        ((2, NOT_JSON), Some(About::Byte(position))) => {
+            let fault = WorldFault::Json(JsonFault::NotJson { position });
+            Ok(Refused::new(fault, None)?)
+        }
+        _ => Err(Unread::Unknown),
     }
+}
 
-    /// The worlds are not JSON, or more than one value of it.
-    pub(crate) fn not_json(worlds: &str) -> Result<WorldError, Unread> {
-        Ok(WorldError {
-            fault: WorldFault::Json(JsonFault::not_json(worlds)),
-            text: string("Json: not JSON")?,
-            place: Held::NOTHING,
-        })
-    }
-
-    /// No world has the name, or none is at the index.
-    fn unknown_world() -> Result<WorldError, Unread> {
-        Ok(WorldError {
-            fault: WorldFault::UnknownWorld,
-            text: string("UnknownWorld")?,
-            place: Held::NOTHING,
-        })
-    }
-
-    /// The error of a fault that the archive answered to the message of an encoder.
-    pub(crate) fn of(
-        answered: Fault,
+impl WorldFault {
+    /// The fault of this number, of the message of an encoder.
+    fn from_number(
+        number: u32,
+        about: Option<&About>,
         encoder: &ComponentEncoder<'_>,
-    ) -> Result<WorldError, Unread> {
-        let number = answered.number;
-        let (text, place) = answered.into_parts()?;
-        let fault = match parts_of(number) {
-            (2, carried) => {
+    ) -> Result<WorldFault, Unread> {
+        Ok(match (parts_of(number), about) {
+            ((2, carried), about) => {
                 let worlds = encoder.resolve.text();
-                WorldFault::Json(JsonFault::from_number(carried, &text, worlds)?)
+                WorldFault::Json(JsonFault::from_number(carried, about, worlds)?)
             }
-            (3, 0) => WorldFault::UnknownWorld,
-            (5, carried) => WorldFault::Resolve(ResolveFault::from_number(carried)?),
-            (6, 0) => {
-                WorldFault::AdapterTwice(named(&text, "AdapterTwice ", |it| it == "`", encoder)?)
-            }
-            (7, carried) => WorldFault::Dedupe(DedupeFault::from_number(carried)?),
-            (8, UNKNOWN_WORLD) => return WorldError::unknown_world(),
-            (8, carried) => WorldFault::Encoder(EncoderFault::from_number(carried)?),
-            (9, carried) => of_module(carried, &text, encoder)?,
-            (10, carried) => WorldFault::Plan(PlanFault::from_number(carried)?),
-            (11, 0) => WorldFault::SeveralWorlds,
-            (12, 0) => WorldFault::PackageRange,
-            (13, 0) => WorldFault::UnknownKey(quoted(&text, "UnknownKey ")?),
-            (14, 0) => WorldFault::SeveralKeys(quoted(&text, "SeveralKeys ")?),
-            (15, 0) => WorldFault::RepeatedKey(quoted(&text, "RepeatedKey ")?),
+            ((3, 0), Some(About::Worlds { name, .. })) => WorldFault::UnknownWorld(string(name)?),
+            ((5, carried), _) => WorldFault::Resolve(ResolveFault::from_number(carried)?),
+            ((6, 0), about) => WorldFault::AdapterTwice(adapter_of(about)?),
+            ((7, carried), _) => WorldFault::Dedupe(DedupeFault::from_number(carried)?),
+            ((8, UNKNOWN_WORLD), _) => match encoder.world {
+                World::Index(index) => WorldFault::UnknownIndex(index),
+                World::Name(_) => return Err(Unread::Unknown),
+            },
+            ((8, carried), _) => WorldFault::Encoder(EncoderFault::from_number(carried)?),
+            ((9, carried), about) => WorldFault::of_module(carried, about)?,
+            ((10, carried), _) => WorldFault::Plan(PlanFault::from_number(carried)?),
+            ((11, 0), Some(About::Worlds { name, .. })) => WorldFault::SeveralWorlds(string(name)?),
+            ((12, 0), _) => WorldFault::PackageRange,
+            ((13, 0), Some(About::Key(key))) => WorldFault::UnknownKey(string(key)?),
+            ((14, 0), Some(About::Key(key))) => WorldFault::SeveralKeys(string(key)?),
+            ((15, 0), Some(About::Key(key))) => WorldFault::RepeatedKey(string(key)?),
             _ => return Err(Unread::Unknown),
-        };
-        let place = Held::of(place)?;
-        Ok(WorldError { fault, text, place })
+        })
+    }
+
+    /// The fault of this number of a module.
+    fn of_module(number: u32, about: Option<&About>) -> Result<WorldFault, Unread> {
+        let (own, carried) = parts_of(number);
+        let refused = || ValidateFault::from_number(carried, about);
+        Ok(match own {
+            1 => WorldFault::Main(refused()?),
+            2 => WorldFault::Adapter(adapter_of(about)?, refused()?),
+            3 => {
+                let missing = about.and_then(About::missing_export);
+                WorldFault::Trim(adapter_of(about)?, GcFault::from_number(carried, missing)?)
+            }
+            4 => WorldFault::Minimized(adapter_of(about)?, refused()?),
+            5 if carried == 0 => WorldFault::PageSize,
+            _ => return Err(Unread::Unknown),
+        })
     }
 }
 
-/// The fault of this number of a module, whose text is this one.
-fn of_module(
-    number: u32,
-    text: &str,
-    encoder: &ComponentEncoder<'_>,
-) -> Result<WorldFault, Unread> {
-    let (own, carried) = parts_of(number);
-    // of a fault of an adapter its name, and the text of what is wrong with it
-    let parts = |head| {
-        let name = named(text, head, |it| it.starts_with("`: "), encoder)?;
-        let rest = text.get(head.len() + name.len() + 2..);
-        let rest = rest.and_then(|it| it.strip_prefix(": "));
-        Ok::<_, Unread>((name, rest.ok_or(Unread::Unknown)?))
-    };
-    Ok(match own {
-        1 => {
-            let rest = text.strip_prefix("World: Main: ").ok_or(Unread::Unknown)?;
-            WorldFault::Main(ValidateFault::from_number(carried, rest)?)
-        }
-        2 => {
-            let (name, rest) = parts("World: Adapter ")?;
-            WorldFault::Adapter(name, ValidateFault::from_number(carried, rest)?)
-        }
-        3 => {
-            let (name, rest) = parts("World: Trim ")?;
-            WorldFault::Trim(
-                name,
-                GcFault::from_number(carried, in_quotes(rest, MISSING))?,
-            )
-        }
-        4 => {
-            let (name, rest) = parts("World: Minimized ")?;
-            WorldFault::Minimized(name, ValidateFault::from_number(carried, rest)?)
-        }
-        5 if carried == 0 => WorldFault::PageSize,
-        _ => return Err(Unread::Unknown),
-    })
-}
-
-/// What the text of a missing export of an adapter begins with, where it is trimmed.
-const MISSING: &str = "adapter module does not have export ";
-
-/// The same where another module imports it.
-const NOT_EXPORTED: &str = "adapter module did not export ";
-
-/// The name of an adapter of the encoder, which a text has in backquotes after its head, and what is after it has to fit: the
-/// longest of those that do.
-fn named(
-    text: &str,
-    head: &str,
-    rest_fits: impl Fn(&str) -> bool,
-    encoder: &ComponentEncoder<'_>,
-) -> Result<String, Unread> {
-    let rest = text.strip_prefix(head).and_then(|it| it.strip_prefix('`'));
-    let rest = rest.ok_or(Unread::Unknown)?;
-    let names = encoder.adapters.iter().map(|adapter| adapter.name);
-    let fits = |name: &&str| rest.strip_prefix(*name).is_some_and(&rest_fits);
-    let name = names.filter(fits).max_by_key(|name| name.len());
+/// The name of the adapter that a fault is about.
+fn adapter_of(about: Option<&About>) -> Result<String, Unread> {
+    let name = about.and_then(About::adapter);
     Ok(string(name.ok_or(Unread::Unknown)?)?)
-}
-
-/// What a text has in backquotes after its head, if that is all that it has.
-fn in_quotes<'a>(text: &'a str, head: &str) -> Option<&'a str> {
-    let rest = text.strip_prefix(head)?.strip_prefix('`')?;
-    rest.strip_suffix('`')
-}
-
-/// The same, as a text that is wanted.
-fn quoted(text: &str, head: &str) -> Result<String, Unread> {
-    Ok(string(in_quotes(text, head).ok_or(Unread::Unknown)?)?)
-}
-
-impl Display for WorldError {
-    fn fmt(&self, f: &mut Formatter<'_>) -> fmt::Result {
-        match &self.fault {
-            // its text has names in quotes, with escapes
-            WorldFault::Json(_) => f.write_str(&self.text),
-            fault => write!(f, "{fault}"),
-        }
-    }
-}
-
-impl Debug for WorldError {
-    /// The place is there by its text.
-    fn fmt(&self, f: &mut Formatter<'_>) -> fmt::Result {
-        f.debug_struct("WorldError")
-            .field("fault", &self.fault)
-            .field("place", &Shown(self.place()))
-            .finish()
-    }
-}
-
-impl error::Error for WorldError {
-    /// [The place](WorldError::place).
-    fn source(&self) -> Option<&(dyn error::Error + 'static)> {
-        self.place().map(|place| place as _)
-    }
 }
 
 impl Display for WorldFault {
     fn fmt(&self, f: &mut Formatter<'_>) -> fmt::Result {
         match self {
             WorldFault::Json(fault) => write!(f, "Json: {fault}"),
-            WorldFault::UnknownWorld => f.write_str("UnknownWorld"),
-            WorldFault::SeveralWorlds => f.write_str("SeveralWorlds"),
+            WorldFault::UnknownWorld(name) => write!(f, "UnknownWorld {}", Backquoted(name)),
+            WorldFault::UnknownIndex(index) => write!(f, "UnknownIndex {index}"),
+            WorldFault::SeveralWorlds(name) => write!(f, "SeveralWorlds {}", Backquoted(name)),
             WorldFault::PackageRange => f.write_str("PackageRange"),
             WorldFault::Resolve(fault) => write!(f, "Resolve: {fault}"),
             WorldFault::UnknownKey(key) => write!(f, "UnknownKey {}", Backquoted(key)),
             WorldFault::SeveralKeys(key) => write!(f, "SeveralKeys {}", Backquoted(key)),
             WorldFault::RepeatedKey(key) => write!(f, "RepeatedKey {}", Backquoted(key)),
             WorldFault::AdapterTwice(name) => write!(f, "AdapterTwice {}", Backquoted(name)),
-            WorldFault::Dedupe(fault) => write!(f, "Dedupe: {fault}"),
+            WorldFault::Dedupe(fault) => write!(f, "Main module: {fault}"),
             WorldFault::Encoder(fault) => write!(f, "Encoder: {fault}"),
             WorldFault::Main(fault) => write!(f, "World: Main: {fault}"),
             WorldFault::Adapter(name, fault) => {
@@ -492,8 +407,8 @@ impl Display for WorldFault {
 impl Display for JsonFault {
     fn fmt(&self, f: &mut Formatter<'_>) -> fmt::Result {
         match self {
-            JsonFault::NotJson { .. } => f.write_str("not JSON"),
-            JsonFault::RepeatedMember => f.write_str("repeated member"),
+            JsonFault::NotJson { position } => write!(f, "not JSON at byte {position}"),
+            JsonFault::RepeatedMember { path } => write!(f, "{path}: repeated member"),
             JsonFault::Wrong { path, problem } if path.is_empty() => write!(f, "{problem}"),
             JsonFault::Wrong { path, problem } => write!(f, "{path}: {problem}"),
         }
@@ -505,7 +420,7 @@ impl Display for ValidateFault {
         match self {
             ValidateFault::Read(fault) => write!(f, "Read: {fault}"),
             ValidateFault::AdapterModuleDidNotExport(name) => {
-                write!(f, "{NOT_EXPORTED}{}", Backquoted(name))
+                write!(f, "adapter module did not export {}", Backquoted(name))
             }
             fault => write!(f, "{fault:?}"),
         }

@@ -95,10 +95,15 @@ fn faults_carry_what_they_are_about() {
     let fault = gc::run(b"\0asm\x0d\0\x01\0", ["b"], None, 16).expect_err("a component");
     assert_eq!(trim_fault(&fault), &GcFault::Read(ReadFault::Component));
     assert_eq!(fault.to_string(), "Trim: Read: Component");
-    // its text has all that is known
-    assert!(fault.source().is_none());
+    let source = fault.source().map(ToString::to_string);
+    assert_eq!(source.as_deref(), Some("byte 4"));
     let fault = ModuleImportMap::new(Cow::Borrowed(b"\0asm")).expect_err("no module");
-    assert_eq!(fault, Error::Dedupe(DedupeFault::Read(ReadFault::NotWasm)));
+    match &fault {
+        Error::Dedupe(error) => {
+            assert_eq!(*error.fault(), DedupeFault::Read(ReadFault::NotWasm));
+        }
+        other => panic!("no fault of renaming: {other:?}"),
+    }
 }
 
 /// A module that imports `f` of a module with a name of so many bytes, so many times.

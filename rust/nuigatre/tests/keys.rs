@@ -196,10 +196,18 @@ fn worlds_by_their_names() {
         assert_eq!(found(name), None, "{name}");
     }
     for name in ["both", "my:demo/both"] {
-        assert_eq!(found(name), Some(WorldFault::SeveralWorlds), "{name}");
+        assert_eq!(
+            found(name),
+            Some(WorldFault::SeveralWorlds(name.into())),
+            "{name}"
+        );
     }
     for name in ["my:demo/one@2.0.0", "three", "", "my:demo"] {
-        assert_eq!(found(name), Some(WorldFault::UnknownWorld), "{name}");
+        assert_eq!(
+            found(name),
+            Some(WorldFault::UnknownWorld(name.into())),
+            "{name}"
+        );
     }
     for name in ["one", "my:demo/one", "my:demo/one@1.2.0"] {
         assert!(matches!(found(name), Some(WorldFault::Main(_))), "{name}");

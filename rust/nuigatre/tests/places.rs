@@ -1,8 +1,9 @@
 //! What faults are about: ten ordinary mistakes, and the parts of an adapter and of worlds.
 
 use nuigatre::{
-    Adapter, ComponentEncoder, ComponentWorld, Error, GcFault, Plan, PlanFault, ResolveFault,
-    Resolved, Subject, ValidateFault, WorldFault, gc, validate_adapter_module, validate_module,
+    Adapter, ComponentEncoder, ComponentWorld, Error, GcFault, ModuleImportMap, Plan, PlanFault,
+    ResolveFault, Resolved, Subject, ValidateFault, WorldFault, gc, validate_adapter_module,
+    validate_module,
 };
 use std::error::Error as _;
 
@@ -207,7 +208,7 @@ fn a_memory_missing() {
     let main = main_module(&[(HOST, "log", ("ii", ""))]);
     let (error, place) = mistake(&main, &[]);
     assert_eq!(*world_fault(&error), WorldFault::Plan(PlanFault::NoMemory));
-    assert_eq!(place, r#"function "log""#);
+    assert_eq!(place, r#"function "my:demo/host@0.2.0" "log""#);
 }
 
 #[test]
@@ -286,8 +287,69 @@ fn an_adapter_for_the_wrong_world() {
 #[test]
 fn a_text_that_is_no_module() {
     let (error, place) = mistake(b"(module)", &[]);
-    assert_eq!(error.to_string(), "Dedupe: Read: NotWasm");
-    assert_eq!(place, "");
+    assert_eq!(error.to_string(), "Main module: Read: NotWasm");
+    assert_eq!(place, "byte 0");
+}
+
+/// A module that is cut in its import section, whose content begins with the byte 16.
+#[test]
+fn cut_modules() {
+    let whole = b"\0asm\x01\0\0\0\x01\x04\x01\x60\0\0\x02\x09\x01\x03env\x01f\0\0";
+    let cut = &whole[..20];
+    // the import section says that it is longer: so the bytes end in no whole section
+    let wanted = "byte 20";
+    let (error, place) = mistake(cut, &[]);
+    assert_eq!(error.to_string(), "Main module: Read: Truncated");
+    assert_eq!(place, wanted);
+    let places = [
+        ModuleImportMap::new(cut.into()).map(|_| ()),
+        gc::run(cut, ["f"], None, 16).map(|_| ()),
+        gc::why(cut, ["f"]).map(|_| ()),
+    ];
+    for answer in places {
+        let error = answer.expect_err("a module that is cut");
+        assert_eq!(error.place().map(ToString::to_string), Some(wanted.into()));
+    }
+    let main = main_module(&[("old", "f", ("", ""))]);
+    let (error, place) = mistake(&main, &[Adapter::new("old", cut)]);
+    assert_eq!(error.to_string(), "World: Adapter `old`: Read: Truncated");
+    assert_eq!(place, format!("{wanted}, in adapter \"old\""));
+}
+
+/// Names of adapters, and of what they lack, that are like texts of faults.
+#[test]
+fn names_like_texts() {
+    let names = [
+        "a",
+        "a`: adapter module did not export `b",
+        "`",
+        "`: Read: NotWasm",
+        "World: Adapter `a`: x",
+    ];
+    for name in names {
+        let main = main_module(&[(name, "f", ("i", "i"))]);
+        let lacking = module(&[], &[("g", ("i", "i"))], false);
+        let adapters = names.map(|other| Adapter::new(other, &lacking));
+        let (error, place) = mistake(&main, &adapters);
+        let lacks = ValidateFault::AdapterModuleDidNotExport("f".into());
+        assert_eq!(
+            *world_fault(&error),
+            WorldFault::Adapter(name.into(), lacks)
+        );
+        assert_eq!(place, format!("missing export \"f\", in adapter {name:?}"));
+        // the export that is missing has the name
+        let main = main_module(&[("a", name, ("i", "i"))]);
+        let (error, _) = mistake(&main, &adapters);
+        let lacks = ValidateFault::AdapterModuleDidNotExport(name.into());
+        assert_eq!(*world_fault(&error), WorldFault::Adapter("a".into(), lacks));
+        // two memories are reached: a fault without a place in the adapter
+        let memories = b"\0asm\x01\0\0\0\x01\x04\x01\x60\0\0\x02\x24\x02\x03env\x06memory\x02\0\x01\x0f__main_module__\x01m\x02\0\x01\
+            \x03\x02\x01\0\x07\x05\x01\x01f\0\0\x0a\x0a\x01\x08\0\x3f\0\x1a\x3f\x01\x1a\x0b";
+        let main = main_module(&[(name, "f", ("", ""))]);
+        let (error, place) = mistake(&main, &[Adapter::new(name, memories)]);
+        let fault = WorldFault::Trim(name.into(), GcFault::SeveralMemories);
+        assert_eq!((world_fault(&error), place), (&fault, String::new()));
+    }
 }
 
 /// What an adapter lacks, or exports with another type.
@@ -354,7 +416,13 @@ fn no_encoder() {
     let main = main_module(&[]);
     let encoder = ComponentEncoder::new(WORLDS, "other", &main);
     let error = validate_module(&encoder).expect_err("no such world");
-    assert_eq!(*world_fault(&error), WorldFault::UnknownWorld);
+    assert_eq!(
+        *world_fault(&error),
+        WorldFault::UnknownWorld("other".into())
+    );
+    assert_eq!(error.to_string(), "UnknownWorld `other`");
+    let worlds = error.place().map(ToString::to_string);
+    assert_eq!(worlds.as_deref(), Some(r#"worlds "my:demo/w@0.2.0""#));
     let adapter = validate_adapter_module(&encoder, "old");
     assert_eq!(adapter, Err(error));
 }

@@ -95,8 +95,7 @@ fn the_same_answers() {
     );
     match ComponentWorld::new(&ComponentEncoder::new(&resolved, 1, &module)) {
         Err(Error::World(error)) => {
-            let unknown = WorldFault::UnknownWorld;
-            assert_eq!(*error.fault(), unknown);
+            assert_eq!(*error.fault(), WorldFault::UnknownIndex(1));
         }
         answer => panic!("no fault: {answer:?}"),
     }
@@ -133,15 +132,20 @@ fn worlds_that_are_refused() {
         }
     }
     let (fault, text) = refused("{}");
-    assert_eq!(text, "Json: resolve.worlds: missing");
+    assert_eq!(text, "Json: worlds: missing");
     assert!(matches!(
         fault,
         WorldFault::Json(JsonFault::Wrong { path, problem: Problem::Missing, .. }) if path == "worlds"
     ));
     // one that would be left out
     let twice = WORLDS.replace("\"docs\": null", "\"docs\": null, \"docs\": null");
-    let repeated = WorldFault::Json(JsonFault::RepeatedMember);
-    assert_eq!(refused(&twice).0, repeated);
+    let (fault, text) = refused(&twice);
+    let member = "interfaces[0].functions.f.docs";
+    assert!(matches!(
+        fault,
+        WorldFault::Json(JsonFault::RepeatedMember { path, .. }) if path == member
+    ));
+    assert_eq!(text, format!("Json: {member}: repeated member"));
     let range = WORLDS.replace("\"type\": 5", "\"type\": 6");
     let fault = WorldFault::Resolve(ResolveFault::IdRange);
     assert_eq!(refused(&range).0, fault);

@@ -138,11 +138,11 @@ fn a_world_by_its_index() {
     let by_name = ComponentWorld::new(&self::encoder());
     assert_eq!(ComponentWorld::new(&encoder), by_name);
     encoder.world = World::Index(1);
-    // by its name or its index
-    let unknown = (WorldFault::UnknownWorld, "UnknownWorld".into());
+    let unknown = (WorldFault::UnknownIndex(1), "UnknownIndex 1".into());
     assert_eq!(fault_of(&encoder), unknown);
-    encoder.world = World::Name("root");
-    assert_eq!(fault_of(&encoder), unknown);
+    encoder.world = World::Name("ro`ot");
+    let unknown = WorldFault::UnknownWorld("ro`ot".into());
+    assert_eq!(fault_of(&encoder), (unknown, "UnknownWorld `ro`ot`".into()));
 }
 
 /// Where worlds are not JSON.
@@ -165,9 +165,7 @@ fn faults_have_their_paths() {
             let JsonFault::Wrong { path, problem, .. } = &fault else {
                 panic!("no path: {fault:?}");
             };
-            // the text is of the message, whose member the worlds are
-            let whole = if path.is_empty() { "" } else { "." };
-            assert_eq!(text, format!("Json: resolve{whole}{path}: {problem}"));
+            assert_eq!(text, format!("Json: {fault}"));
             (path.clone(), *problem, fault.to_string())
         }
         other => panic!("no fault of JSON: {other:?}"),
@@ -196,7 +194,7 @@ fn faults_have_their_paths() {
     ] {
         let (fault, text) = refused(worlds);
         assert_eq!(position_of(&fault), Some(at), "{worlds}");
-        assert_eq!(text, "Json: not JSON");
+        assert_eq!(text, format!("Json: not JSON at byte {at}"));
     }
     assert_eq!(
         refused(&WORLDS.replace("{\"id\": 0}", "{\"id\": 1}")),
@@ -244,7 +242,7 @@ fn modules_that_are_refused() {
         fault_of(&main),
         (
             WorldFault::Dedupe(DedupeFault::Read(ReadFault::NotWasm)),
-            "Dedupe: Read: NotWasm".into()
+            "Main module: Read: NotWasm".into()
         )
     );
     let mut twice = encoder();
