@@ -205,18 +205,18 @@ class Trim(Checked):
         self.check(["dedupe", "three", "none/out"], 1, LINES + "wctrim: cannot write none/out: not found\n")
         for words, fault in {
             "dedupe none out": "cannot read none: not found",
-            "dedupe text out": "Dedupe: Read: NotWasm",
-            "dedupe cut out": "Dedupe: Read: Truncated",
-            "scan component": "Read: Component",
-            "scan text": "Read: NotWasm",
+            "dedupe text out": "Dedupe: Read: NotWasm\n  byte 0",
+            "dedupe cut out": "Dedupe: Read: Truncated\n  byte 12",
+            "scan component": "Read: Component\n  byte 4",
+            "scan text": "Read: NotWasm\n  byte 0",
             "scan none": "cannot read none: not found",
-            "scan cut": "Read: Truncated",
+            "scan cut": "Read: Truncated\n  byte 12",
             "trim none out f": "cannot read none: not found",
             "trim function none/out f": "cannot write none/out: not found",
-            "trim text out f": "Trim: Read: NotWasm",
-            "trim component out f": "Trim: Read: Component",
-            "trim cut out f": "Trim: Read: Truncated",
-            "trim data out f": "Trim: UnsupportedSection",
+            "trim text out f": "Trim: Read: NotWasm\n  byte 0",
+            "trim component out f": "Trim: Read: Component\n  byte 4",
+            "trim cut out f": "Trim: Read: Truncated\n  byte 12",
+            "trim data out f": "Trim: UnsupportedSection\n  data section",
             "trim table out f": "Trim: LiveTable",
         }.items():
             self.check(words.split(), 1, f"wctrim: {fault}\n")
@@ -228,15 +228,15 @@ class Trim(Checked):
             self.check_unprinted(words.split())
         # IN is OUT: it stays where it is refused
         self.check(["dedupe", "out", "out"], 0, LINES, RENAMED, THREE)
-        self.check(["dedupe", "out", "out"], 1, "wctrim: Dedupe: Read: NotWasm\n", b"(module)", b"(module)")
-        self.check(["trim", "out", "out", "f"], 1, "wctrim: Trim: Read: NotWasm\n", b"(module)", b"(module)")
+        self.check(["dedupe", "out", "out"], 1, "wctrim: Dedupe: Read: NotWasm\n  byte 0\n", b"(module)", b"(module)")
+        self.check(["trim", "out", "out", "f"], 1, "wctrim: Trim: Read: NotWasm\n  byte 0\n", b"(module)", b"(module)")
         # what was in OUT stays where the fault comes before it is written, and is replaced where all is well
         self.check(["dedupe", "three", "out"], 0, LINES, RENAMED, b"longer than what is written: " + 9 * THREE)
-        self.check_fault(["dedupe", "text", "out"], "wctrim: Dedupe: Read: NotWasm")
+        self.check_fault(["dedupe", "text", "out"], "wctrim: Dedupe: Read: NotWasm\n  byte 0")
         self.check_fault(["trim", "table", "out", "f"], "wctrim: Trim: LiveTable")
-        self.check_vanishing(["dedupe", "pipe", "out"], THREE[:12], "wctrim: Dedupe: Read: Truncated")
-        self.check_vanishing(["trim", "pipe", "out", "f"], THREE[:12], "wctrim: Trim: Read: Truncated")
-        self.check_vanishing(["scan", "pipe"], b"", "wctrim: Read: NotWasm")
+        self.check_vanishing(["dedupe", "pipe", "out"], THREE[:12], "wctrim: Dedupe: Read: Truncated\n  byte 12")
+        self.check_vanishing(["trim", "pipe", "out", "f"], THREE[:12], "wctrim: Trim: Read: Truncated\n  byte 12")
+        self.check_vanishing(["scan", "pipe"], b"", "wctrim: Read: NotWasm\n  byte 0")
         self.check_refused_by_system()
 
 
