@@ -55,6 +55,18 @@ def repeated(count):
     return HEADER + types() + section(2, vector([function_import("a", "f")] * count))
 
 
+def mixed(count):
+    """A module that imports `count` functions, in an order that chance makes, of 100 names in each of 50 modules. Names share
+    what they begin with, and modules too."""
+    chance = random.Random(1)
+    names = [function_import(f"wasi:io/streams@0.2.{module}", f"[method]output-stream.blocking-write-{at}")
+             for module in range(50) for at in range(100)]
+    return HEADER + types() + section(2, vector([chance.choice(names) for _ in range(count)]))
+
+
+# Modules that are renamed, beside the shapes of adapters that are trimmed, with their largest count.
+RENAMED = {"repeats": (repeated, 100_000), "mixed": (mixed, 100_000)}
+
 FILES = {
     "no-repeats.wasm": lambda: large(0),
     "one-repeat.wasm": lambda: large(1),

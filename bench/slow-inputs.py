@@ -1,27 +1,31 @@
 #!/usr/bin/env python3
-"""Looks for inputs that take more time or memory than their size allows: runs the programs on N parts and on 2 N.
+"""Looks for inputs that take more time or memory than their size allows: runs the programs on N, 2 N and 4 N parts.
 
-    slow-inputs.py [--wctrim PROGRAM] [--wcplan PROGRAM] [--wc-tests PROGRAM] [--library FOLDER] [--parts N] [--seconds S]
-                   [--functions F] [CASE ..]
+    slow-inputs.py [--wctrim PROGRAM] [--wcwhy PROGRAM] [--wcplan PROGRAM] [--wc-tests PROGRAM] [--library FOLDER]
+                   [--parts N] [--seconds S] [--functions F] [CASE ..]
+    slow-inputs.py --write      # the hostile cases alone, and puts their table into docs/PERFORMANCE.md
+    slow-inputs.py --check      # nothing is run
 
-The programs are those in crates/*/out unless others are named; `./wctrim --build`, `./wcplan --build`, and `rt run`
-in crates/wc_tests make them. Messages go to the static library in FOLDER, through message.c; without --library the program
-of rows asks for their plans. Each case is a shape of worlds, modules, keys or messages of so many parts (1,024, or what
-its own factor makes of N): those of slow_cases.py, and `chosen NAME` of names that are chosen to collide (chosen_names.py).
-A CASE is one of the table's first column, a program (`message` too) for all of its cases, or `chosen` for all of those; all
-are run unless some are named.
+The programs are those in crates/*/out unless others are named; `./wctrim --build` and its like make them, and `rt run` in
+crates/wc_tests. Messages go to the static library in FOLDER, through message.c; without --library the program of rows asks
+for their plans. Each case is a shape of worlds, modules, keys or messages of so many parts (512, or what its own factor makes
+of N): those of slow_cases.py, and `chosen NAME` of names that are chosen to collide (chosen_names.py). A CASE is one of the
+table's first column, or the first word of it; a program (`message` too) for all of its cases; `hostile` for those of the
+page's table; or `chosen`. All are run unless some are named.
 
-A line says, of N parts and of 2 N: the bytes that go in, those that come out, and the entries that the answer has besides,
-in thousands; the millions of instructions that callgrind counts; how many times those of N parts 2 N of them take, and the
-most that they may take; and the peak of memory in megabytes. The limit is 2.3, or 1.15 times what the input and the answer
-grow by together. The answer is what the call hands out, though a program may print less: the record of a component's world
-has a list of parameters for each import of some kinds, say. An entry of it that isn't printed counts as a byte. Memory has
-the same limit, from 8 MB on. Chosen names may take 1.5 times what plain ones take, and the line's last figure says how many
-times that is. A run of more than S seconds of the processor (120) is stopped. --functions says after each line which F
-functions 2 N take most instructions in. The status is 1 where a case is past a limit, or stopped; the last line counts them.
-The inputs are written into bench/data.
+A line says, of N, 2 N and 4 N parts: the kilobytes that go in and those that are printed of 4 N; the millions of instructions
+that callgrind counts; the peak of memory in megabytes, by wait4; and of each of the two the step, from N to 2 N or from 2 N
+to 4 N, that is closest to its limit: how many times as much it takes, and how many times it may. The limit is what n log n
+grows by, and a tenth of it, or 2.3. For instructions n is the bytes that go in and those that are printed; for memory,
+from 8 MB on, it is those that go in, since nothing has to be kept that was printed. Chosen names may take 1.5 times what plain
+ones take, and the line's last figure says how many times that is. A run of more than S seconds of the processor (120) is
+stopped. --functions says after each line which F functions 4 N take most instructions in. The status is 1 where a case is
+past a limit, or stopped; the last line counts them. The inputs are written into bench/data.
+
+--write leaves the figures in bench/figures.json; --check compares the table on the page with that file.
 """
 import argparse
+import math
 import os
 import pathlib
 import re
@@ -34,18 +38,25 @@ import sys
 TOP = pathlib.Path(__file__).resolve().parent.parent
 sys.path += [str(TOP / "bench"), str(TOP / "checks")]
 import chosen_names
-from slow_cases import CASES
+import stored_figures
+from slow_cases import CASES, HOSTILE
 from slow_shapes import FOLDER, MESSAGE, MODULES, OUT, ROWS
 
 OUTPUTS = OUT, chosen_names.OUT
 GRIND, PEAK, MESSENGER = (str(FOLDER / file) for file in ("callgrind.out", "peak", "message"))
 TIME = "/usr/bin/time"
-PROGRAMS = "wctrim", "wcplan", "wc_tests"
-PARTS, GROWTH, PER_BYTE, EXCESS = 1024, 2.3, 1.15, 1.5
+PROGRAMS = "wctrim", "wcwhy", "wcplan", "wc_tests"
+# how many times the parts are measured, and how much more than n log n a step may take
+SIZES = 1, 2, 4
+PARTS, GROWTH, SLACK, EXCESS = 512, 2.3, 1.1, 1.5
 # peaks below are mostly those of the program itself
 LEAST_PEAK = 8.0
-TITLES = "%-26s %6s %7s %7s %7s %8s %9s %9s %6s %6s %7s %7s"
-LINE = "%-26s %6d %7.0f %7.0f %7.0f %8.0f %9.1f %9.1f %6.2f %6.2f %7.1f %7.1f  %s"
+TITLES = "%-30s %6s %8s %8s %9s %9s %9s %6s %6s %7s %7s %7s %6s %6s"
+LINE = "%-30s %6d %8.0f %8.0f %9.1f %9.1f %9.1f %6.2f %6.2f %7.1f %7.1f %7.1f %6.2f %6.2f  %s"
+# what the page says of a case that is past a limit
+PAST = {"grows": "instructions", "swells": "memory"}
+HEAD = ("| Shape | n | Bytes in; printed, of 4 n | Millions of instructions, n; 2 n; 4 n | Step | Limit | Memory, MB, n; 2 n; 4 n "
+        "| Step | Limit | Within |")
 
 
 def add_chosen(title, program, make, keys, most):
@@ -55,7 +66,7 @@ def add_chosen(title, program, make, keys, most):
         count = min(count, most) if most else count
         return make(keys(count, count)[plain])
 
-    CASES["chosen " + title] = program, 2.0, None, made
+    CASES["chosen " + title] = program, 2.0, made
 
 
 def limited(seconds):
@@ -67,6 +78,23 @@ def size_of(words, stdin):
     """The bytes of the files that a command reads, and of its arguments."""
     files = [word.rpartition("=")[2] for word in words]
     return sum(map(len, words)) + sum(os.path.getsize(file) for file in [*files, stdin] if os.path.isfile(file))
+
+
+def grown(sizes):
+    """How many times as much n log n is, from each size to the next."""
+    costs = [size * math.log2(size) for size in sizes]
+    return [large / small for small, large in zip(costs, costs[1:])]
+
+
+class Step:
+    """The step from one size to the next that is closest to its limit: how many times as much it takes, and the limit. Whether
+    one is past it, of those that lead to more than the least that counts."""
+
+    def __init__(self, costs, sizes, least=0.0):
+        steps = [(large / max(small, 1e-3), max(GROWTH, SLACK * limit))
+                 for small, large, limit in zip(costs, costs[1:], grown(sizes))]
+        self.growth, self.limit = max(steps, key=lambda step: step[0] / step[1])
+        self.is_past = any(growth > limit and cost > least for (growth, limit), cost in zip(steps, costs[1:]))
 
 
 class Run:
@@ -91,7 +119,7 @@ class Run:
             said = (ran.stdout + ran.stderr).decode(errors="replace")[-500:]
             sys.exit("%s %s: %s" % (program, " ".join(words)[:200], said))
         with open(PEAK, encoding="utf-8") as file:
-            self.peak = int(file.read()) / 1024
+            self.peak = int(file.read()) * 1024 / 1e6
         grind = ["valgrind", "--tool=callgrind", "--callgrind-out-file=" + GRIND, program, *words]
         with open(stdin, "rb") as file:
             ran = subprocess.run(grind, stdin=file, capture_output=True, check=False,
@@ -99,6 +127,8 @@ class Run:
         if ran.returncode == -signal.SIGKILL:
             self.is_stopped = True
             return
+        if ran.returncode or len(ran.stdout) != self.printed:
+            sys.exit("%s %s: status %d under callgrind, %d bytes: %s" % (program, " ".join(words)[:200], ran.returncode, len(ran.stdout), ran.stderr.decode(errors="replace")[-500:]))
         self.instructions = int(re.search(rb"Collected : ([0-9]+)", ran.stderr).group(1)) / 1e6
 
 
@@ -117,7 +147,7 @@ def program_of(asked, title):
 
 def run_case(asked, title, many):
     """Runs a case of so many parts; after them, whether names are plain ones."""
-    program, words = program_of(asked, title), CASES[title][3](*many)
+    program, words = program_of(asked, title), CASES[title][2](*many)
     if program == "message":
         return Run(asked, MESSENGER, [MESSAGE, MODULES], os.devnull)
     rows = chosen_names.ROWS if title.startswith("chosen ") else ROWS
@@ -125,29 +155,62 @@ def run_case(asked, title, many):
 
 
 def compare(asked, title):
-    """Measures a case, and prints its line; whether it is within the limits."""
-    _, factor, entries, _ = CASES[title]
-    count, is_chosen = max(int(asked.parts * factor), 1), title.startswith("chosen ")
-    found = []
-    for many in [(count,), (2 * count,), (2 * count, 1)][: 3 if is_chosen else 2]:
-        found.append(run_case(asked, title, many))
-        if found[-1].is_stopped:
-            print("%-26s %6d stopped after %d s" % (title, many[0], asked.seconds), flush=True)
-            return False
-    one, two = found[:2]
-    held = [entries(many) if entries else 0 for many in (count, 2 * count)]
-    sizes = [run.read + run.printed + many for run, many in zip(found, held)]
-    limit = max(GROWTH, PER_BYTE * sizes[1] / sizes[0])
-    growth, peak = two.instructions / one.instructions, two.peak / max(one.peak, 1)
-    missed = ["grows"] * (growth > limit) + ["swells"] * (peak > limit and two.peak > LEAST_PEAK)
-    excess = two.instructions / found[2].instructions if is_chosen else 0
+    """Measures a case, and prints its line: what is stored of it, and in which ways it is past a limit."""
+    count, is_chosen = max(int(asked.parts * CASES[title][1]), 1), title.startswith("chosen ")
+    runs = []
+    for many in [(size * count,) for size in SIZES] + [(SIZES[-1] * count, 1)] * is_chosen:
+        runs.append(run_case(asked, title, many))
+        if runs[-1].is_stopped:
+            print("%-30s %6d stopped after %d s" % (title, many[0], asked.seconds), flush=True)
+            return {"n": count, "stopped": many[0]}, ["stopped"]
+    plain, runs = runs[-1], runs[: len(SIZES)]
+    instructions, peaks = [run.instructions for run in runs], [run.peak for run in runs]
+    time = Step(instructions, [run.read + run.printed for run in runs])
+    memory = Step(peaks, [run.read for run in runs], LEAST_PEAK)
+    missed = ["grows"] * time.is_past + ["swells"] * memory.is_past
+    excess = instructions[-1] / plain.instructions if is_chosen else 0
     missed += ["exceeds"] * (excess > EXCESS)
-    sizes = one.read / 1e3, two.read / 1e3, two.printed / 1e3, held[1] / 1e3
-    counted = one.instructions, two.instructions, growth, limit, one.peak, two.peak
-    print(LINE % (title, count, *sizes, *counted, " ".join(["%.2f" % excess] * is_chosen + missed)), flush=True)
+    sizes = runs[-1].read / 1e3, runs[-1].printed / 1e3
+    words = " ".join(["%.2f" % excess] * is_chosen + missed)
+    print(LINE % (title, count, *sizes, *instructions, time.growth, time.limit, *peaks, memory.growth, memory.limit, words), flush=True)
     if asked.functions:
         print("\n".join(costly(asked.functions)), flush=True)
-    return not missed
+    row = {"n": count, "read": runs[-1].read, "printed": runs[-1].printed, "past": missed}
+    row.update(instructions=[round(it, 1) for it in instructions], memory=[round(it, 1) for it in peaks])
+    row.update(instructions_step=[round(time.growth, 2), round(time.limit, 2)])
+    row.update(memory_step=[round(memory.growth, 2), round(memory.limit, 2)])
+    return row, missed
+
+
+# The table
+
+
+def listed(values):
+    """Figures of N, 2 N and 4 N, with a digit after the point where one is small."""
+    return "; ".join("%.1f" % it if it < 100 else "{:,.0f}".format(it) for it in values)
+
+
+def table(figures):
+    """The lines on the page: when it was measured, and the table of the hostile cases."""
+    lines = [stored_figures.heading(figures), "", HEAD, "|---" * (HEAD.count("|") - 1) + "|"]
+    for title, row in figures["rows"].items():
+        cells = [HOSTILE[title], "{:,}".format(row["n"])]
+        if "stopped" in row:
+            cells += [""] * 7 + ["no: stopped at {:,}".format(row["stopped"])]
+        else:
+            cells += ["{:,}; {:,}".format(row["read"], row["printed"])]
+            for what in "instructions", "memory":
+                cells += [listed(row[what]), *("%.2f" % it for it in row[what + "_step"])]
+            cells.append("no: " + " and ".join(PAST[it] for it in row["past"]) if row["past"] else "yes")
+        lines.append("| %s |" % " | ".join(cells))
+    return "\n".join(lines)
+
+
+def words_of(titles):
+    """The words that stand for these cases: their programs, their names, and what begins these."""
+    words = [word for title in titles for word in (CASES[title][0], title, title.split()[0])]
+    words += ["hostile"] if set(titles) & set(HOSTILE) else []
+    return list(dict.fromkeys(words))
 
 
 def arguments():
@@ -161,11 +224,15 @@ def arguments():
     parser.add_argument("--parts", type=int, default=PARTS)
     parser.add_argument("--seconds", type=int, default=120)
     parser.add_argument("--functions", type=int, default=0)
-    parser.add_argument("cases", nargs="*", metavar="CASE", help=", ".join([*PROGRAMS, "message", *CASES]))
+    parser.add_argument("--write", action="store_true")
+    parser.add_argument("--check", action="store_true")
+    parser.add_argument("cases", nargs="*", metavar="CASE", help=", ".join(words_of(CASES)))
     asked = parser.parse_args()
     for text in asked.cases:
-        if text not in CASES and text not in (*PROGRAMS, "message", "chosen"):
+        if text not in words_of(CASES):
             parser.error("no case %s" % text)
+    if asked.write and asked.cases:
+        parser.error("--write is of the hostile cases")
     return asked
 
 
@@ -181,8 +248,10 @@ def make_messenger(folder):
 
 def main():
     asked = arguments()
-    titles = [title for title, held in CASES.items()
-              if not asked.cases or {title, held[0], title.split()[0]} & set(asked.cases)]
+    if asked.check:
+        return stored_figures.check("slow", table)
+    load, wanted = os.getloadavg()[0], ["hostile"] if asked.write else asked.cases
+    titles = [title for title in CASES if not wanted or set(words_of([title])) & set(wanted)]
     for tool in "valgrind", TIME:
         if not shutil.which(tool):
             sys.exit("%s is not there: it counts what a run takes" % tool)
@@ -193,11 +262,15 @@ def main():
         folder.mkdir(parents=True, exist_ok=True)
     if asked.library:
         make_messenger(asked.library)
-    titled = "case", "N", "kB N", "kB 2N", "out 2N", "entries", "N", "2N", "2N/N", "limit", "MB N", "MB 2N"
-    print(TITLES % titled)
-    missed = [title for title in titles if not compare(asked, title)]
-    print("%d of %d cases past a limit" % (len(missed), len(titles)))
-    return 1 if missed else 0
+    print(TITLES % ("case", "N", "kB 4N", "out 4N", "N", "2N", "4N", "step", "limit", "MB N", "MB 2N", "MB 4N", "step", "limit"))
+    rows, past = {}, 0
+    for title in titles:
+        rows[title], missed = compare(asked, title)
+        past += bool(missed)
+    print("%d of %d cases past a limit" % (past, len(titles)))
+    if asked.write:
+        stored_figures.write("slow", rows, load, table)
+    return 1 if past else 0
 
 
 if __name__ == "__main__":

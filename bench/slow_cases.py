@@ -1,26 +1,33 @@
 """The cases of slow-inputs.py: shapes of worlds, modules, keys and messages. Each is a function that writes the input of so
-many parts, and gives the program's arguments.
-
-Where what a call hands out has more than the program prints, `entries` counts that: how many entries it has that are not
-printed, each of which takes a byte at the least. The case says what they are. What is printed is counted as it is.
+many parts, and gives the program's arguments. HOSTILE are those that an attacker would choose, each of wcplan with `--json`
+and with `--why all --json`, too.
 """
 import math
 import random
 
 import colliding
-from slow_shapes import (ADAPTER, FOLDER, MAIN, OUT, calls, core, every, function, imported, interface, message, number, plan,
-                         resolved, row, signature, track, typed)
+from slow_shapes import (ADAPTER, FOLDER, MAIN, OUT, calls, core, every, function, imported, interface, message, name, number,
+                         plan, resolved, row, section, signature, track, typed, vector)
 
 # how deep JSON may be nested
 DEPTH = 100
 CASES = {}
+# what hostile ones are called on the page
+HOSTILE = {}
+# the other forms of a hostile case of wcplan: the options, and how it is called
+FORMS = {"json": (["--json"], "the same, `--json`"), "why-json": (["--why", "all", "--json"], "the same, `--why all --json`")}
 
 
-def case(title, program, factor=1.0, entries=None):
-    """Adds a case, which has so many times the parts that are asked for."""
+def case(title, program, factor=1.0, hostile=None):
+    """Adds a case, which has so many times the parts that are asked for; of a hostile one, how it is called."""
 
     def add(make):
-        CASES[title] = program, factor, entries, make
+        CASES[title] = program, factor, make
+        if hostile:
+            HOSTILE[title] = hostile
+        if hostile and program == "wcplan" and "json" not in title:
+            for form, (options, text) in FORMS.items():
+                case("%s %s" % (title, form), program, factor, text)(lambda count, options=options: [*make(count), *options])
         return make
 
     return add
@@ -41,13 +48,13 @@ def _(count):
     return plain_keys(count, ())
 
 
-@case("plain-keys-imported", "wcplan", entries=lambda count: count * count)
+@case("plain-keys-imported", "wcplan", factor=0.25, hostile="one interface of n functions under n keys, all imported")
 def _(count):
-    """The same, and all functions are imported under one key: the import map has each of the n under each of the n keys."""
+    """The same, and all functions are imported under one key."""
     return plain_keys(count, [("k0", "f%d" % at, 0) for at in range(count)])
 
 
-@case("versions-params", "wcplan")
+@case("versions-params", "wcplan", hostile="one function of n parameters, imported by n versions of a track")
 def _(count):
     """A function of n parameters that is imported by n versions of one track."""
     core(MAIN, [(track(at), "f", 0) for at in range(count)], types=[signature(b"\x7f")], memory=True)
@@ -70,10 +77,9 @@ def _(count):
     return plan(resolved(imported(), {}, [interface("i", [function("f", [0] * count)])], [typed({"tuple": {"types": []}})]))
 
 
-@case("task-return", "wcplan", entries=lambda count: count * count)
+@case("task-return", "wcplan", factor=0.5, hostile="`task.return` of a function of n parameters, by n versions of a track")
 def _(count):
-    """The task.return of a function of n parameters, by n versions of one track: each of the n imports is recorded with the
-    function, which has n parameters."""
+    """The task.return of a function of n parameters, by n versions of one track."""
     imports = [("[export]" + track(at), "[task-return]f", 0) for at in range(count)]
     core(MAIN, imports, [("my:p/i@1.0.0#f", count)], [signature(), signature(b"\x7f")], [1], memory=True)
     return plan(resolved({}, imported(), [interface("i", [function("f", ["u8"] * count)])]))
@@ -138,10 +144,9 @@ def _(count):
     return adapters(count, imports, resolved({**items, **{"t%d" % at: {"type": at} for at in range(count)}}, {}, (), types))
 
 
-@case("adapter-type", "wcplan", entries=lambda count: count * count)
+@case("adapter-type", "wcplan", hostile="one type of n parameters, n imports of an adapter's functions")
 def _(count):
-    """One type of n parameters, and n imports of functions of it that an adapter exports: each of the n is recorded with the
-    type, which has n parameters."""
+    """One type of n parameters, and n imports of functions of it that an adapter exports."""
     wide, names = [signature(b"\x7f" * count)], ["f%d" % at for at in range(count)]
     core(MAIN, [("a", text, 0) for text in names], types=wide)
     core(ADAPTER, (), [(text, at) for at, text in enumerate(names)], wide, [0] * count)
@@ -177,7 +182,7 @@ def _(count):
     return ways(count, [])
 
 
-@case("why-json", "wcplan")
+@case("why-json", "wcplan", factor=0.25, hostile="n imports of an adapter, each by a path that is an item longer: `--why all --json`")
 def _(count):
     """The same, as JSON."""
     return ways(count, ["--json"])
@@ -381,17 +386,11 @@ def before(at):
     return [at - 1] if at else []
 
 
-@case("used-chain", "wcplan", entries=lambda count: count * (count - 1) // 2)
+@case("used-chain", "wcplan", factor=0.5, hostile="n exported interfaces, each of which uses the one before")
 def _(count):
     """n exported interfaces, each of which uses the one before, so that it leads to all before it: the sets of those that
     they use have n (n - 1) / 2 ids."""
     return users(count, before)
-
-
-@case("used-chain-json", "wcplan")
-def _(count):
-    """The same, and the record has these sets, as lists that are printed."""
-    return [*users(count, before), "--json"]
 
 
 @case("used-first-json", "wcplan")
@@ -400,13 +399,7 @@ def _(count):
     return [*users(count, lambda at: [0] if at else []), "--json"]
 
 
-def joined_ids(count):
-    """How many ids the sets of used-joined have."""
-    root = math.isqrt(count)
-    return root * (root - 1) // 2 + root * root + root * 2 * root
-
-
-@case("used-joined", "wcplan", factor=16, entries=joined_ids)
+@case("used-joined", "wcplan", factor=16)
 def _(count):
     """Three times the root of n exported interfaces: a chain, those that use its end, and those that use each of these. The
     chain is in the set of each of the last ones, and is put there once for each that it uses."""
@@ -540,6 +533,42 @@ def _(count):
 def _(count):
     """The same, all at once."""
     return row("range_set", ["extend " + " ".join(map(str, mixed(count)))])
+
+
+# Why imports of an adapter stay
+
+
+def calling(imports, functions, named=False):
+    """Writes an adapter that imports so many functions, and has so many that do nothing; the exported one after them calls
+    each of all these. If they are to be named, all have names."""
+    codes = [b""] * functions + [calls(imports + functions)]
+    names = [("env", "import-%d" % at, 0) for at in range(imports)]
+    core(ADAPTER, names, [("f", imports + functions)], defined=[0] * (functions + 1), codes=codes)
+    if named:
+        called = vector([number(at) + name("function-%d" % at) for at in range(imports + functions + 1)])
+        with open(ADAPTER, "ab") as file:
+            file.write(section(0, name("name") + section(1, called)))
+
+
+@case("asked-imports", "wcwhy", hostile="`wcwhy` with n `--import` over n imports")
+def _(count):
+    """The paths to n imports of n, each of which is asked for by its name."""
+    calling(count, 0)
+    return [ADAPTER, *("--import=env=import-%d" % at for at in reversed(range(count))), "f"]
+
+
+@case("asked-imports-dot", "wcwhy", hostile="the same, `--dot`")
+def _(count):
+    """The same, as a graph."""
+    calling(count, 0)
+    return [ADAPTER, "--dot", *("--import=env=import-%d" % at for at in reversed(range(count))), "f"]
+
+
+@case("named-functions", "wcwhy", factor=100_000 / 2048, hostile="`wcwhy` of one import and n named functions")
+def _(count):
+    """The path to one import of an adapter of n functions, all of which have names."""
+    calling(1, count - 1, named=True)
+    return [ADAPTER, "--import=env=import-0", "f"]
 
 
 # Modules that are trimmed

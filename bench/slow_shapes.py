@@ -1,5 +1,8 @@
 """Writes modules, worlds and messages, for slow_cases.py."""
+import fcntl
+import itertools
 import json
+import os
 import pathlib
 import sys
 
@@ -7,7 +10,23 @@ TOP = pathlib.Path(__file__).resolve().parent.parent
 sys.path.append(str(TOP / "checks"))
 from module_bytes import HEADER, name, number, section, vector
 
-FOLDER = TOP / "bench" / "data" / "slow-inputs"
+
+
+def own_folder(path):
+    """A folder at this path, or at this path and a number: the first that no other run uses now. It is this run's until it
+    ends."""
+    for at in itertools.count(1):
+        folder = path if at == 1 else path.with_name("%s-%d" % (path.name, at))
+        folder.mkdir(parents=True, exist_ok=True)
+        lock = os.open(folder, os.O_RDONLY)
+        try:
+            fcntl.flock(lock, fcntl.LOCK_EX | fcntl.LOCK_NB)
+            return folder
+        except BlockingIOError:
+            os.close(lock)
+
+
+FOLDER = own_folder(TOP / "bench" / "data" / "slow-inputs")
 FILES = "worlds.json", "main.wasm", "adapter.wasm", "out.wasm", "rows", "message.json", "modules"
 WORLDS, MAIN, ADAPTER, OUT, ROWS, MESSAGE, MODULES = (str(FOLDER / file) for file in FILES)
 

@@ -1,25 +1,34 @@
 #!/usr/bin/env python3
-"""Times `wctrim trim` on adapters of several shapes, each in three sizes, and checks what it wrote.
+"""Times `wctrim trim` and `wctrim dedupe` on modules of several shapes, and checks what they wrote.
 
     trimming.py [--program PROGRAM] [--beside PROGRAM] [--floor PROGRAM] [--instructions] [--rounds N] [--most COUNT]
         [SHAPE|FILE ..]
+    trimming.py --instructions --write      # the rows of the table in docs/PERFORMANCE.md, and puts them there
+    trimming.py --check                     # nothing is run
 
-PROGRAM is crates/wctrim/out/wctrim unless another is named; `./wctrim --build` makes it. All shapes are made, in
-bench/data/trimming, unless some are named, each with its largest count, a tenth and a hundredth of it, and with no
-more than COUNT items. A FILE, whose name ends in .wasm, is an adapter, which is trimmed to all of its exports and to
-four of them. For each adapter a line says its items (of a file its exports), the bytes of the adapter and of what is
-left, the fastest of N runs (5, unless another number is given) from the start of the process to its end, the
-nanoseconds for each byte of the adapter, and the most memory, where GNU's time is installed. Where binaryen is,
-wasm-metadce is timed once on the same adapter and the same exports.
+PROGRAM is crates/wctrim/out/wctrim unless another is named; `./wctrim --build` makes it. The shapes are those of
+checks/adapter_shapes.py, which are trimmed, and `repeats` and `mixed` of generate.py, whose imports are renamed. All are
+made, in bench/data/trimming, unless some are named, each with its largest count, a tenth and a hundredth of it, and with no
+more than COUNT items. A FILE, whose name ends in .wasm, is an adapter, which is trimmed to all of its exports and to four of
+them. For each module a line says its items (of a file its exports), its bytes and those that are written, the fastest of N
+runs (5, unless another number is given) from the start of the process to its end, the nanoseconds for each byte of the
+module; the most memory and how many bytes that are for each byte of the module, where GNU's time is installed. Where
+binaryen is, wasm-metadce is timed once on the same adapter and the same exports (but not with --write).
 
-With --instructions the millions of instructions that callgrind counts are at the end of the line. With --beside a
-second line has the time, the memory and the instructions of the other program in the same run, such as one that was
-built before a change, and both have to write the same bytes. With --floor a line has those of bench/trimming_floor.c,
-for the shapes that it knows (one export, and calls alone); it has to write the same bytes too.
+With --instructions the millions of instructions that callgrind counts come next, where valgrind is installed; and where cc
+is, a second line has those of the shape's floor, a run of floors.c, and the last column says how many times these the
+program takes. --floor names that program where it is compiled already. With --beside a line has the figures of another
+program in the same run, such as one that was built before a change. All have to write the same bytes and to print the same
+lines.
 
-Each output without a start function is trimmed again, which has to give the same bytes; and wasm-validate has to accept
-it where it is installed and accepts the adapter (it refuses `globals`, where an initialiser names a global that is not
-imported). The shapes are those of checks/adapter_shapes.py. The status is 1 where one of these does not hold.
+Each output is given to the program again, which has to leave it as it is (but for a start function, which allocates the
+stack of an adapter, and which no adapter may have); and wasm-validate has to accept it where it is installed and accepts
+the module (it refuses `globals`, where an initialiser names a global that is not imported). The status is 1 where one of
+these does not hold.
+
+--write leaves the figures in bench/figures.json, with the date, the kit and the load of the machine before the run; the
+column `before` there stays as it is, and times are left out, since they mean something on an idle machine alone. --check
+compares the table on the page with that file.
 """
 import argparse
 import json
@@ -32,17 +41,53 @@ import sys
 import time
 
 TOP = pathlib.Path(__file__).resolve().parent.parent
-sys.path.append(str(TOP / "checks"))
+sys.path += [str(TOP / "checks"), str(TOP / "bench")]
+import stored_figures
 from adapter_shapes import SHAPES
+from generate import RENAMED
 from module_bytes import exported_names, sections
 
 TIME = "/usr/bin/time"
 PROGRAM = TOP / "crates" / "wctrim" / "out" / "wctrim"
 FOLDER = TOP / "bench" / "data" / "trimming"
+FLOORS = TOP / "bench" / "floors.c"
 # the section of the start function
 START = 8
-# the shapes that the least program knows
-PLAIN = ("chain", "backward", "shuffled", "body", "labels", "blocks", "calls", "call")
+# the rows of the table: the shapes and what they are called
+TITLES = {
+    "chain": "functions, each of which calls the second after it",
+    "backward": "functions, each of which calls the second before it",
+    "shuffled": "functions, each of which calls another of every second one, in random order",
+    "exports": "exports of a tenth as many functions",
+    "imports": "imported functions",
+    "globals": "globals, each initialised by the second before it",
+    "types": "types",
+    "body": "one body",
+    "memory": "loads and stores in one body",
+    "blocks": "nested blocks in one body",
+    "labels": "labels of a `br_table`",
+    "calls": "calls in one body, each of another function",
+    "call": "calls in one body, all of one function",
+    "repeats": "`dedupe`: imports of one name",
+    "mixed": "`dedupe`: imports of 5,000 names in 50 modules, in random order",
+}
+# no more items than these in a row
+MOST = {shape: 100_000 for shape in ("chain", "backward", "shuffled")}
+HEAD = "| Module | Items | Bytes | Before | Instructions | Floor | Times the floor | Memory, MB | Bytes of it for each byte | Floor's memory, MB |"
+
+
+class Module:
+    """A module that is given to programs: its shape and its count, its file, the exports that are wanted of it, or None where
+    its imports are renamed."""
+
+    def __init__(self, shape, count, path, wanted=None):
+        self.shape, self.count, self.path, self.wanted = shape, count, path, wanted
+        self.size = path.stat().st_size
+
+    def words(self, program, source, target):
+        """The command of a program that writes what becomes of a file."""
+        command = ["dedupe"] if self.wanted is None else ["trim"]
+        return [str(program), *command, str(source), str(target), *(self.wanted or [])]
 
 
 def written(path, content):
@@ -52,10 +97,19 @@ def written(path, content):
     return path
 
 
+def made(shape, count):
+    """The module of a shape."""
+    path = FOLDER / ("%s-%d.wasm" % (shape, count))
+    if shape in RENAMED:
+        return Module(shape, count, written(path, RENAMED[shape][0](count)))
+    content, wanted = SHAPES[shape][0](count)
+    return Module(shape, count, written(path, content), wanted)
+
+
 def run(words):
     """How long a run takes, its status, and what it printed."""
     begin = time.perf_counter()
-    ran = subprocess.run(words, stdin=subprocess.DEVNULL, stdout=subprocess.PIPE, stderr=subprocess.STDOUT)
+    ran = subprocess.run(words, stdin=subprocess.DEVNULL, stdout=subprocess.PIPE, stderr=subprocess.STDOUT, check=False)
     return time.perf_counter() - begin, ran.returncode, ran.stdout.decode(errors="replace").strip()
 
 
@@ -64,13 +118,16 @@ def megabytes(words):
     if not os.path.exists(TIME):
         return None
     path = FOLDER / "memory"
-    run([TIME, "-f", "%M", "-o", str(path)] + words)
+    run([TIME, "-f", "%M", "-o", str(path), *words])
     return int(path.read_text().split()[-1]) * 1024 / 1e6
 
 
-def column(text, value):
-    """A value by this format, or a hyphen in a column as wide."""
-    return "-".rjust(len(text % 0)) if value is None else text % value
+def millions(words):
+    """How many millions of instructions a run has, by callgrind; None where that is not installed."""
+    if not shutil.which("valgrind"):
+        return None
+    printed = run(["valgrind", "--tool=callgrind", "--callgrind-out-file=%s" % (FOLDER / "callgrind"), *words])[2]
+    return int(re.search(r"Collected\s*:\s*([0-9]+)", printed).group(1)) / 1e6
 
 
 def is_valid(path):
@@ -80,106 +137,143 @@ def is_valid(path):
     return run(["wasm-validate", "--enable-all", str(path)])[1] == 0
 
 
-def meta_seconds(adapter, wanted):
-    """How long wasm-metadce takes; None where it is not installed or refuses the adapter."""
-    if not shutil.which("wasm-metadce"):
+def meta_seconds(module):
+    """How long wasm-metadce takes; None where it is not installed, refuses the adapter or has nothing to trim."""
+    if module.wanted is None or not shutil.which("wasm-metadce"):
         return None
-    graph = [{"name": "root", "root": True, "reaches": ["e-" + text for text in wanted]}]
-    graph += [{"name": "e-" + text, "export": text} for text in wanted]
-    path = written(adapter.with_suffix(".json"), json.dumps(graph).encode())
-    target = adapter.with_suffix(".metadce")
-    words = ["wasm-metadce", str(adapter), "--all-features", "--graph-file=%s" % path, "-o", str(target)]
+    graph = [{"name": "root", "root": True, "reaches": ["e-" + text for text in module.wanted]}]
+    graph += [{"name": "e-" + text, "export": text} for text in module.wanted]
+    path = written(module.path.with_suffix(".json"), json.dumps(graph).encode())
+    target = module.path.with_suffix(".metadce")
+    words = ["wasm-metadce", str(module.path), "--all-features", "--graph-file=%s" % path, "-o", str(target)]
     seconds, status, _ = run(words)
     return seconds if status == 0 else None
 
 
-def check(program, adapter, target, wanted):
+class Figures:
+    """What a program takes for a module: the fastest run's seconds, the most memory, the instructions; what it wrote and
+    printed. `fault` is what it printed where it failed."""
+
+    def __init__(self, asked, program, module, target):
+        words = module.words(program, module.path, target)
+        runs = [run(words) for _ in range(asked.rounds)]
+        self.fault = "%s: status %d %s" % (program, runs[0][1], runs[0][2]) if runs[0][1] else None
+        if self.fault:
+            return
+        self.seconds, self.printed = min(seconds for seconds, _, _ in runs), runs[0][2]
+        self.bytes = target.read_bytes()
+        self.megabytes = megabytes(words)
+        self.millions = millions(words) if asked.instructions else None
+
+    def of_byte(self, module):
+        """The bytes of memory for each byte of the module."""
+        return None if self.megabytes is None else self.megabytes * 1e6 / module.size
+
+
+def column(text, value):
+    """A value by this format, or a hyphen in a column as wide."""
+    return "-".rjust(len(text % 0)) if value is None else text % value
+
+
+def show(asked, name, module, figures, first=None):
+    """Prints the line of a program; with those of the first program, how many times it takes what this one takes."""
+    line = "%-8s %8d %9d %9d %8.4f" % (name, module.count, module.size, len(figures.bytes), figures.seconds)
+    line += " %8.1f" % (figures.seconds * 1e9 / module.size) + column(" %8.1f", figures.megabytes)
+    line += column(" %7.1f", figures.of_byte(module)) + column(" %9.3f", None if first or asked.write else meta_seconds(module))
+    if asked.instructions:
+        line += column(" %9.3f", figures.millions)
+        line += " %6.2f" % (first.millions / figures.millions) if first and figures.millions else ""
+    print(line, flush=True)
+
+
+def check(program, module, target):
     """What is wrong with an output."""
     again = target.with_suffix(".again")
-    # a start function, which allocates the stack of an adapter, is none of an adapter that is given
-    if START not in dict(sections(target.read_bytes())):
-        _, status, printed = run([program, "trim", str(target), str(again)] + wanted)
+    if module.wanted is None or START not in dict(sections(target.read_bytes())):
+        _, status, printed = run(module.words(program, target, again))
         if status:
-            return "trimming it again: " + printed
-        if again.read_bytes() != target.read_bytes():
-            return "trimmed again it has other bytes"
-    if is_valid(target) is False and is_valid(adapter):
-        return "wasm-validate refuses it"
+            return "the output again: " + printed
+        if again.read_bytes() != target.read_bytes() or printed:
+            return "of the output it makes other bytes"
+    if is_valid(target) is False and is_valid(module.path):
+        return "wasm-validate refuses the output"
     return None
 
 
-def millions(words):
-    """How many millions of instructions a run has, by callgrind."""
-    path = FOLDER / "callgrind"
-    printed = run(["valgrind", "--tool=callgrind", "--callgrind-out-file=%s" % path] + words)[2]
-    return int(re.search(r"Collected\s*:\s*([0-9]+)", printed).group(1)) / 1e6
+def measure(asked, module):
+    """Gives a module to each program, and prints a line for each: the figures of the program and of its floor; and what is
+    wrong."""
+    target, other = module.path.with_suffix(".written"), module.path.with_suffix(".other")
+    first = Figures(asked, asked.program, module, target)
+    if first.fault:
+        return first, None, first.fault
+    show(asked, module.shape, module, first)
+    wrong, floor = check(asked.program, module, target), None
+    for name, program in ("beside", asked.beside), ("floor", asked.floor if module.shape in TITLES else None):
+        if not program:
+            continue
+        figures = Figures(asked, program, module, other)
+        if figures.fault:
+            wrong = wrong or figures.fault
+            continue
+        show(asked, name, module, figures, first)
+        floor = figures if name == "floor" else floor
+        if (figures.bytes, figures.printed) != (first.bytes, first.printed):
+            wrong = wrong or "%s: other bytes or other lines" % name
+    return first, floor, wrong
 
 
-def figures(words, rounds, instructions):
-    """The fastest run's seconds, the most memory, the instructions, and what the program printed where it failed."""
-    runs = [run(words) for _ in range(rounds)]
-    if runs[0][1]:
-        return None, None, None, runs[0][2]
-    return min(seconds for seconds, _, _ in runs), megabytes(words), millions(words) if instructions else None, ""
-
-
-def floor(options, count, adapter, target, wanted):
-    """Runs the least program on an adapter, and prints its line; what is wrong with its output."""
-    path = adapter.with_suffix(".floor")
-    words = [options.floor, str(adapter), str(path)] + wanted
-    best, memory, counted, fault = figures(words, options.rounds, options.instructions)
-    if fault:
-        return "the floor: " + fault
-    size = adapter.stat().st_size
-    line = "%-8s %8d %9d %9d %8.4f %8.1f" % ("floor", count, size, path.stat().st_size, best, best * 1e9 / size)
-    line += column(" %8.1f", memory) + column(" %9.3f", None)
-    print(line + (" %9.3f" % counted if options.instructions else ""), flush=True)
-    return None if path.read_bytes() == target.read_bytes() else "the floor has other bytes"
-
-
-def measure(options, shape, count, adapter, wanted):
-    """Trims one adapter by each program, and prints a line for each; whether all holds."""
-    size = adapter.stat().st_size
-    target, other = adapter.with_suffix(".trimmed"), adapter.with_suffix(".beside")
-    for program, path in [(options.program, target)] + [(options.beside, other)] * bool(options.beside):
-        words = [program, "trim", str(adapter), str(path)] + wanted
-        best, memory, counted, fault = figures(words, options.rounds, options.instructions)
-        if fault:
-            print("%s %d: %s" % (shape, count, fault))
-            return False
-        first = path == target
-        columns = (shape if first else "beside", count, size, path.stat().st_size, best, best * 1e9 / size)
-        line = "%-8s %8d %9d %9d %8.4f %8.1f" % columns + column(" %8.1f", memory)
-        line += column(" %9.3f", meta_seconds(adapter, wanted) if first else None)
-        print(line + (" %9.3f" % counted if options.instructions else ""), flush=True)
-    wrong = check(options.program, adapter, target, wanted)
-    if options.floor and shape in PLAIN:
-        wrong = wrong or floor(options, count, adapter, target, wanted)
-    if not wrong and options.beside and other.read_bytes() != target.read_bytes():
-        wrong = "the other program wrote other bytes"
-    if wrong:
-        print("%s %d: %s" % (shape, count, wrong))
-    return not wrong
-
-
-def adapters_of(words):
-    """The adapters to be trimmed: a shape or a file's name, the items, the path, the exports that are wanted."""
-    for shape in words.shapes or SHAPES:
+def modules_of(asked):
+    """The modules that are measured."""
+    for shape in asked.shapes or [*SHAPES, *RENAMED]:
         if shape.endswith(".wasm"):
             content = pathlib.Path(shape).read_bytes()
             held = exported_names(content)
-            adapter = written(FOLDER / pathlib.Path(shape).name, content)
+            path = written(FOLDER / pathlib.Path(shape).name, content)
             for wanted in held, held[:: max(len(held) // 4, 1)][:4]:
-                yield adapter.stem[:8], len(wanted), adapter, wanted
+                yield Module(path.stem[:8], len(wanted), path, wanted)
             continue
-        largest = SHAPES[shape][1]
-        for count in (largest // 100, largest // 10, largest):
-            if words.most is None or count <= words.most:
-                content, wanted = SHAPES[shape][0](count)
-                yield shape, count, written(FOLDER / ("%s-%d.wasm" % (shape, count)), content), wanted
+        largest = (SHAPES.get(shape) or RENAMED[shape])[1]
+        for count in [min(largest, MOST.get(shape, largest))] if asked.write else (largest // 100, largest // 10, largest):
+            if asked.most is None or count <= asked.most:
+                yield made(shape, count)
 
 
-def main():
+def compiled_floors():
+    """The program of floors.c, where there is a compiler."""
+    if not shutil.which("cc"):
+        return None
+    path = FOLDER / "floors"
+    _, status, printed = run(["cc", "-O2", "-o", str(path), str(FLOORS)])
+    if status:
+        sys.exit("%s: %s" % (FLOORS, printed))
+    return str(path)
+
+
+# The table
+
+
+def stored(module, figures, floor):
+    """What is stored of a row."""
+    return {"items": module.count, "bytes": module.size, "instructions": round(figures.millions, 2),
+            "floor": round(floor.millions, 2), "memory": round(figures.megabytes, 2),
+            "floor_memory": round(floor.megabytes, 2)}
+
+
+def table(figures):
+    """The lines on the page: when it was measured, and the table."""
+    lines = [stored_figures.heading(figures), "", HEAD, "|---" * (HEAD.count("|") - 1) + "|"]
+    for shape, title in TITLES.items():
+        row = figures["rows"][shape]
+        before = "%.1f" % row["before"] if "before" in row else ""
+        cells = [title, "{:,}".format(row["items"]), "{:,}".format(row["bytes"]), before, "%.1f" % row["instructions"],
+                 "%.1f" % row["floor"], "%.1f" % (row["instructions"] / row["floor"]), "%.1f" % row["memory"],
+                 "%.1f" % (row["memory"] * 1e6 / row["bytes"]), "%.1f" % row["floor_memory"]]
+        lines.append("| %s |" % " | ".join(cells))
+    return "\n".join(lines)
+
+
+def arguments():
     parser = argparse.ArgumentParser(description=__doc__, formatter_class=argparse.RawDescriptionHelpFormatter)
     parser.add_argument("--program", default=str(PROGRAM))
     parser.add_argument("--beside")
@@ -187,17 +281,42 @@ def main():
     parser.add_argument("--instructions", action="store_true")
     parser.add_argument("--rounds", type=int, default=5)
     parser.add_argument("--most", type=int)
-    parser.add_argument("shapes", nargs="*", metavar="SHAPE", help=" ".join(SHAPES))
-    words = parser.parse_args()
-    for shape in words.shapes:
-        if shape not in SHAPES and not shape.endswith(".wasm"):
+    parser.add_argument("--write", action="store_true")
+    parser.add_argument("--check", action="store_true")
+    parser.add_argument("shapes", nargs="*", metavar="SHAPE", help=" ".join([*SHAPES, *RENAMED]))
+    asked = parser.parse_args()
+    for shape in asked.shapes:
+        if shape not in SHAPES and shape not in RENAMED and not shape.endswith(".wasm"):
             parser.error("no shape %s" % shape)
+    if asked.write and (asked.shapes or asked.most is not None or not asked.instructions):
+        parser.error("--write comes with --instructions, and is of all rows")
+    return asked
+
+
+def main():
+    asked = arguments()
+    if asked.check:
+        return stored_figures.check("trimming", table)
+    load = os.getloadavg()[0]
+    if not os.access(asked.program, os.X_OK):
+        sys.exit("%s is not there: build it, or name another" % asked.program)
     FOLDER.mkdir(parents=True, exist_ok=True)
-    titles = ("shape", "items", "bytes", "left", "s", "ns/byte", "MB", "metadce")
-    print("%-8s %8s %9s %9s %8s %8s %8s %9s" % titles + ("  millions" if words.instructions else ""))
-    holds = True
-    for shape, count, adapter, wanted in adapters_of(words):
-        holds &= measure(words, shape, count, adapter, wanted)
+    if asked.instructions and not asked.floor:
+        asked.floor = compiled_floors()
+    if asked.write and not (asked.floor and shutil.which("valgrind") and os.path.exists(TIME)):
+        sys.exit("--write needs cc, valgrind and %s" % TIME)
+    titles = ("shape", "items", "bytes", "written", "s", "ns/byte", "MB", "B/byte", "metadce")
+    print("%-8s %8s %9s %9s %8s %8s %8s %7s %9s" % titles + ("  millions  times" if asked.instructions else ""), flush=True)
+    holds, rows = True, {}
+    for module in modules_of(asked):
+        figures, floor, wrong = measure(asked, module)
+        if wrong:
+            print("%s %d: %s" % (module.shape, module.count, wrong))
+            holds = False
+        elif asked.write:
+            rows[module.shape] = stored(module, figures, floor)
+    if asked.write and holds:
+        stored_figures.write("trimming", rows, load, table)
     return 0 if holds else 1
 
 

@@ -1,6 +1,8 @@
 pub mod NamePositionLemmas
+pub mod NameKeyLemmas
 pub mod OrderLemmas
 pub mod DistinctLemmas
+pub mod DifferentKeyLemmas
 pub mod RenamedLemmas
 pub mod NumberedLemmas
 pub mod OriginalNameLemmas

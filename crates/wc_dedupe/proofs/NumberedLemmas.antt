@@ -1,6 +1,6 @@
 -- Names with numbers: each is of one name and one number, and of an original name there are as many as there are numbers,
 -- so some number is free.
-use Rattle.std.proofs.Common.{◌≡◌, ◌≢◌, ℕ, zero, suc, ◌+◌, ◌%◌, ◌^◌, ◌<◌, ◌≤◌, ◌||◌, Bool, true, false, cond, Some, inl, inr, List, [], ◌∷◌, ◌++◌, length, map, codes, append_assoc, refl, sym, ap, ◌∙◌, subst, arith}
+use Rattle.std.proofs.Common.{take, get_or, ◌≡◌, ◌≢◌, ℕ, zero, suc, ◌+◌, ◌%◌, ◌^◌, ◌<◌, ◌≤◌, ◌||◌, Bool, true, false, cond, Some, inl, inr, List, [], ◌∷◌, ◌++◌, length, map, codes, append_assoc, refl, sym, ap, ◌∙◌, subst, arith}
 use Rattle.std.specs.Fmt.{decimal}
 use Rattle.std.specs.Option.{IsSome}
 use Rattle.std.specs.List.{All, Contains, IsDistinct, list_any}
@@ -8,13 +8,14 @@ use Rattle.std.specs.Map.{lookup}
 use Rattle.std.specs.Str.{bytes_eq}
 use Rattle.std.proofs.lemmas.Cmp.{nat_list_eq_equiv}
 use Rattle.std.proofs.lemmas.Fmt.{decimal_injective, decimal_by_steps}
-use Rattle.std.proofs.lemmas.List.{append_cancel_left, append_cancel_right, length-map}
-use Rattle.std.proofs.lemmas.List.Elements.{All-nil, All-cons, recursion_from_All}
+use Rattle.std.proofs.lemmas.List.{append_cancel_left, append_cancel_right, length-map, map-append, take_more}
+use Rattle.std.proofs.lemmas.List.Elements.{All-nil, All-cons, Contains-push_cases, recursion_from_All}
 use Rattle.std.proofs.lemmas.Map.Steps.{length-le_from_keys}
 use Rattle.std.proofs.lemmas.Slice.Eq.{bytes_eq-Decides}
 use Rattle.std.proofs.lemmas.Bool.{false_from_ne_true, false≢true}
 use Rattle.wc_dedupe.specs.Renaming.{ImportName, name_with_number}
-use Rattle.wc_dedupe.specs.Private.Numbers.{numbered}
+use Rattle.wc_dedupe.specs.Private.Numbers.{LacksNumbered, numbered}
+use Rattle.wc_dedupe.specs.Private.NamePositions.{Texts, named, names_of}
 use Rattle.wc_dedupe.proofs.DistinctLemmas.{Contains-cons_cases}
 
 -- a list is cut in one way at the last element of a kind
@@ -123,3 +124,19 @@ some_number_free given x count e small all =
     let long : length (map name_pair given) ≡ length given = length-map given name_pair in
     no_room (map name_pair given) x.name (count + 1) (omega arith) (omega (arith, e, long))
     (λ k a b. listed given x.module_name (name_with_number x.name k) (all k a (omega arith)))
+
+-- names that do not end as a name with a number does
+
+pub lacks_none : LacksNumbered []
+lacks_none x n c = absurd (omega (arith, c.1))
+
+ends_so : (s : List ℕ) (n : ℕ) → name_with_number s n ≡ (s ++ (codes " [v" ++ decimal n)) ++ codes "]"
+ends_so s n = ap (λ (t : List ℕ). s ++ t) (sym (append_assoc (codes " [v") (decimal n) (codes "]"))) ∙ sym (append_assoc s (codes " [v" ++ decimal n) (codes "]"))
+
+pub lacks_more : (texts : List Texts) (i : ℕ) (d : Texts) → i < length texts → LacksNumbered (names_of (take i texts)) → ((front : List ℕ) → (get_or texts i d).1.now ≢ front ++ codes "]") → LacksNumbered (names_of (take (i + 1) texts))
+lacks_more texts i d h lacks other x n c =
+    let more : names_of (take (i + 1) texts) ≡ names_of (take i texts) ++ named (get_or texts i d) ∷ [] = ap names_of (take_more texts i d h) ∙ map-append named (take i texts) (get_or texts i d ∷ []) in
+    elim (Contains-push_cases (names_of (take i texts)) (named (get_or texts i d)) (numbered x n) (subst (λ (ns : List ImportName). Contains ns (numbered x n)) more c)) [
+      | inl before ↦ lacks x n before
+      | inr here ↦ other (x.name ++ (codes " [v" ++ decimal n)) (ap (λ (y : ImportName). y.name) here ∙ ends_so x.name n)
+    ]

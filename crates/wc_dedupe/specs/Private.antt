@@ -2,3 +2,4 @@
 pub mod Numbers
 pub mod RenameOrder
 pub mod NamePositions
+pub mod NameKeys

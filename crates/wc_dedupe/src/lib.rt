@@ -37,6 +37,7 @@
 mod dedupe;
 mod fault;
 pub mod laws;
+mod name_keys;
 mod name_positions;
 mod numbers;
 mod parsed_sections;

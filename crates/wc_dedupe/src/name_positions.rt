@@ -1,6 +1,6 @@
 //! The names of imports without repeats, in ascending order, and the position of each import's name among them.
 
-ghost use Rattle.std.specs.Prelude.{IfOk, OnOk, length};
+ghost use Rattle.std.specs.Prelude.{◌≡◌, ◌<◌, IfOk, OnOk, get_or, length};
 ghost use Rattle.std.specs.List.Sorted.{IsSorted};
 ghost use Rattle.wc_dedupe.specs.Private.NamePositions.{names_of, entries_cmp, AreEntries, Ascend, PushesNew, HavePositions};
 
@@ -27,7 +27,7 @@ pub(crate) fn name_positions<'a>(
 }
 
 /// The names with their indices, in ascending order.
-pub(crate) fn sorted_entries<'a>(
+fn sorted_entries<'a>(
     alloc: Global,
     names: &[(&'a str, &'a str)],
 ) -> Result<Vec<(&'a str, &'a str, usize)>, AllocError>
@@ -78,8 +78,16 @@ fn positions_of<'a>(
     })
 }
 
+/// The name at a position.
+pub(crate) fn name_in<'a>(names: &[(&'a str, &'a str)], position: usize) -> (&'a str, &'a str)
+    requires { position < length names.now }
+    ensures { result ≡ get_or names.now position result }
+{
+    names[position]
+}
+
 /// Appends a name, where it is not the last.
-fn push_new<'a>(
+pub(crate) fn push_new<'a>(
     names: &mut Vec<(&'a str, &'a str)>,
     name: (&'a str, &'a str),
 ) -> Result<(), AllocError>

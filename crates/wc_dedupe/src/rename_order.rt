@@ -1,66 +1,83 @@
-//! The renames in the order of their new names, and the search for one.
+//! The renames in the order of the keys of their new names, and the search for one.
 
-ghost use Rattle.std.specs.Prelude.{◌≡◌, IfOk, map};
-ghost use Rattle.wc_dedupe.specs.Private.RenameOrder.{new_name, name_at, IsNameOrder, Finds};
-ghost use Rattle.wc_dedupe.specs.Private.NamePositions.{named, names_of, names_cmp, entry_indices};
+ghost use Rattle.std.specs.Prelude.{◌≡◌, IfOk, length, map};
+ghost use Rattle.wc_dedupe.specs.Private.NameKeys.{AreKeys, name_key};
+ghost use Rattle.wc_dedupe.specs.Private.RenameOrder.{new_name, name_at, key_cmp, IsNameOrder, Finds};
+ghost use Rattle.wc_dedupe.specs.Private.NamePositions.{named};
 ghost use Rattle.wc_dedupe.specs.Renames.{rename_values};
 
-use crate::name_positions::sorted_entries;
+use crate::name_keys::name_key;
 use crate::renaming::Rename;
 use std::alloc::{AllocError, Global};
 use std::cmp::Ordering;
 
-/// The indices of renames, in the ascending order of their modules and new names.
-pub(crate) fn rename_order(alloc: Global, renames: &[Rename]) -> Result<Vec<usize>, AllocError>
+/// The keys of the renames' new names, in ascending order: those of one number in that of their modules and names.
+pub(crate) fn rename_order(
+    alloc: Global,
+    renames: &[Rename],
+) -> Result<Vec<(u64, usize)>, AllocError>
     ensures { IfOk result (λ v. IsNameOrder (rename_values renames.now) v.items) }
 {
-    let names = new_names(alloc, renames)?;
-    let entries = sorted_entries(alloc, &names)?;
-    let order = indices_of(alloc, &entries)?;
+    let mut order = new_keys(alloc, renames)?;
+    order.sort_by(|one, other| keys_compared(renames, *one, *other))?;
     Ok(order)
 }
 
-/// The indices of entries.
-fn indices_of(alloc: Global, entries: &[(&str, &str, usize)]) -> Result<Vec<usize>, AllocError>
-    ensures { IfOk result (λ v. v.items ≡ entry_indices entries.now) }
+/// The keys of the renames' new names: of each its number and the index of the rename.
+fn new_keys(alloc: Global, renames: &[Rename]) -> Result<Vec<(u64, usize)>, AllocError>
+    ensures { IfOk result (λ v.
+        AreKeys (map new_name (rename_values renames.now)) (length renames.now) v.items) }
 {
-    let mut indices = Vec::with_capacity(alloc, entries.len())?;
-    for entry in entries {
-        indices.push(entry.2)?;
+    let mut keys = Vec::with_capacity(alloc, renames.len())?;
+    for index in 0..renames.len() {
+        let name = new_name(renames, index);
+        let number = name_key(name.0, name.1);
+        keys.push((number, index))?;
     }
-    Ok(indices)
+    Ok(keys)
 }
 
-/// The modules and new names of renames.
-fn new_names(alloc: Global, renames: &[Rename]) -> Result<Vec<(&str, &str)>, AllocError>
-    ensures { IfOk result (λ v. names_of v.items ≡ map new_name (rename_values renames.now)) }
-{
-    let mut names = Vec::with_capacity(alloc, renames.len())?;
-    for rename in renames {
-        names.push((rename.module.as_str(), rename.name.as_str()))?;
-    }
-    Ok(names)
-}
-
-/// The index of a rename to this name in this module, where there is one. `order` has the indices in the order of the
-/// new names.
-pub(crate) fn find(renames: &[Rename], order: &[usize], module: &str, name: &str) -> Option<usize>
+/// The index of a rename to this name in this module, where there is one. `order` has the keys in their order.
+pub(crate) fn find(
+    renames: &[Rename],
+    order: &[(u64, usize)],
+    module: &str,
+    name: &str,
+) -> Option<usize>
     requires { IsNameOrder (rename_values renames.now) order.now }
     ensures { Finds (rename_values renames.now)
         (record { module_name = «module».now; name = name.now }) result }
 {
-    match order.binary_search_by(|index| compared(renames, *index, module, name)) {
-        Ok(position) => Some(order[position]),
+    let number = name_key(module, name);
+    match order.binary_search_by(|key| compared(renames, *key, number, (module, name))) {
+        Ok(position) => Some(order[position].1),
         Err(_) => None,
     }
 }
 
-/// How the new name of the rename at `index` compares to a name.
-fn compared(renames: &[Rename], index: usize, module: &str, name: &str) -> Ordering
-    ensures { result ≡ names_cmp (name_at (rename_values renames.now) index)
-        (record { module_name = «module».now; name = name.now }) }
+/// How the new name that has a key compares to one that has another: by their numbers, and by themselves where these are
+/// equal.
+fn keys_compared(renames: &[Rename], one: (u64, usize), other: (u64, usize)) -> Ordering
+    ensures { result ≡ key_cmp (rename_values renames.now) one other.0
+        (name_at (rename_values renames.now) other.1) }
 {
-    new_name(renames, index).cmp(&(module, name))
+    match one.0.cmp(&other.0) {
+        Ordering::Less => Ordering::Less,
+        Ordering::Equal => new_name(renames, one.1).cmp(&new_name(renames, other.1)),
+        Ordering::Greater => Ordering::Greater,
+    }
+}
+
+/// How the new name that has a key compares to a name with its number: by the numbers, and by the names where these are
+/// equal.
+fn compared(renames: &[Rename], key: (u64, usize), number: u64, name: (&str, &str)) -> Ordering
+    ensures { result ≡ key_cmp (rename_values renames.now) key number (named name.entry) }
+{
+    match key.0.cmp(&number) {
+        Ordering::Less => Ordering::Less,
+        Ordering::Equal => new_name(renames, key.1).cmp(&name),
+        Ordering::Greater => Ordering::Greater,
+    }
 }
 
 /// The module and the new name of the rename at `index`, empty texts past the last.

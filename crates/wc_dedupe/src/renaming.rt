@@ -1,16 +1,18 @@
 //! The renaming of a list of imports, so that no two share a module and a name.
 
-ghost use Rattle.std.specs.Prelude.{◌≡◌, IfOk, map, length, string_bytes};
+ghost use Rattle.std.specs.Prelude.{◌≡◌, false, IfOk, map, length, string_bytes};
 ghost use Rattle.std.specs.Option.{option_map};
 ghost use Rattle.wc_read.specs.Imports.{import_value, import_values};
-ghost use Rattle.wc_dedupe.specs.Private.Numbers.{PushesRename};
+ghost use Rattle.wc_dedupe.specs.Laws.{AreDistinct};
+ghost use Rattle.wc_dedupe.specs.Private.Numbers.{LacksNumbered, PushesRename};
 ghost use Rattle.wc_dedupe.specs.Private.RenameOrder.{LeadBack};
 ghost use Rattle.wc_dedupe.specs.Private.NamePositions.{named, names_of, Ascend, HavePositions};
 ghost use Rattle.wc_dedupe.specs.Renames.{rename_view, rename_values};
 ghost use Rattle.wc_dedupe.specs.Renaming.{original_in, renamed_import, renamed_imports, IsRenaming};
 
-use crate::name_positions::{NamePositions, name_positions};
-use crate::numbers::give;
+use crate::name_keys::{are_different, known_names, sorted_keys};
+use crate::name_positions::name_in;
+use crate::numbers::{Known, give};
 use crate::rename_order::{find, rename_order};
 use std::alloc::{AllocError, Global};
 use std::marker::Model;
@@ -31,7 +33,7 @@ pub struct Rename {
 #[derive(Drop)]
 pub struct ModuleImportMap {
     renames: Vec<Rename>,
-    order: Vec<usize>,
+    order: Vec<(u64, usize)>,
 }
 
 impl Model for ModuleImportMap {
@@ -82,8 +84,13 @@ pub(crate) struct Renaming {
 pub(crate) fn rename_all(alloc: Global, names: &[(&str, &str)]) -> Result<Renaming, AllocError>
     ensures { IfOk result (λ r. IsRenaming (names_of names.now) r.indices.items r.map) }
 {
-    let known = name_positions(alloc, names)?;
-    let (renames, indices) = rename_each(alloc, names, &known)?;
+    let keys = sorted_keys(alloc, names)?;
+    if are_different(&keys) {
+        return unrenamed(alloc, names);
+    }
+    let known = known_names(alloc, names, &keys)?;
+    let all = Known::new(&known.names);
+    let (renames, indices) = rename_each(alloc, names, all, &known.positions)?;
     let order = rename_order(alloc, &renames)?;
     Ok(Renaming {
         map: ModuleImportMap { renames, order },
@@ -91,24 +98,43 @@ pub(crate) fn rename_all(alloc: Global, names: &[(&str, &str)]) -> Result<Renami
     })
 }
 
-/// The renames of imports of these names, whose positions are known, and for each import the index of its rename.
+/// The renaming of imports whose names are different: each keeps its name.
+fn unrenamed(alloc: Global, names: &[(&str, &str)]) -> Result<Renaming, AllocError>
+    requires { AreDistinct (names_of names.now) }
+    ensures { IfOk result (λ r. IsRenaming (names_of names.now) r.indices.items r.map) }
+{
+    let indices = vec![in alloc; None; names.len()]?;
+    Ok(Renaming {
+        map: ModuleImportMap {
+            renames: Vec::new(alloc),
+            order: Vec::new(alloc),
+        },
+        indices,
+    })
+}
+
+/// The renames of imports of these names, which have these positions among the known ones, and for each import the index
+/// of its rename.
 fn rename_each(
     alloc: Global,
     names: &[(&str, &str)],
-    known: &NamePositions<'_>,
+    known: Known<'_, '_>,
+    positions: &[usize],
 ) -> Result<(Vec<Rename>, Vec<Option<usize>>), AllocError>
-    requires ascend { Ascend known.now.names.items }
-    requires positions { HavePositions (names_of names.now) (names_of known.now.names.items)
-        known.now.positions.items }
+    requires ascend { Ascend known.names.now }
+    requires lacks { known.some_numbered ≡ false → LacksNumbered (names_of known.names.now) }
+    requires positions { HavePositions (names_of names.now) (names_of known.names.now)
+        positions.now }
     ensures { IfOk result (λ r. IsRenaming (names_of names.now) r.1.items (rename_values r.0.items)
         × LeadBack (rename_values r.0.items)) }
 {
     let mut numbers = vec![in alloc; 0; known.names.len()]?;
     let mut renames = Vec::new(alloc);
     let mut indices = Vec::with_capacity(alloc, names.len())?;
-    for (i, position) in known.positions.iter().enumerate() {
-        let name = give(alloc, &known.names, &mut numbers, *position, i)?;
-        let index = push_rename(alloc, &mut renames, &known.names[*position], name)?;
+    for (i, position) in positions.iter().enumerate() {
+        let name = give(alloc, known, &mut numbers, *position, i)?;
+        let original = name_in(known.names, *position);
+        let index = push_rename(alloc, &mut renames, original, name)?;
         indices.push(index)?;
     }
     Ok((renames, indices))
@@ -118,11 +144,11 @@ fn rename_each(
 fn push_rename(
     alloc: Global,
     renames: &mut Vec<Rename>,
-    original: &(&str, &str),
+    original: (&str, &str),
     name: Option<String>,
 ) -> Result<Option<usize>, AllocError>
     ensures { IfOk result (λ index. PushesRename (rename_values renames.old.items)
-        (rename_values renames.new.items) (named original.now)
+        (rename_values renames.new.items) (named original.entry)
         (option_map string_bytes name) index) }
 {
     let Some(name) = name else {

@@ -195,6 +195,12 @@ probe_found rs before long each m x r is lt le ge =
     let begun = each m lt ∙ ap (count_below (in_ranges rs)) first in
     omega (arith, here, begun, own)
 
+pub inside_range : (rs : List (ℕ × ℕ)) (m x : ℕ) (r : ℕ × ℕ) → r ≡ get_or rs m r → m < length rs → r.0 ≤ x → x ≤ r.1 → in_ranges rs x ≡ true
+inside_range rs m x r is lt le ge =
+    let own = ap (λ (z : ℕ × ℕ). z.0) is in
+    let last = ap (λ (z : ℕ × ℕ). z.1) is in
+    inside rs m x r lt (omega (arith, own, le)) (omega (arith, last, ge))
+
 pub found_rank : (before : List ℕ) (m b y c : ℕ) → m < length before → b ≡ get_or before m b → get_or before m 0 + y ≡ c → b + y ≡ c
 found_rank before m b y c lt is found =
     let same = get_or_default before m b 0 lt in

@@ -3,13 +3,16 @@ use Rattle.std.proofs.Common.{◌≡◌, ℕ, ◌+◌, ◌-◌, ◌<◌, ◌≤�
 use Rattle.std.proofs.Common.{inl, inr, arith, ◌&&◌, Option, Some, None, append_assoc, append-nil}
 use Rattle.std.proofs.Common.{ltb-true}
 use Rattle.std.proofs.lemmas.Bool.{ltb-false}
-use Rattle.std.specs.Prelude.{not, IsTrue, nat_lt, Contains, All, ◌↔◌, Result, Ok, Err, OnOk, ⊤}
+use Rattle.std.specs.Prelude.{not, is_some, IsTrue, nat_lt, Contains, All, ◌↔◌, Result, Ok, Err, OnOk, ⊤}
 use Rattle.std.proofs.lemmas.List.{take_more, take_all, get_or_append_left, map-append}
 use Rattle.std.proofs.lemmas.List.Elements.{filter-append, filter_passes, All-contains, Contains-get_or}
 use Rattle.std.specs.List.{slice_get, cons_option, list_all}
 use Rattle.std.specs.Borrow.{Bor}
 use Rattle.std.proofs.lemmas.Option.{slice_get-map, slice_get_past}
 use Rattle.wc_read.specs.BodyOperators.{body_in, body_of, init_in}
+use Rattle.wc_read.specs.InitOperators.{index_instr}
+use Rattle.wc_read.specs.Inits.{end_value}
+use Rattle.wc_read.specs.declared.init_operators.InitIndex.{InitIndex}
 use Rattle.wc_read.specs.Items.{TableValue, func_value, global_value, table_value}
 use Rattle.wc_read.specs.declared.core_module.Module.{Module}
 use Rattle.wc_read.specs.declared.items.Item.{Item}
@@ -44,7 +47,7 @@ use Rattle.wc_gc.specs.InRange.{is_operator_in_range, is_code_in_range, is_body_
 use Rattle.wc_gc.specs.LiveItems.{IsCount}
 use Rattle.wc_gc.specs.Private.Search.{FindsItems, IsKnownCode, finds}
 use Rattle.wc_gc.specs.declared.search.Search.{Search}
-use Rattle.wc_gc.specs.Entries.{present, refs_list, type_items, val_type_refs, instr_refs, code_refs, body_refs}
+use Rattle.wc_gc.specs.Entries.{present, refs_list, type_items, val_type_refs, instr_refs, code_refs, init_refs, body_refs}
 use Rattle.wc_gc.proofs.SearchLemmas.{IsSearched, grown_none, grown_old, items_decided, only_if_tied, search_start, search_step, search_end}
 
 -- what was found, of which so many were passed and are in range
@@ -356,16 +359,50 @@ body_out_of_range has m body locals a b left after i s e bad =
     go None = refl
     go (Some is) = ap (λ (z : Bool). z && is_code_in_range m (s.before ++ i ∷ is)) s.there ∙ out_of_range_in m s.before is i bad
 
--- one more of the operators of an initialiser
-pub code_more : (is : List Instr) (i : ℕ) (x : Instr) → i < length is → x ≡ get_or is i x → instr_values (take (i + 1) is) ≡ instr_values (take i is)
-    ++ instr_value x ∷ []
-code_more is i x h e =
-    ap instr_values (take_more is i x h) ∙ (map-push (take i is) (get_or is i x)
-    ∙ ap (λ z. instr_values (take i is) ++ instr_value z ∷ []) (sym e))
+-- those of an initialiser, of which some operators are left
+pub record IsInitFound {L : Type 0} (has : L → ℕ → Bool) (m : DecodedModule) (init : Option (List InstrValue)) (a b : Search L) (left : Option (List InstrValue)) : Type 0 where
+  pub before : List InstrValue
+  pub split : init ≡ run_and_left before left
+  pub found : FindsItems has a b (present m (code_refs before))
+  pub some : is_some left ≡ true
+
+pub init_start : {L : Type 0} (has : L → ℕ → Bool) (m : DecodedModule) (init : Option (List InstrValue)) (a : Search L) → is_some init ≡ true → IsInitFound has m init a a init
+init_start has m init a some = record { before = []; split = whole init; found = finds_none has a; some = some }
   where
-    map-push : (xs : List Instr) (x : Instr) → instr_values (xs ++ x ∷ []) ≡ instr_values xs ++ instr_value x ∷ []
-    map-push [] x = refl
-    map-push (y ∷ xs) x = ap (λ zs. instr_value y ∷ zs) (map-push xs x)
+    whole : (o : Option (List InstrValue)) → o ≡ run_and_left [] o
+    whole None = refl
+    whole (Some is) = refl
+
+pub init_more : {L : Type 0} (has : L → ℕ → Bool) (m : DecodedModule) (init : Option (List InstrValue)) (a b c : Search L) (left after : Option (List InstrValue)) (i : InstrValue)
+    → IsInitFound has m init a b left → left ≡ option_map (λ is. i ∷ is) after → FindsItems has b c (present m (instr_refs i)) → IsInitFound has m init a c after
+init_more has m init a b c left after i s e f = record {
+  before = s.before ++ i ∷ [];
+  split = s.split ∙ (ap (run_and_left s.before) e ∙ moved after);
+  found = finds_code has m a b c s.before i s.found f;
+  some = sym (is_there after) ∙ (ap is_some (sym e) ∙ s.some);
+}
+  where
+    moved : (o : Option (List InstrValue)) → run_and_left s.before (option_map (λ is. i ∷ is) o) ≡ run_and_left (s.before ++ i ∷ []) o
+    moved None = refl
+    moved (Some is) = ap Some (sym (append_assoc s.before (i ∷ []) is))
+
+    is_there : (o : Option (List InstrValue)) → is_some (option_map (λ is. i ∷ is) o) ≡ is_some o
+    is_there None = refl
+    is_there (Some is) = refl
+
+pub init_end : {L : Type 0} (has : L → ℕ → Bool) (m : DecodedModule) (init : Option (List InstrValue)) (a b : Search L) (left : Option (List InstrValue))
+    → IsInitFound has m init a b left → left ≡ Some [] → FindsItems has a b (present m (init_refs init))
+init_end has m init a b left s e = subst (λ (z : Option (List InstrValue)). FindsItems has a b (present m (init_refs z)))
+    (sym (s.split ∙ (ap (run_and_left s.before) e ∙ ap Some (append-nil s.before)))) s.found
+
+-- an initialiser of one operator, which names one item
+pub init_index_refs : (init : Option (List InstrValue)) (i : InitIndex) → init ≡ Some (index_instr i ∷ end_value ∷ []) → init_refs init ≡ option_to_list (reference i.index)
+init_index_refs init i e = ap init_refs e ∙ (append-nil (option_to_list (reference i.index) ++ []) ∙ append-nil (option_to_list (reference i.index)))
+
+-- where there is no initialiser, nothing is named
+pub finds_no_init : {L : Type 0} (has : L → ℕ → Bool) (m : DecodedModule) (a : Search L) (init : Option (List InstrValue)) → is_some init ≡ false → FindsItems has a a (present m (init_refs init))
+finds_no_init has m a None none = finds_none has a
+finds_no_init has m a (Some is) none = absurd cc
 
 -- items of a module that was read
 

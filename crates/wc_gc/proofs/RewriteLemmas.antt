@@ -1,8 +1,9 @@
 -- A body written under new indices, operator by operator.
-use Rattle.std.proofs.Common.{◌≡◌, ◌⊎◌, inl, inr, ℕ, List, [], ◌∷◌, ◌++◌, map, refl, sym, ◌∙◌, ap, Bool, true, Option, Some, None, append_assoc, append-nil}
-use Rattle.std.specs.Prelude.{is_some, Result, Ok, Err, IfOk}
-use Rattle.std.specs.List.{cons_option, flat_map}
+use Rattle.std.proofs.Common.{◌≡◌, ◌⊎◌, inl, inr, ℕ, List, [], ◌∷◌, ◌++◌, map, refl, sym, ◌∙◌, ap, Bool, true, false, Option, Some, None, append_assoc, append-nil}
+use Rattle.std.specs.Prelude.{is_some, not, Result, Ok, Err, IfOk}
+use Rattle.std.specs.List.{cons_option, flat_map, list_all}
 use Rattle.std.specs.Option.{option_map}
+use Rattle.std.proofs.lemmas.Bool.{and_parts}
 use Rattle.std.proofs.lemmas.Grind.{flat_map-append}
 use Rattle.std.proofs.lemmas.List.{map-append}
 use Rattle.wc_read.specs.Operators.{InstrValue, ImmediatesValue, WithNone, WithBlock, WithIndex, WithIndices, WithLabels, WithValTypes, WithRefType, WithMemArg, WithMemArgLane, WithI32, WithI64, WithBytes, WithLane, index_of}
@@ -20,8 +21,13 @@ use Rattle.wc_read.specs.declared.operators.Refs.{Refs}
 use Rattle.wc_read.specs.declared.operators.BlockType.TheVariants.{Empty, Value, FuncType}
 use Rattle.wc_read.specs.Bodies.{BodyValue, local_types}
 use Rattle.wc_read.specs.BodyOperators.{body_of}
-use Rattle.wc_read.specs.Renumbering.{Renumbering, renumber, renumber_index, renumber_mem_arg, renumber_immediates, renumber_instr, renumber_val_type}
-use Rattle.wc_read.specs.Types.{type_index, type_indices}
+use Rattle.wc_read.specs.InitOperators.{index_instr}
+use Rattle.wc_read.specs.Inits.{end_value}
+use Rattle.wc_read.specs.OperatorText.{immediates_text}
+use Rattle.wc_read.specs.declared.init_operators.InitIndex.{InitIndex}
+use Rattle.wc_read.specs.declared.operators.Opcode.TheVariants.{Byte}
+use Rattle.wc_read.specs.Renumbering.{Renumbering, renumber, renumber_index, renumber_func_type, renumber_mem_arg, renumber_immediates, renumber_instr, renumber_val_type}
+use Rattle.wc_read.specs.Types.{FuncTypeValue, type_index, type_indices}
 use Rattle.wc_read.specs.declared.types.ValType.{ValType}
 use Rattle.wc_read.specs.declared.types.ValType.TheVariants.{I32, I64, F32, F64, V128, FuncRef, ExternRef, FuncRefNonNull, ExternRefNonNull, TypeRef}
 use Rattle.wc_read.specs.declared.bodies.Locals.{Locals}
@@ -32,6 +38,7 @@ use Rattle.wc_gc.specs.Image.{new_body, renumber_code, renumber_locals}
 use Rattle.wc_gc.specs.NewBodies.{calls_of}
 use Rattle.wc_gc.specs.NewIndices.{new_of}
 use Rattle.wc_gc.specs.Private.BodyCuts.{text_left}
+use Rattle.wc_gc.specs.Private.PlainTypes.{names_no_type, names_no_types}
 use Rattle.wc_gc.specs.declared.new_indices.NewIndices.{NewIndices}
 
 -- some operators were written, and these are left of all
@@ -51,6 +58,19 @@ write_more new old all out left i (Some is) out' w e more = record {
 
 pub write_end : (new : Renumbering) (old : List ℕ) (all : Option (List InstrValue)) (out : List ℕ) (left : Option (List InstrValue)) → IsWritten new old all out left → left ≡ Some [] → out ≡ old ++ text_left new all
 write_end new old all out left w e = sym (append-nil out) ∙ (ap (λ o. out ++ text_left new o) (sym e) ∙ w.same)
+
+-- an initialiser of one operator, which names one item
+pub init_index_text : (new : Renumbering) (init : Option (List InstrValue)) (i : InitIndex) → init ≡ Some (index_instr i ∷ end_value ∷ []) → (old mid out : List ℕ)
+    → mid ≡ old ++ instr_text (record { opcode = Byte i.code; immediates = WithIndex (renumber_index new i.index) }) → out ≡ mid ++ 0x0b ∷ [] → out ≡ old ++ text_left new init
+unfolding instr_text immediates_text
+init_index_text new init i e old mid out first last =
+    last ∙ (ap (λ z. z ++ 0x0b ∷ []) first ∙ (append_assoc old (instr_text (record { opcode = Byte i.code; immediates = WithIndex (renumber_index new i.index) })) (0x0b ∷ [])
+    ∙ ap (λ o. old ++ text_left new o) (sym e)))
+
+-- where there is no code, nothing is written
+pub write_none : (new : Renumbering) (old : List ℕ) (code : Option (List InstrValue)) → is_some code ≡ false → old ≡ old ++ text_left new code
+write_none new old None none = sym (append-nil old)
+write_none new old (Some is) none = absurd cc
 
 -- a whole body, after a call
 
@@ -104,6 +124,24 @@ same_types new [] e = refl
 same_types new (t ∷ ts) e =
     let p = no_first (type_index t) (type_indices ts) e in
     ap (λ u. u ∷ map (renumber_val_type new) ts) (same_type new t p.0) ∙ ap (λ us. t ∷ us) (same_types new ts p.1)
+
+-- so are function types that name none
+
+plain_none : (ts : List ValType) → list_all names_no_type ts ≡ true → type_indices ts ≡ []
+plain_none [] e = refl
+plain_none (t ∷ ts) e =
+    let p = and_parts (names_no_type t) (list_all names_no_type ts) e in
+    first (type_index t) p.0 (plain_none ts p.1)
+  where
+    first : (o : Option ℕ) → not (is_some o) ≡ true → type_indices ts ≡ [] → cons_option o (type_indices ts) ≡ []
+    first None none e = e
+    first (Some n) none e = absurd cc
+
+pub same_func_type : (new : Renumbering) (t : FuncTypeValue) → names_no_types t ≡ true → renumber_func_type new t ≡ t
+same_func_type new t e =
+    let p = and_parts (list_all names_no_type t.params) (list_all names_no_type t.results) e in
+    ap (λ (ps : List ValType). record { params = ps; results = map (renumber_val_type new) t.results }) (same_types new t.params (plain_none t.params p.0))
+    ∙ ap (λ (rs : List ValType). record { params = t.params; results = rs }) (same_types new t.results (plain_none t.results p.1))
 
 -- so are locals whose types name none
 pub same_locals : (new : Renumbering) (ls : List Locals) → type_indices (local_types ls) ≡ [] → map (renumber_locals new) ls ≡ ls

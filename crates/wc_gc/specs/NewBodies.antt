@@ -1,20 +1,21 @@
--- The bodies that are written.
+-- The bodies and initialisers that are written.
 use Rattle.std.specs.Prelude.{ℕ, ◌+◌, List, ◌++◌, Bool, ◌&&◌, cond, Option, Some, None}
 use Rattle.std.specs.Option.{option_map, option_to_list}
 use Rattle.wc_read.specs.Operators.{InstrValue}
 use Rattle.wc_read.specs.Bodies.{BodyValue}
-use Rattle.wc_read.specs.BodyOperators.{body_in}
+use Rattle.wc_read.specs.BodyOperators.{body_in, init_in}
 use Rattle.wc_read.specs.Renumbering.{Renumbering}
 use Rattle.wc_read.specs.declared.operators.Space.TheVariants.{Funcs}
 use Rattle.wc_gc.specs.AddedCode.{call, growing_body, stack_body}
 use Rattle.wc_gc.specs.Edit.{lazy_position}
-use Rattle.wc_gc.specs.Image.{new_body}
+use Rattle.wc_gc.specs.Image.{new_body, new_init}
 use Rattle.wc_gc.specs.NewIndices.{new_of}
 use Rattle.wc_gc.specs.declared.parts.Parts.{Parts}
 use Rattle.wc_gc.specs.declared.new_bodies.NewBody.{NewBody}
 use Rattle.wc_gc.specs.declared.new_bodies.NewBody.TheVariants.{Old, Growing, Stack}
 use Rattle.wc_gc.specs.declared.new_bodies.OldBody.{OldBody}
 use Rattle.wc_gc.specs.declared.new_bodies.StackBody.{StackBody}
+use Rattle.wc_gc.specs.declared.new_bodies.NewInit.{NewInit}
 
 -- a call, where there is a function to be called
 abbrev pub calls_of : Option ℕ → List InstrValue
@@ -42,3 +43,7 @@ abbrev pub body_written : NewBody → BodyValue
 body_written (Old b) = old_body_written b
 body_written (Growing g) = growing_body g.page_size_log2 0
 body_written (Stack b) = stack_body_written b
+
+-- an initialiser of the adapter under new indices
+abbrev pub init_written : NewInit → List InstrValue
+init_written i = new_init (new_of i.new.now) (init_in i.bytes.now)

@@ -10,6 +10,7 @@ pub mod ItemCounts
 pub mod MachineOperators
 pub mod Merging
 pub mod KeptOrder
+pub mod PlainTypes
 pub mod RangeSet
 pub mod Rewrite
 pub mod Roots

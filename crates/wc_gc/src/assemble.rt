@@ -3,7 +3,6 @@
 ghost use Rattle.std.specs.Prelude.{◌≡◌, ◌<◌, ◌^◌, ◌++◌, ◌∷◌, [], ℕ, length, map, true, IsTrue, IfOk, OnOk, Some};
 ghost use Rattle.std.specs.List.{filter_map, slice_get};
 ghost use Rattle.wc_read.specs.Exports.{export_value};
-ghost use Rattle.wc_read.specs.Inits.{init_value};
 ghost use Rattle.wc_read.specs.Items.{item_value, table_value};
 ghost use Rattle.wc_read.specs.Renumbering.{renumber_func_type};
 ghost use Rattle.wc_read.specs.Types.{func_type_value};
@@ -20,7 +19,7 @@ ghost use Rattle.wc_gc.specs.Private.KeptBodies.{AreBodiesCut};
 ghost use Rattle.wc_gc.specs.Private.FuncGroups.{AreGroups};
 ghost use Rattle.wc_gc.specs.Image.{kept_items, new_export, new_global, new_table};
 ghost use Rattle.wc_gc.specs.Live.{has_item};
-ghost use Rattle.wc_gc.specs.NewBodies.{body_written};
+ghost use Rattle.wc_gc.specs.NewBodies.{body_written, init_written};
 ghost use Rattle.wc_gc.specs.NewIndices.{new_of};
 ghost use Rattle.wc_gc.specs.InRange.{is_item_in_range};
 
@@ -28,15 +27,17 @@ use crate::edit::{Edit, EditSource, NewFunc};
 use crate::func_groups::FuncGroups;
 use crate::live::{BitVec, LiveSet};
 use crate::live_items::exported_item;
-use crate::new_bodies::NewBody;
+use crate::new_bodies::{NewBody, NewInit};
 use crate::new_indices::NewIndices;
 use crate::parts::Parts;
-use crate::rewrite::new_init;
 use std::alloc::{AllocError, Global};
 use wc_read::{
-    Def, Export, Func, FuncType, Global as ModuleGlobal, GlobalType, Init, Item, Table, ValType,
+    Def, Export, Func, FuncType, Global as ModuleGlobal, GlobalType, Item, Table, ValType,
 };
 use wc_write::Built;
+
+/// A global of the image.
+type NewGlobal<'a, 'n> = Item<'a, GlobalType, NewInit<'a, 'n>>;
 
 /// The most functions that are added after those of a set: what allocates a stack, a realloc, and the start function.
 const MOST_ADDED: usize = 3;
@@ -48,7 +49,7 @@ pub fn image<'a, 'n, L: LiveSet>(
     source: &EditSource<'_, 'a, L>,
     groups: &FuncGroups<L>,
     edit: Edit<'a, 'n>,
-) -> Result<Built<'a, NewBody<'a, 'n>>, AllocError>
+) -> Result<Built<'a, NewBody<'a, 'n>, NewInit<'a, 'n>>, AllocError>
     requires bounded { ItemCountsFitU32 source.now.adapter.now }
     requires groups { AreGroups L.has (settings_of edit) source.now.adapter.now.funcs.items
         (L.has source.now.live.now.funcs) (map export_value source.now.exports.now) groups.now }
@@ -60,7 +61,7 @@ pub fn image<'a, 'n, L: LiveSet>(
     requires indices { let s = source.now in new_indices edit ≡ edited_rank (edited_of edit
         (decoded_module s.adapter.now) (map export_value s.exports.now)
         (has_item L.has s.live.now)) }
-    ensures { let s = source.now in IfOk result (λ b. built_value_by body_written b
+    ensures { let s = source.now in IfOk result (λ b. built_value_by body_written init_written b
         ≡ edited_image (edited_of edit.entry
         (decoded_module s.adapter.now) (map export_value s.exports.now)
         (has_item L.has s.live.now))) }
@@ -339,43 +340,36 @@ fn renumber_tables(tables: &mut [Table<'_>], new: &NewIndices)
 }
 
 /// Globals under new indices.
-fn new_globals<'a>(
+fn new_globals<'a, 'n>(
     alloc: Global,
     globals: &[ModuleGlobal<'a>],
-    new: &NewIndices,
-) -> Result<Vec<Item<'a, GlobalType, Init<'a>>>, AllocError>
-    ensures { IfOk result (λ v. map (item_value init_value) v.items
+    new: &'n NewIndices,
+) -> Result<Vec<NewGlobal<'a, 'n>>, AllocError>
+    ensures { IfOk result (λ v. map (item_value init_written) v.items
         ≡ map (λ g. new_global (new_of new.now) (global_code g)) globals.now) }
 {
     let mut items = Vec::with_capacity(alloc, globals.len())?;
     for global in globals {
-        items.push(new_global(alloc, global, new)?)?;
+        items.push(new_global(global, new))?;
     }
     Ok(items)
 }
 
 /// A global under new indices.
-fn new_global<'a>(
-    alloc: Global,
-    global: &ModuleGlobal<'a>,
-    new: &NewIndices,
-) -> Result<Item<'a, GlobalType, Init<'a>>, AllocError>
-    ensures { IfOk result (λ g. item_value init_value g
-        ≡ new_global (new_of new.now) (global_code global.now)) }
+fn new_global<'a, 'n>(global: &ModuleGlobal<'a>, new: &'n NewIndices) -> NewGlobal<'a, 'n>
+    ensures { item_value init_written result
+        ≡ new_global (new_of new.now) (global_code global.now) }
 {
     let ty = new.global_type(global.ty);
     match global.def {
-        Def::Import(module, name) => Ok(Item {
+        Def::Import(module, name) => Item {
             ty,
             def: Def::Import(module, name),
-        }),
-        Def::Local(bytes) => {
-            let init = new_init(alloc, bytes, new)?;
-            Ok(Item {
-                ty,
-                def: Def::Local(init),
-            })
-        }
+        },
+        Def::Local(bytes) => Item {
+            ty,
+            def: Def::Local(NewInit { bytes, new }),
+        },
     }
 }
 

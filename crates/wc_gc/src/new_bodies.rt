@@ -1,4 +1,4 @@
-//! Bodies of functions that are to be written.
+//! Bodies of functions and initialisers of globals that are to be written.
 
 ghost use Rattle.std.specs.Prelude.{◌≡◌, ◌≤◌, is_some, true};
 ghost use Rattle.wc_read.specs.BodyOperators.{body_in};
@@ -7,9 +7,9 @@ ghost use Rattle.wc_gc.specs.Private.KeptBodies.{IsCutAt};
 use crate::added_code::{append_growing_body, append_stack_body};
 use crate::body_cuts::BodyCuts;
 use crate::new_indices::NewIndices;
-use crate::rewrite::append_old_body;
+use crate::rewrite::{append_init, append_old_body};
 use std::alloc::AllocError;
-use wc_write::BodyText;
+use wc_write::{BodyText, InitText};
 
 /// The body of a function, to be written.
 #[derive(Clone, Copy)]
@@ -92,5 +92,23 @@ impl<'a, 'n> OldBody<'a, 'n> {
         } else {
             None
         }
+    }
+}
+
+/// The initialiser of a live global of the adapter, to be written under new indices.
+#[derive(Clone, Copy)]
+pub struct NewInit<'a, 'n> {
+    /// Bytes that spell an initialiser; where they spell none, nothing is written.
+    pub bytes: &'a [u8],
+    pub new: &'n NewIndices,
+}
+
+impl<'a, 'n> InitText for NewInit<'a, 'n> {
+    ghost use Rattle.wc_gc.specs.NewBodies.{init_written};
+
+    ghost init = { init_written };
+
+    fn put(&self, out: &mut Vec<u8>) -> Result<(), AllocError> {
+        append_init(out, self.bytes, self.new)
     }
 }

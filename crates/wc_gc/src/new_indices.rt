@@ -9,6 +9,8 @@ ghost use Rattle.wc_gc.specs.Live.{has_item};
 ghost use Rattle.wc_read.specs.declared.operators.Space.TheVariants.{Funcs, Types};
 ghost use Rattle.wc_gc.specs.Counts.{AreDisjoint};
 ghost use Rattle.wc_gc.specs.Ranks.{has_number, rank_of};
+ghost use Rattle.wc_gc.specs.Private.PlainTypes.{names_no_type, names_no_types};
+ghost use Rattle.std.specs.List.{list_all};
 
 use crate::func_groups::FuncGroups;
 use crate::live::{LiveSet, LiveSets};
@@ -165,8 +167,8 @@ impl NewIndices {
         requires { index < self.now.counts.funcs }
         ensures { result ≡ new_old_func self.now index }
     {
-        if self.ranks.imports.contains(index) {
-            return self.ranks.imports.rank(index);
+        if let Some(rank) = self.ranks.imports.rank_if(index) {
+            return rank;
         }
         self.live_imports + self.counts.added_imports + self.ranks.defined.rank(index)
     }
@@ -282,11 +284,14 @@ impl NewIndices {
         }
     }
 
-    /// A function type under the new indices, in new memory.
+    /// A function type under the new indices, in new memory. Most name no types, and are copied.
     pub fn func_type(&self, alloc: Global, ty: &FuncType) -> Result<FuncType, AllocError>
         ensures { IfOk result (λ f. func_type_value f
             ≡ renumber_func_type (new_of self.now) (func_type_value ty.now)) }
     {
+        if names_no_types(ty) {
+            return ty.clone(alloc);
+        }
         let params = self.val_types(Vec::from_slice(alloc, ty.params())?);
         let results = self.val_types(Vec::from_slice(alloc, ty.results())?);
         Ok(FuncType::new(params, results))
@@ -335,6 +340,30 @@ impl NewIndices {
             memory: self.of(Space::Memories, address.memory),
             offset: address.offset,
         }
+    }
+}
+
+/// Whether the parameters and results of a function type name no types.
+fn names_no_types(ty: &FuncType) -> bool
+    ensures { result ≡ names_no_types (func_type_value ty.now) }
+{
+    name_no_types(ty.params()) && name_no_types(ty.results())
+}
+
+/// Whether value types name no types.
+fn name_no_types(types: &[ValType]) -> bool
+    ensures { result ≡ list_all names_no_type types.now }
+{
+    types.iter().all(|ty| names_no_type(*ty))
+}
+
+/// Whether a value type names no type.
+fn names_no_type(ty: ValType) -> bool
+    ensures { result ≡ names_no_type ty }
+{
+    match ty {
+        ValType::TypeRef { .. } => false,
+        _ => true,
     }
 }
 

@@ -88,7 +88,7 @@ impl RangeSet {
 }
 
 /// The index of the first range that does not end before a number; at once where all end before it.
-fn range_near(ranges: &[(u32, u32)], x: u32) -> usize
+pub(crate) fn range_near(ranges: &[(u32, u32)], x: u32) -> usize
     requires { AreRanges ranges.now }
     ensures cut { IsCut x ranges.now result }
     ensures within { result ≤ length ranges.now }

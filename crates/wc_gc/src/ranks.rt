@@ -1,11 +1,11 @@
 //! Ranks of numbers in a set: how many of its numbers are below one.
 
-ghost use Rattle.std.specs.Prelude.{◌≡◌, ◌≤◌, ◌<◌, ◌+◌, ◌-◌, ◌*◌, ◌/◌, ◌^◌, ℕ, All, false, true, length, slice_index, slice_index_or, IsSome, IsTrue, IfOk, IfSome, OnOk};
+ghost use Rattle.std.specs.Prelude.{◌≡◌, ◌≤◌, ◌<◌, ◌+◌, ◌-◌, ◌*◌, ◌/◌, ◌^◌, ℕ, All, None, false, true, length, slice_index, slice_index_or, IsSome, IsTrue, IfOk, IfSome, OnOk};
 ghost use Rattle.wc_gc.specs.Ranges.{AreRanges, in_ranges};
 ghost use Rattle.wc_gc.specs.Counts.{count_below};
 ghost use Rattle.wc_gc.specs.Private.RangeSet.{AreStarts, IsCut};
 
-use crate::range_set::{has_at, range_from};
+use crate::range_set::{has_at, range_near};
 use std::alloc::{AllocError, Global};
 
 /// In how many ranges a number is looked for, from where it may be on, before all are searched.
@@ -73,7 +73,7 @@ impl Ranks {
     pub fn contains(&self, x: u32) -> bool
         ensures { result ≡ has_number self.now x }
     {
-        has_at(&self.ranges, range_from(&self.ranges, x), x)
+        has_at(&self.ranges, range_near(&self.ranges, x), x)
     }
 
     /// How many numbers of the set are below one. It is looked for in at most ten ranges, from where its block begins on;
@@ -82,6 +82,33 @@ impl Ranks {
         ensures { result ≡ rank_of self.now x }
     {
         self.rank_near(x).0
+    }
+
+    /// The rank of a number, if it is in the set. It is looked for as by `rank`.
+    pub fn rank_if(&self, x: u32) -> Option<u32>
+        ensures some { IfSome result (λ rank. (has_number self.now x ≡ true)
+            × (rank ≡ rank_of self.now x)) }
+        ensures none { result ≡ None → has_number self.now x ≡ false }
+    {
+        let (index, _) = self.position(self.start(x), x);
+        match self.rank_at(index, x) {
+            Some(rank) => Some(rank),
+            None => self.searched_rank(x),
+        }
+    }
+
+    /// The rank of a number, if it is in the set, by a search of all ranges.
+    #[inline(never)]
+    fn searched_rank(&self, x: u32) -> Option<u32>
+        ensures some { IfSome result (λ rank. (has_number self.now x ≡ true)
+            × (rank ≡ rank_of self.now x)) }
+        ensures none { result ≡ None → has_number self.now x ≡ false }
+    {
+        if self.contains(x) {
+            Some(self.rank_counted(x).0)
+        } else {
+            None
+        }
     }
 
     /// The rank of a number, and with how many ranges it was compared: of one in the set with those that end before it in
@@ -138,6 +165,7 @@ impl Ranks {
     /// The rank of a number, if it is in the range at an index.
     fn rank_at(&self, index: usize, x: u32) -> Option<u32>
         ensures rank { IfSome result (λ rank. rank ≡ rank_of self.now x) }
+        ensures member { IfSome result (λ _. has_number self.now x ≡ true) }
         ensures found { IsCut x self.now.ranges.items index → has_number self.now x ≡ true
             → IsSome result }
     {

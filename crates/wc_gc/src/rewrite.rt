@@ -3,13 +3,13 @@
 ghost use Rattle.std.specs.Prelude.{◌≡◌, ◌++◌, map, is_some, true, IfOk, IfSome, OnOk, ◌<◌, ◌≤◌};
 ghost use Rattle.std.specs.List.{flat_map};
 ghost use Rattle.std.specs.Option.{option_map};
-ghost use Rattle.wc_read.specs.Operators.{WithIndex, instr_value, instr_values};
-ghost use Rattle.wc_read.specs.Inits.{init_value};
+ghost use Rattle.wc_read.specs.Operators.{WithIndex, instr_value};
+ghost use Rattle.wc_read.specs.InitOperators.{init_left};
 ghost use Rattle.wc_read.specs.Renumbering.{Renumbering, renumber_instr};
 ghost use Rattle.wc_read.specs.BodyOperators.{body_in, body_of, bytes_left, init_in, KeepsLocals, locals_read, next_and_left, operators_left};
 ghost use Rattle.wc_write.specs.Bodies.{locals_text, body_text};
 ghost use Rattle.wc_write.specs.Text.{vector_text};
-ghost use Rattle.wc_gc.specs.Image.{new_init, renumber_code, renumber_locals};
+ghost use Rattle.wc_gc.specs.Image.{renumber_locals};
 ghost use Rattle.wc_gc.specs.NewBodies.{calls_of, old_body_written};
 ghost use Rattle.wc_gc.specs.NewIndices.{new_of};
 ghost use Rattle.wc_gc.specs.Private.BodyCuts.{stretch_text, text_left};
@@ -18,15 +18,19 @@ ghost use Rattle.wc_gc.specs.AddedCode.{call};
 ghost use Rattle.wc_write.specs.Operators.{instr_text};
 
 use crate::body_cuts::Stretch;
+use crate::machine_operators::{MachineOperator, instr_of};
 use crate::new_bodies::OldBody;
 use crate::new_indices::NewIndices;
-use crate::search::init_of;
+use crate::search::next_of_init;
 use std::alloc::{AllocError, Global};
-use wc_read::{Immediates, Index, IndexKind, Init, Instr, Opcode, Operators, ReadFault, Space};
-use wc_write::{append_locals, append_operator};
+use wc_read::{
+    Immediates, Index, IndexKind, InitOperators, Instr, Opcode, Operators, ReadFault, Space,
+    init_index, is_init,
+};
+use wc_write::{append_index_operator, append_locals, append_operator};
 
-/// The code of `call`.
-const CALL: u8 = 0x10;
+/// The code of `end`.
+const END: u8 = 0x0b;
 
 /// Appends a body of the adapter.
 pub fn append_old_body(out: &mut Vec<u8>, body: &OldBody<'_, '_>) -> Result<(), AllocError>
@@ -194,13 +198,7 @@ fn append_index(out: &mut Vec<u8>, opcode: Opcode, index: Index) -> Result<(), A
     ensures { OnOk result (out.new.items ≡ out.old.items
         ++ instr_text (record { opcode = opcode; immediates = WithIndex index })) }
 {
-    append_operator(
-        out,
-        &Instr {
-            opcode,
-            immediates: Immediates::Index(index),
-        },
-    )
+    append_index_operator(out, opcode, index)
 }
 
 /// Whether an operator is one of the frequent ones that name no item, and so are the same under all indices.
@@ -230,13 +228,7 @@ fn append_call(out: &mut Vec<u8>, call: Option<u32>) -> Result<(), AllocError>
 fn call_of<'a>(func: u32) -> Instr<'a>
     ensures { instr_value result ≡ call func }
 {
-    Instr {
-        opcode: Opcode::Byte(CALL),
-        immediates: Immediates::Index(Index {
-            kind: IndexKind::In(Space::Funcs),
-            number: func,
-        }),
-    }
+    instr_of(MachineOperator::Call(func))
 }
 
 /// The operators of a body that is code.
@@ -275,36 +267,50 @@ fn next_of<'a>(
     }
 }
 
-/// The initialiser that bytes spell, under new indices; none, where they spell none.
-pub fn new_init<'a>(
-    alloc: Global,
-    bytes: &'a [u8],
-    new: &NewIndices,
-) -> Result<Init<'a>, AllocError>
-    ensures { IfOk result (λ i. init_value i ≡ new_init (new_of new.now) (init_in bytes.now)) }
+/// Appends the initialiser that bytes spell, under new indices; nothing, where they spell none. Most that name an item
+/// have one operator.
+pub fn append_init(out: &mut Vec<u8>, bytes: &[u8], new: &NewIndices) -> Result<(), AllocError>
+    ensures { OnOk result (out.new.items ≡ out.old.items
+        ++ text_left (new_of new.now) (init_in bytes.now)) }
 {
-    match init_of(alloc, bytes)? {
-        Some(init) => Ok(Init {
-            operators: new_code(alloc, init.operators, new)?,
-        }),
-        None => Ok(Init {
-            operators: Vec::new(alloc),
-        }),
+    match init_index(bytes) {
+        Some(named) => {
+            append_index(out, Opcode::Byte(named.code), new.index(named.index))?;
+            out.push(END)?;
+            Ok(())
+        }
+        None => append_any_init(out, bytes, new),
     }
 }
 
-/// Operators under new indices.
-fn new_code<'a>(
-    alloc: Global,
-    code: Vec<Instr<'a>>,
-    new: &NewIndices,
-) -> Result<Vec<Instr<'a>>, AllocError>
-    ensures { IfOk result (λ v. instr_values v.items
-        ≡ renumber_code (new_of new.now) (instr_values code.entry.items)) }
+/// The same for initialisers of any operators.
+#[inline(never)]
+fn append_any_init(out: &mut Vec<u8>, bytes: &[u8], new: &NewIndices) -> Result<(), AllocError>
+    ensures { OnOk result (out.new.items ≡ out.old.items
+        ++ text_left (new_of new.now) (init_in bytes.now)) }
 {
-    let mut operators = Vec::with_capacity(alloc, code.len())?;
-    for operator in code {
-        operators.push(new.operator(operator))?;
+    let alloc = *out.allocator();
+    if is_init(alloc, bytes)? {
+        let mut operators = InitOperators::new(bytes);
+        append_init_operators(out, alloc, &mut operators, new)
+    } else {
+        Ok(())
     }
-    Ok(operators)
+}
+
+/// Appends the operators that are left of an initialiser, under new indices.
+fn append_init_operators(
+    out: &mut Vec<u8>,
+    alloc: Global,
+    operators: &mut InitOperators<'_>,
+    new: &NewIndices,
+) -> Result<(), AllocError>
+    requires { is_some (init_left operators.old) ≡ true }
+    ensures { OnOk result (out.new.items ≡ out.old.items
+        ++ text_left (new_of new.now) (init_left operators.old)) }
+{
+    while let Some(operator) = next_of_init(operators, alloc)? {
+        append_renumbered(out, operator, new)?;
+    }
+    Ok(())
 }

@@ -1,17 +1,17 @@
 //! The search for the items that exports reach.
 
-ghost use Rattle.std.specs.Prelude.{◌≡◌, ◌⊎◌, ◌&&◌, not, [], ◌∷◌, All, true, false, IsTrue, None, IsOk, IfOk, IfErr, IfSome, OnOk, ◌↔◌, ◌<◌, ◌≤◌};
+ghost use Rattle.std.specs.Prelude.{◌≡◌, ◌⊎◌, ◌&&◌, not, [], ◌∷◌, All, true, false, is_some, IsTrue, None, IsOk, IfOk, IfErr, IfSome, OnOk, ◌↔◌, ◌<◌, ◌≤◌};
 ghost use Rattle.std.specs.List.{list_all};
 ghost use Rattle.std.specs.Option.{option_map, option_to_list};
 ghost use Rattle.wc_read.specs.Bodies.{local_types};
-ghost use Rattle.wc_read.specs.Operators.{instr_value, instr_values};
+ghost use Rattle.wc_read.specs.Operators.{instr_value};
 ghost use Rattle.wc_read.specs.declared.operators.Space.TheVariants.{Funcs, Memories};
 ghost use Rattle.wc_read.specs.References.{is_segment, reference, type_reference, type_refs_of};
 ghost use Rattle.wc_read.specs.Types.{func_type_value};
-ghost use Rattle.wc_read.specs.Inits.{init_value};
+ghost use Rattle.wc_read.specs.InitOperators.{init_bytes_left, init_left};
 ghost use Rattle.wc_read.specs.BodyOperators.{body_in, body_of, bytes_left, init_in, KeepsLocals, locals_read, next_and_left, operators_left};
 ghost use Rattle.wc_gc.specs.Decoded.{ItemIndex, decoded_module, func_code, global_code, is_in};
-ghost use Rattle.wc_gc.specs.Entries.{body_refs, code_refs, func_refs, func_type_refs, global_refs, instr_refs, present, refs_in, refs_list, type_items, val_type_refs};
+ghost use Rattle.wc_gc.specs.Entries.{body_refs, func_refs, func_type_refs, global_refs, init_refs, instr_refs, present, refs_in, refs_list, type_items, val_type_refs};
 ghost use Rattle.wc_gc.specs.Reached.{IsReachedFrom};
 ghost use Rattle.wc_gc.specs.Private.BodyCuts.{IsCutIfKept, IsFuncCutIfKept, Passes};
 ghost use Rattle.wc_gc.specs.Private.KeptBodies.{KeepsCuts};
@@ -24,8 +24,9 @@ use crate::fault::GcFault;
 use crate::live::{LiveSet, LiveSets};
 use std::alloc::{AllocError, Global};
 use wc_read::{
-    Def, Func, FuncType, Global as ModuleGlobal, Immediates, Index, IndexKind, Init, Instr, Locals,
-    Module, Operators, ReadFault, Refs, Space, TableType, ValType, names_segment, read_init, refs,
+    Def, Func, FuncType, Global as ModuleGlobal, Immediates, Index, IndexKind, InitOperators,
+    Instr, Locals, Module, Operators, ReadFault, Refs, Space, TableType, ValType, init_index,
+    is_init, names_segment, refs,
 };
 
 /// The items found so far: as sets, and in the order in which they were found.
@@ -358,13 +359,58 @@ impl<L: LiveSet> Search<L> {
         Ok(())
     }
 
-    /// Finds the items that an initialiser names.
-    fn reach_code(&mut self, adapter: &Module<'_>, code: &[Instr<'_>]) -> Result<(), AllocError>
+    /// Finds the items that the initialiser names that bytes spell; none, where they spell none. Most that name an item
+    /// have one operator.
+    fn reach_init(
+        &mut self,
+        alloc: Global,
+        adapter: &Module<'_>,
+        bytes: &[u8],
+    ) -> Result<(), AllocError>
         ensures { OnOk result (FindsItems L.has self.old self.new
-            (present (decoded_module adapter.now) (code_refs (instr_values code.now)))) }
+            (present (decoded_module adapter.now) (init_refs (init_in bytes.now)))) }
     {
-        for instr in code {
-            self.reach_operator(adapter, instr)?;
+        match init_index(bytes) {
+            Some(named) => {
+                self.reach_index(adapter, named.index)?;
+                Ok(())
+            }
+            None => self.reach_any_init(alloc, adapter, bytes),
+        }
+    }
+
+    /// The same for initialisers of any operators.
+    #[inline(never)]
+    fn reach_any_init(
+        &mut self,
+        alloc: Global,
+        adapter: &Module<'_>,
+        bytes: &[u8],
+    ) -> Result<(), AllocError>
+        ensures { OnOk result (FindsItems L.has self.old self.new
+            (present (decoded_module adapter.now) (init_refs (init_in bytes.now)))) }
+    {
+        if is_init(alloc, bytes)? {
+            let mut operators = InitOperators::new(bytes);
+            self.reach_init_operators(alloc, adapter, &mut operators)
+        } else {
+            Ok(())
+        }
+    }
+
+    /// Finds the items that the operators name that are left of an initialiser.
+    fn reach_init_operators(
+        &mut self,
+        alloc: Global,
+        adapter: &Module<'_>,
+        operators: &mut InitOperators<'_>,
+    ) -> Result<(), AllocError>
+        requires { is_some (init_left operators.old) ≡ true }
+        ensures { OnOk result (FindsItems L.has self.old self.new
+            (present (decoded_module adapter.now) (init_refs (init_left operators.old)))) }
+    {
+        while let Some(operator) = next_of_init(operators, alloc)? {
+            self.reach_operator(adapter, &operator)?;
         }
         Ok(())
     }
@@ -454,10 +500,7 @@ impl<L: LiveSet> Search<L> {
         self.reach_type(adapter, global.ty.content_type)?;
         match global.def {
             Def::Import(_, _) => Ok(()),
-            Def::Local(bytes) => match init_of(alloc, bytes)? {
-                Some(init) => self.reach_code(adapter, &init.operators),
-                None => Ok(()),
-            },
+            Def::Local(bytes) => self.reach_init(alloc, adapter, bytes),
         }
     }
 
@@ -563,16 +606,22 @@ fn operators_of(alloc: Global, bytes: &[u8]) -> Result<Operators<'_>, GcFault>
     }
 }
 
-/// The initialiser that bytes spell. Those of a module that was read spell one.
-pub fn init_of(alloc: Global, bytes: &[u8]) -> Result<Option<Init<'_>>, AllocError>
-    ensures { IfOk result (λ i. option_map init_value i ≡ init_in bytes.now) }
+/// The next operator of an initialiser.
+#[inline(always)]
+pub fn next_of_init<'a>(
+    operators: &mut InitOperators<'a>,
+    alloc: Global,
+) -> Result<Option<Instr<'a>>, AllocError>
+    requires { is_some (init_left operators.old) ≡ true }
+    ensures found { IfOk result (λ i. init_left operators.old
+        ≡ next_and_left (option_map instr_value i) (init_left operators.new)) }
+    ensures shorter { IfOk result (λ i.
+        IfSome i (λ _. init_bytes_left operators.new < init_bytes_left operators.old)) }
 {
-    match read_init(alloc, bytes) {
-        Ok(init) => Ok(Some(init)),
-        Err(fault) => match fault {
-            ReadFault::Memory => Err(AllocError),
-            _ => Ok(None),
-        },
+    match operators.next(alloc) {
+        Ok(next) => Ok(next),
+        Err(ReadFault::Memory) => Err(AllocError),
+        Err(_) => unreachable!(),
     }
 }
 

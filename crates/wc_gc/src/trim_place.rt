@@ -24,11 +24,9 @@ use crate::trim_place::bodies::{outside_operator, refused_function};
 use std::alloc::{AllocError, Global};
 use std::fmt;
 use wc_maps::Set;
+use wc_read::codes::{DATA_COUNT_ID, DATA_ID, ELEMENT_ID, START_ID};
 use wc_read::{Export, Module, ReadFault, ReadPlace, read_module, read_module_explained};
 use wc_texts::Refused;
-
-/// The id of the section of the start function.
-const START_ID: u8 = 8;
 
 /// The part of an adapter that a fault of trimming is about.
 #[derive(Clone, Copy, Debug, PartialEq, Eq)]
@@ -60,10 +58,10 @@ impl fmt::Display for TrimPlace {
         match self {
             TrimPlace::Bytes(place) => write!(f, "{place}"),
             TrimPlace::Section { id } => match *id {
-                8 => f.write_str("start section"),
-                9 => f.write_str("element section"),
-                11 => f.write_str("data section"),
-                12 => f.write_str("data count section"),
+                START_ID => f.write_str("start section"),
+                ELEMENT_ID => f.write_str("element section"),
+                DATA_ID => f.write_str("data section"),
+                DATA_COUNT_ID => f.write_str("data count section"),
                 id => write!(f, "section {id}"),
             },
             TrimPlace::Body { function, operator } => match operator {

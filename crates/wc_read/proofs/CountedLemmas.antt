@@ -20,6 +20,9 @@ pub part_start : {A : Type 0} (read : Read A) (bytes : List ℕ) (n : ℕ) (rest
 unfolding vector_at
 part_start read bytes n rest e = record { gives = bind_some _ _ (n, rest) e ∙ same (items_at read n rest) }
 
+pub part_of_items : {A : Type 0} (read : Read A) (bytes : List ℕ) (n : ℕ) → IsPartRead read [] n bytes (items_at read n bytes)
+part_of_items read bytes n = record { gives = same (items_at read n bytes) }
+
 pub part_end : {A : Type 0} (read : Read A) (front : List A) (bytes : List ℕ) (total : Option (List A × List ℕ)) → IsPartRead read front 0 bytes total → total ≡ Some (front, bytes)
 unfolding items_at
 part_end read front bytes total s = s.gives ∙ rw append-nil refl

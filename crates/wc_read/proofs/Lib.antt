@@ -10,6 +10,7 @@ pub mod LimitsLemmas
 pub mod ImportsLemmas
 pub mod SectionsLemmas
 pub mod ExportsLemmas
+pub mod ShortTypesLemmas
 pub mod ContentsLemmas
 pub mod OrderLemmas
 pub mod SpacesLemmas
@@ -41,7 +42,10 @@ pub mod DecodingLemmas
 pub mod RenumberingLemmas
 pub mod BodyOperatorsLemmas
 pub mod FrequentLemmas
+pub mod InitOperatorsLemmas
+pub mod InitIndexLemmas
 pub mod ShortestTextLemmas
+pub mod LabelsLemmas
 pub mod PassKindsLemmas
 pub mod PassingLemmas
 pub mod LocalRunsLemmas

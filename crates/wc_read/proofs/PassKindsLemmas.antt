@@ -16,7 +16,7 @@ use Rattle.wc_read.specs.declared.operators.Form.TheVariants.{None as form_none,
 use Rattle.wc_read.specs.declared.nesting.Token.{Token}
 use Rattle.wc_read.specs.declared.nesting.Token.TheVariants.{Plain, Block, If, Else, End}
 use Rattle.wc_read.specs.declared.pass_kinds.PassKind.{PassKind}
-use Rattle.wc_read.specs.declared.pass_kinds.PassKind.TheVariants.{Never, CodeOnly, Index, I32 as ConstI32, I64 as ConstI64, FourBytes, EightBytes, MemArg, Memory, Block as OpensBlock, If as OpensIf, Else as MeetsElse, End as MeetsEnd}
+use Rattle.wc_read.specs.declared.pass_kinds.PassKind.TheVariants.{Never, CodeOnly, Index, I32 as ConstI32, I64 as ConstI64, FourBytes, EightBytes, MemArg, Memory, Labels, Block as OpensBlock, If as OpensIf, Else as MeetsElse, End as MeetsEnd}
 
 -- a table with an entry for each byte
 pub by_table : (kinds : List PassKind) → kinds ≡ map pass_kind (range_with_len 0 256) → (code : ℕ) → code < 256 → (d : PassKind) → slice_index_or kinds code d ≡ pass_kind code
@@ -41,6 +41,7 @@ is_short_kind FourBytes size e some = absurd (some e)
 is_short_kind EightBytes size e some = absurd (some e)
 is_short_kind MemArg size e some = absurd (some e)
 is_short_kind Memory size e some = absurd (some e)
+is_short_kind Labels size e some = absurd (some e)
 is_short_kind OpensBlock size e some = absurd (some e)
 is_short_kind OpensIf size e some = absurd (some e)
 is_short_kind MeetsElse size e some = absurd (some e)
@@ -58,6 +59,7 @@ IsKind form t FourBytes = (form ≡ Some (form_bytes 4)) × (t ≡ Plain)
 IsKind form t EightBytes = (form ≡ Some (form_bytes 8)) × (t ≡ Plain)
 IsKind form t MemArg = (form ≡ Some form_mem_arg) × (t ≡ Plain)
 IsKind form t Memory = (form ≡ Some (form_index (In Memories))) × (t ≡ Plain)
+IsKind form t Labels = (form ≡ Some form_labels) × (t ≡ Plain)
 IsKind form t OpensBlock = t ≡ Block
 IsKind form t OpensIf = t ≡ If
 IsKind form t MeetsElse = t ≡ Else
@@ -85,7 +87,7 @@ plain_is (Some (form_index Data)) = tt
 plain_is (Some (form_index Local)) = (Local, refl, refl, (λ n. refl), refl)
 plain_is (Some (form_index Label)) = (Label, refl, refl, (λ n. refl), refl)
 plain_is (Some (form_indices first second)) = tt
-plain_is (Some form_labels) = tt
+plain_is (Some form_labels) = (refl, refl)
 plain_is (Some form_val_types) = tt
 plain_is (Some form_ref_type) = tt
 plain_is (Some form_mem_arg) = (refl, refl)

@@ -6,7 +6,7 @@ use Rattle.std.specs.Option.{option_map}
 use Rattle.std.proofs.lemmas.Bool.Decides.{nat_tests}
 use Rattle.std.proofs.lemmas.List.{length-append, length-drop}
 use Rattle.std.proofs.Math.Seq.{drop-append_seam, take-append_seam}
-use Rattle.wc_read.specs.Operators.{byte_form, SpellsInstr, InstrValue, ImmediatesValue, WithNone, WithBlock, WithIndex, WithMemArg, WithI32, WithI64, WithBytes, index_of}
+use Rattle.wc_read.specs.Operators.{byte_form, SpellsInstr, InstrValue, ImmediatesValue, WithNone, WithBlock, WithIndex, WithLabels, WithMemArg, WithI32, WithI64, WithBytes, index_of}
 use Rattle.wc_read.specs.References.{refs_of, type_refs_of, one_ref, names_segment}
 use Rattle.wc_read.specs.Nesting.{byte_token}
 use Rattle.wc_read.specs.Text.{number_text, signed_text}
@@ -17,16 +17,16 @@ use Rattle.wc_read.specs.Reading.Signed.{signed_at}
 use Rattle.wc_read.specs.Reading.Instructions.{immediates_at, instr_of, instr_at}
 use Rattle.wc_read.specs.Reading.Nesting.{step}
 use Rattle.wc_read.specs.PassKinds.{pass_kind, short_size}
-use Rattle.wc_read.specs.Private.TextSizes.{IsTextSize, SizesMemArg, SizesMemoryIndex}
+use Rattle.wc_read.specs.Private.TextSizes.{IsTextSize, SizesMemArg, SizesMemoryIndex, IsLabelsSize}
 use Rattle.wc_read.specs.Passing.{ArePassable, IsPassable, IsPassableCode, run_and_left, PassesBlockStart, IsOperatorPassed, PassesOperator, PassesRun, AreOperatorsPassed, SizesShort}
 use Rattle.wc_read.specs.Blocks.{BeginsElse, Closes, Pops}
 use Rattle.wc_read.specs.declared.operators.Opcode.TheVariants.{Byte}
 use Rattle.wc_read.specs.declared.operators.Space.TheVariants.{Memories}
 use Rattle.wc_read.specs.declared.operators.IndexKind.TheVariants.{In}
 use Rattle.wc_read.specs.declared.operators.Form.{Form}
-use Rattle.wc_read.specs.declared.operators.Form.TheVariants.{None as form_none, Block as form_block, Index as form_index, MemArg as form_mem_arg, I32 as form_i32, I64 as form_i64, Bytes as form_bytes}
+use Rattle.wc_read.specs.declared.operators.Form.TheVariants.{None as form_none, Block as form_block, Index as form_index, Labels as form_labels, MemArg as form_mem_arg, I32 as form_i32, I64 as form_i64, Bytes as form_bytes}
 use Rattle.wc_read.specs.declared.nesting.Token.TheVariants.{Plain, Block, If, Else, End}
-use Rattle.wc_read.specs.declared.pass_kinds.PassKind.TheVariants.{CodeOnly, Index, I32 as ConstI32, I64 as ConstI64, FourBytes, EightBytes, MemArg, Memory, Block as OpensBlock, If as OpensIf, Else as MeetsElse, End as MeetsEnd}
+use Rattle.wc_read.specs.declared.pass_kinds.PassKind.TheVariants.{CodeOnly, Index, I32 as ConstI32, I64 as ConstI64, FourBytes, EightBytes, MemArg, Memory, Labels, Block as OpensBlock, If as OpensIf, Else as MeetsElse, End as MeetsEnd}
 use Rattle.wc_read.proofs.PassKindsLemmas.{kind_at, is_short_kind}
 use Rattle.wc_read.proofs.FrequentLemmas.{frequent_read}
 use Rattle.wc_read.proofs.ShortestTextLemmas.{memory_index_sized, number_short, signed_short}
@@ -108,6 +108,11 @@ memory_index_over memory input b rest old size e kind some (left, cut, one, may)
     let s = p.0 in
     over memory input b rest (form_index (In Memories)) (WithIndex (index_of (In Memories) s.value)) s.left old old (1 + size) e w.0 (bind_some _ _ (s.value, s.left) s.read_is) s.cut (ap (λ (k : ℕ). 1 + k) (one ∙ s.size_is))
     (inr (may, ap (λ (k : ℕ). one_ref (Some (Memories, k))) p.1)) refl refl (stays b old w.1 some)
+
+pub labels_over : (memory : Bool) (input : List ℕ) (b : ℕ) (rest : List ℕ) (old : List Bool) (size : ℕ) → input ≡ b ∷ rest → Labels ≡ pass_kind b → old ≢ [] → IsLabelsSize rest size → IsOperatorPassed memory old input old (1 + size)
+labels_over memory input b rest old size e kind some s =
+    let w = kind_at b Labels kind in
+    over memory input b rest form_labels (WithLabels s.labels s.others) s.left old old (1 + size) e w.0 s.read_is s.cut (ap (λ (k : ℕ). 1 + k) s.size_is) (inl refl) refl refl (stays b old w.1 some)
 
 -- what is something to nesting
 

@@ -98,6 +98,21 @@ module _ {A : Type 0} (Spells : Format A) (read : Read A) (m : Meets Spells read
     again = λ text xs rest s. again xs (length (text ++ rest)) text rest (omega (arith, length-append text rest)) s.0 s.1;
   }
 
+  -- with a step for each byte, more steps give the same
+  pub same_steps : (s t : ℕ) (bytes : List ℕ) → length bytes ≤ s → length bytes ≤ t → until_at last read s bytes ≡ until_at last read t bytes
+  same_steps s t bytes h k = by (until_at last read s bytes) (until_at last read t bytes) refl refl
+    where
+      found_in : (n o : ℕ) (xs : List A) (rest : List ℕ) → length bytes ≤ o → until_at last read n bytes ≡ Some (xs, rest) → until_at last read o bytes ≡ Some (xs, rest)
+      found_in n o xs rest within e =
+          let p = taken n bytes xs rest e in
+          let short : length p.0 ≤ o = omega (arith, within, ap length p.1, length-append p.0 rest) in
+          subst (λ (b : List ℕ). until_at last read o b ≡ Some (xs, rest)) (sym p.1) (again xs o p.0 rest short p.2.0 p.2.1)
+
+      by : (a b : Option (List A × List ℕ)) → until_at last read s bytes ≡ a → until_at last read t bytes ≡ b → a ≡ b
+      by None None e f = refl
+      by None (Some (ys, rest)) e f = sym e ∙ found_in t s ys rest h f
+      by (Some (xs, rest)) b e f = sym (found_in s t xs rest k e) ∙ f
+
   -- the loop
 
   has_step : (front : List A) (rest : List ℕ) (total : Option (List A × List ℕ)) (x : A) (after : List ℕ) → IsUntilPart last read front rest total → read rest ≡ Some (x, after) → HasStep last read front x after total

@@ -31,6 +31,7 @@ pub mod Renumbering
 pub mod Nesting
 pub mod Bodies
 pub mod BodyOperators
+pub mod InitOperators
 pub mod Laws
 pub mod Reading
 pub mod Private

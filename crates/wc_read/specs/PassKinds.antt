@@ -10,7 +10,7 @@ use Rattle.wc_read.specs.declared.operators.Form.TheVariants.{None as form_none,
 use Rattle.wc_read.specs.declared.nesting.Token.{Token}
 use Rattle.wc_read.specs.declared.nesting.Token.TheVariants.{Plain, Block, If, Else, End}
 use Rattle.wc_read.specs.declared.pass_kinds.PassKind.{PassKind}
-use Rattle.wc_read.specs.declared.pass_kinds.PassKind.TheVariants.{Never, CodeOnly, Index, I32 as ConstI32, I64 as ConstI64, FourBytes, EightBytes, MemArg, Memory, Block as OpensBlock, If as OpensIf, Else as MeetsElse, End as MeetsEnd}
+use Rattle.wc_read.specs.declared.pass_kinds.PassKind.TheVariants.{Never, CodeOnly, Index, I32 as ConstI32, I64 as ConstI64, FourBytes, EightBytes, MemArg, Memory, Labels, Block as OpensBlock, If as OpensIf, Else as MeetsElse, End as MeetsEnd}
 
 -- an operator that names an item: only one that names a memory may be passed over
 abbrev pub item_pass_kind : Space → PassKind
@@ -31,7 +31,7 @@ plain_pass_kind (Some (form_index Data)) = Never
 plain_pass_kind (Some (form_index Local)) = Index
 plain_pass_kind (Some (form_index Label)) = Index
 plain_pass_kind (Some (form_indices first second)) = Never
-plain_pass_kind (Some form_labels) = Never
+plain_pass_kind (Some form_labels) = Labels
 plain_pass_kind (Some form_val_types) = Never
 plain_pass_kind (Some form_ref_type) = Never
 plain_pass_kind (Some form_mem_arg) = MemArg
@@ -66,6 +66,7 @@ short_size_of FourBytes = 0
 short_size_of EightBytes = 0
 short_size_of MemArg = 0
 short_size_of Memory = 0
+short_size_of Labels = 0
 short_size_of OpensBlock = 0
 short_size_of OpensIf = 0
 short_size_of MeetsElse = 0

@@ -1,4 +1,5 @@
 -- Words of contracts of private functions. No contract of a public function cites these, directly or through others.
 pub mod LocalRuns
 pub mod Places
+pub mod ShortTypes
 pub mod TextSizes

@@ -1,6 +1,7 @@
--- What private readers do: reading functions, from bytes to what a reader makes of those at the front and the bytes that
--- it leaves, and other words of private contracts. A file is named after the source file of the readers. No contract of a public function cites these: what is read is stated by the relations
--- of `specs/`.
+-- What readers do: reading functions, from bytes to what a reader makes of those at the front and the bytes that it
+-- leaves, and other words of their contracts. A file is named after the source file of the readers. Of public functions
+-- those of `Reader`, `Spelled`, `section_items` and `is_typed_init` cite these; what the others read is stated by the
+-- relations of `specs/`.
 pub mod Reader
 pub mod Signed
 pub mod Types

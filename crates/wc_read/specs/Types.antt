@@ -1,6 +1,6 @@
 -- The types of a module: the values that they stand for in contracts, and how bytes spell them
 -- (WebAssembly core specification, 2.3 and 5.3).
-use Rattle.std.specs.Prelude.{◌≡◌, ℕ, nat_lt, pos, List, [], ◌∷◌, ◌++◌, Bool, true, false, ◌||◌, ◌⊎◌, Option, Some, None, is_some, IsTrue, All}
+use Rattle.std.specs.Prelude.{◌≡◌, ℕ, nat_lt, pos, List, take, drop, [], ◌∷◌, ◌++◌, Bool, true, false, ◌||◌, ◌⊎◌, Option, Some, None, is_some, IsTrue, All}
 use Rattle.std.specs.List.{filter_map, list_any}
 use Rattle.std.specs.Option.{option_map_or}
 use Rattle.wc_read.specs.Formats.{Format, Tagged}
@@ -8,6 +8,9 @@ use Rattle.wc_read.specs.Signed.{SpellsSigned}
 use Rattle.wc_read.specs.declared.types.ValType.{ValType}
 use Rattle.wc_read.specs.declared.types.ValType.TheVariants.{I32, I64, F32, F64, V128, FuncRef, ExternRef, FuncRefNonNull, ExternRefNonNull, TypeRef}
 use Rattle.wc_read.specs.declared.types.FuncType.{FuncType}
+use Rattle.wc_read.specs.declared.types.FuncTypes.{FuncTypes}
+use Rattle.wc_read.specs.declared.types.FuncTypes.TheVariants.{Short, Long}
+use Rattle.wc_read.specs.declared.short_types.ShortTypes.{ShortTypes}
 use Rattle.wc_read.specs.declared.types.GlobalType.{GlobalType}
 
 -- a function type: parameters and results
@@ -15,8 +18,20 @@ pub record FuncTypeValue : Type 0 where
   pub params : List ValType
   pub results : List ValType
 
+-- few types are in one list: those of the parameters first, and after them those of the results
+
+abbrev pub short_params : ShortTypes → List ValType
+short_params s = take s.params s.types
+
+abbrev pub short_results : ShortTypes → List ValType
+short_results s = take s.results (drop s.params s.types)
+
+abbrev pub types_value : FuncTypes → FuncTypeValue
+types_value (Short s) = record { params = short_params s; results = short_results s }
+types_value (Long params results) = record { params = params.items; results = results.items }
+
 abbrev pub func_type_value : FuncType → FuncTypeValue
-func_type_value f = record { params = f.params.items; results = f.results.items }
+func_type_value f = types_value f.types
 
 -- references to functions of any type, and to values of the host: with null, or without
 

@@ -1,14 +1,16 @@
 //! The contents of sections.
 
-ghost use Rattle.std.specs.Prelude.{ℕ, List, map};
+ghost use Rattle.std.specs.Prelude.{◌≡◌, ◌≤◌, ℕ, List, Some, map, IfSome};
 ghost use Rattle.wc_read.specs.Reading.Reader.{Gives, GivesWithoutMemory, number_at, vector_at, Answers, AnswersWithoutMemory, read_all};
 ghost use Rattle.wc_read.specs.Types.{FuncTypeValue, func_type_value};
 ghost use Rattle.wc_read.specs.Reading.Contents.{func_type_at, size_prefixed_at};
+ghost use Rattle.wc_read.specs.Private.ShortTypes.{HasRead};
 
 use crate::codes::FUNC_TYPE;
 use crate::fault::ReadFault;
 use crate::reader::{Reader, Spelled};
-use crate::types::FuncType;
+use crate::short_types::{SHORT, ShortTypes};
+use crate::types::{FuncType, ValType};
 use std::alloc::Global;
 
 impl<'a> Reader<'a> {
@@ -21,8 +23,67 @@ impl<'a> Reader<'a> {
         self.bytes(size as usize)
     }
 
-    #[tactic(auto, unfolding(crate::specs::Reading::Contents::func_type_at))]
+    /// A function type. Most have few types.
     fn func_type(&mut self, alloc: Global) -> Result<FuncType, ReadFault>
+        ensures { Gives (λ f. func_type_value f) result self.new.rest.now
+            (func_type_at self.old.rest.now) }
+    {
+        let mut reader = Reader::new(self.rest);
+        match reader.short_func_type() {
+            Some(ty) => {
+                self.rest = reader.rest;
+                Ok(ty)
+            }
+            None => self.long_func_type(alloc),
+        }
+    }
+
+    /// A function type with few types, if one is next.
+    fn short_func_type(&mut self) -> Option<FuncType>
+        ensures { IfSome result (λ f. func_type_at self.old.rest.now
+            ≡ Some (func_type_value f, self.new.rest.now)) }
+    {
+        let (code, rest) = self.rest.split_first()?;
+        if *code != FUNC_TYPE {
+            return None;
+        }
+        self.rest = rest;
+        let mut types = [ValType::I32; SHORT];
+        let params = self.short_val_types(&mut types, 0)?;
+        let results = self.short_val_types(&mut types, params)?;
+        Some(FuncType::of_short(ShortTypes {
+            types,
+            params,
+            results,
+        }))
+    }
+
+    /// How many value types there are in a vector, which are put into the places from one on, if there is room.
+    fn short_val_types(&mut self, types: &mut [ValType; SHORT], from: usize) -> Option<usize>
+        requires { from ≤ 4 }
+        ensures { IfSome result (HasRead from self.old.rest.now self.new.rest.now
+            types.old types.new) }
+    {
+        let Ok(count) = self.u32() else {
+            return None;
+        };
+        let count = count as usize;
+        if count > SHORT - from {
+            return None;
+        }
+        for index in 0..count {
+            let Ok(ty) = self.val_type() else {
+                return None;
+            };
+            types[from + index] = ty;
+        }
+        Some(count)
+    }
+
+    /// A function type with any types.
+    #[inline(never)]
+    #[tactic(auto, unfolding(crate::specs::Reading::Contents::func_type_at))]
+    fn long_func_type(&mut self, alloc: Global) -> Result<FuncType, ReadFault>
         ensures { Gives (λ f. func_type_value f) result self.new.rest.now
             (func_type_at self.old.rest.now) }
     {

@@ -1,28 +1,33 @@
 //! What initialisers leave.
 
-ghost use Rattle.std.specs.Prelude.{◌≡◌, ◌⊎◌, ◌↔◌, ◌<◌, ◌-◌, ◌^◌, IfOk, IfErr, IsTrue};
+ghost use Rattle.std.specs.Prelude.{◌≡◌, ◌⊎◌, ◌↔◌, ◌<◌, ◌-◌, ◌^◌, Some, IfOk, IfErr, IsTrue};
 ghost use Rattle.wc_read.specs.Fault.{IfRefused};
 ghost use Rattle.wc_read.specs.Reading.Reader.{Gives};
 ghost use Rattle.wc_read.specs.Types.{has_type_index};
 ghost use Rattle.wc_read.specs.Items.{global_value, global_values};
 ghost use Rattle.wc_read.specs.Operators.{immediates_value, instr_value};
+ghost use Rattle.wc_read.specs.InitOperators.{index_instr};
 ghost use Rattle.wc_read.specs.InitTypes.{types_of, class_of, is_non_null, class_named, number_named, global_value_class, given_by, IsTyped, IsTypedGlobal, AreTyped};
 ghost use Rattle.wc_read.specs.Reading.InitTypes.{scope_value, is_same, next_depth, step_of, step_at};
 
 use crate::fault::ReadFault;
+use crate::init_operators::{InitIndex, init_index};
 use crate::inits::{Constant, ValueClass, constant_of, is_end};
 use crate::items::{self, Def};
-use crate::operators::{Immediates, Instr};
+use crate::operators::{Immediates, Instr, Opcode};
 use crate::reader::Reader;
 use crate::types::ValType;
 use std::alloc::Global;
 
-/// What an initialiser may name: so many types and functions, and the globals before its own.
+/// What an initialiser may name (WebAssembly core specification, 3.3.10).
 #[derive(Drop)]
-struct Scope<'a> {
-    types: usize,
-    functions: usize,
-    globals: &'a [items::Global<'a>],
+pub struct Scope<'a> {
+    /// How many types there are.
+    pub types: usize,
+    /// How many functions there are.
+    pub functions: usize,
+    /// The globals that it may name: of the initialiser of a global those before it, of that of a segment all.
+    pub globals: &'a [items::Global<'a>],
 }
 
 /// What an operator of an initialiser does.
@@ -106,18 +111,69 @@ fn is_typed(alloc: Global, scope: &Scope<'_>, global: &items::Global<'_>) -> Res
 {
     match global.def {
         Def::Import(_, _) => Ok(true),
-        Def::Local(init) => match leaves_one(alloc, scope, global.ty.content_type, init) {
-            Ok(typed) => Ok(typed),
-            Err(fault) => match fault {
-                ReadFault::Memory => Err(fault),
-                _ => Ok(false),
-            },
+        Def::Local(init) => is_typed_init(alloc, scope, global.ty.content_type, init),
+    }
+}
+
+/// Whether bytes are an initialiser that leaves one value of a type (WebAssembly core specification, 3.3.10), or of
+/// another type of the same class: all references to functions are one class, all references to values of the host
+/// another.
+///
+/// # Errors
+///
+/// `Memory`: an allocation failed.
+pub fn is_typed_init(
+    alloc: Global,
+    scope: &Scope<'_>,
+    ty: ValType,
+    init: &[u8],
+) -> Result<bool, ReadFault>
+    ensures found { IfOk result (λ b. IsTrue b ↔ IsTyped (scope_value scope.now) ty init.now) }
+    ensures refused { IfErr result (λ f. f ≡ ReadFault.Memory) }
+{
+    match leaves_one(alloc, scope, ty, init) {
+        Ok(typed) => Ok(typed),
+        Err(fault) => match fault {
+            ReadFault::Memory => Err(fault),
+            _ => Ok(false),
         },
     }
 }
 
-/// Whether an initialiser leaves one value of a type. There is a byte at least to each operator.
+/// Whether an initialiser leaves one value of a type. Most that name an item have one operator.
 fn leaves_one(alloc: Global, scope: &Scope<'_>, ty: ValType, init: &[u8]) -> Result<bool, ReadFault>
+    ensures found { IfOk result (λ b. IsTrue b ↔ IsTyped (scope_value scope.now) ty init.now) }
+    ensures refused { IfRefused result (¬ (IsTyped (scope_value scope.now) ty init.now)) }
+{
+    match init_index(init) {
+        Some(named) => Ok(is_one(scope, ty, named)),
+        None => leaves_one_of_any(alloc, scope, ty, init),
+    }
+}
+
+/// Whether an operator leaves one value of a type by itself.
+fn is_one(scope: &Scope<'_>, ty: ValType, named: InitIndex) -> bool
+    ensures { IsTrue result
+        ↔ (next_depth (scope_value scope.now) ty 0 (index_instr named) ≡ Some 1) }
+{
+    let operator = Instr {
+        opcode: Opcode::Byte(named.code),
+        immediates: Immediates::Index(named.index),
+    };
+    match next_depth(scope, ty, 0, &operator) {
+        Some(depth) => depth == 1,
+        None => false,
+    }
+}
+
+/// The same for initialisers of any operators. There is a byte at least to each operator.
+#[inline(never)]
+fn leaves_one_of_any(
+    alloc: Global,
+    scope: &Scope<'_>,
+    ty: ValType,
+    init: &[u8],
+) -> Result<bool, ReadFault>
     ensures found { IfOk result (λ b. IsTrue b ↔ IsTyped (scope_value scope.now) ty init.now) }
     ensures refused { IfRefused result (¬ (IsTyped (scope_value scope.now) ty init.now)) }
 {
@@ -133,9 +189,31 @@ fn leaves_one(alloc: Global, scope: &Scope<'_>, ty: ValType, init: &[u8]) -> Res
     Ok(false)
 }
 
-/// Goes past an operator.
+/// Goes past an operator. Most are of a frequent shape.
+#[inline(always)]
 #[tactic(auto, unfolding(crate::specs::Reading::InitTypes::step_at))]
 fn next_step(
+    reader: &mut Reader<'_>,
+    alloc: Global,
+    scope: &Scope<'_>,
+    ty: ValType,
+    depth: usize,
+) -> Result<InitStep, ReadFault>
+    requires { depth < 2 ^ 64 - 1 }
+    ensures { Gives (λ s. s) result reader.new.rest.now
+        (step_at (scope_value scope.now) ty depth reader.old.rest.now) }
+{
+    match reader.frequent() {
+        Ok(Some(operator)) => Ok(step_of(scope, ty, depth, &operator)),
+        Ok(None) => rarer_step(reader, alloc, scope, ty, depth),
+        Err(fault) => Err(fault),
+    }
+}
+
+/// The same for operators of all shapes.
+#[inline(never)]
+#[tactic(auto, unfolding(crate::specs::Reading::InitTypes::step_at))]
+fn rarer_step(
     reader: &mut Reader<'_>,
     alloc: Global,
     scope: &Scope<'_>,
@@ -150,6 +228,7 @@ fn next_step(
     Ok(step_of(scope, ty, depth, &operator))
 }
 
+#[inline(always)]
 fn step_of(scope: &Scope<'_>, ty: ValType, depth: usize, operator: &Instr<'_>) -> InitStep
     requires { depth < 2 ^ 64 - 1 }
     ensures { result ≡ step_of (scope_value scope.now) ty depth (instr_value operator.now) }
@@ -164,6 +243,7 @@ fn step_of(scope: &Scope<'_>, ty: ValType, depth: usize, operator: &Instr<'_>) -
 }
 
 /// How many values of a type there are after an operator.
+#[inline(always)]
 #[tactic(auto, unfolding(crate::specs::Reading::InitTypes::next_depth))]
 fn next_depth(scope: &Scope<'_>, ty: ValType, depth: usize, operator: &Instr<'_>) -> Option<usize>
     requires { depth < 2 ^ 64 - 1 }

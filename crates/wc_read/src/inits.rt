@@ -1,6 +1,6 @@
 //! Initialisers of globals.
 
-ghost use Rattle.std.specs.Prelude.{◌≡◌, ◌≢◌, IfOk, IfErr};
+ghost use Rattle.std.specs.Prelude.{◌≡◌, ◌≢◌, ◌||◌, Some, None, IfOk, IfErr, IfSome};
 ghost use Rattle.wc_read.specs.Fault.{IfRefused, SpellsNothing};
 ghost use Rattle.wc_read.specs.Reading.Reader.{Gives};
 ghost use Rattle.wc_read.specs.Operators.{instr_value, instr_values};
@@ -8,6 +8,7 @@ ghost use Rattle.wc_read.specs.Inits.{constant_byte, constant_of, is_constant, i
 ghost use Rattle.wc_read.specs.Reading.Inits.{is_end, init_instr_at, init_end_at, init_at, init_bytes_at};
 
 use crate::fault::ReadFault;
+use crate::init_operators::space_named;
 use crate::operators::{END, Instr, Opcode};
 use crate::reader::Reader;
 use crate::types::ValType;
@@ -77,8 +78,43 @@ pub fn read_init(alloc: Global, slice: &[u8]) -> Result<Init<'_>, ReadFault>
 }
 
 impl<'a> Reader<'a> {
-    /// The bytes of an initialiser.
+    /// The bytes of an initialiser. Most that name an item have one operator.
     pub fn init(&mut self, alloc: Global) -> Result<&'a [u8], ReadFault>
+        ensures { Gives (λ b. b.now) result self.new.rest.now (init_bytes_at self.old.rest.now) }
+    {
+        match self.one_index_init() {
+            Some(init) => Ok(init),
+            None => self.any_init(alloc),
+        }
+    }
+
+    /// The bytes of an initialiser of one operator that names an item, and the `end`; where another one is next, nothing
+    /// is read.
+    #[inline(always)]
+    fn one_index_init(&mut self) -> Option<&'a [u8]>
+        ensures read { IfSome result (λ b. init_bytes_at self.old.rest.now
+            ≡ Some (b.now, self.new.rest.now)) }
+        ensures unread { result ≡ None → self.new.rest.now ≡ self.old.rest.now }
+    {
+        let input = self.rest;
+        let (first, rest) = input.split_first()?;
+        space_named(*first)?;
+        let mut reader = Reader::new(rest);
+        let Ok(_) = reader.u32() else {
+            return None;
+        };
+        let (last, after) = reader.rest.split_first()?;
+        if *last != END {
+            return None;
+        }
+        let (init, _) = input.split_at(input.len() - after.len());
+        self.rest = after;
+        Some(init)
+    }
+
+    /// The bytes of an initialiser of any operators.
+    #[inline(never)]
+    fn any_init(&mut self, alloc: Global) -> Result<&'a [u8], ReadFault>
         ensures { Gives (λ b. b.now) result self.new.rest.now (init_bytes_at self.old.rest.now) }
     {
         let input = self.rest;
@@ -115,13 +151,35 @@ impl<'a> Reader<'a> {
         }
     }
 
+    /// An operator of an initialiser. Most are of a frequent shape.
+    #[inline(always)]
     #[tactic(auto, unfolding(crate::specs::Reading::Inits::init_instr_at))]
-    fn init_operator(&mut self, alloc: Global) -> Result<Instr<'a>, ReadFault>
+    pub fn init_operator(&mut self, alloc: Global) -> Result<Instr<'a>, ReadFault>
+        ensures { Gives (λ i. instr_value i) result self.new.rest.now
+            (init_instr_at self.old.rest.now) }
+    {
+        match self.frequent() {
+            Ok(Some(operator)) => {
+                if is_init_opcode(operator.opcode) {
+                    Ok(operator)
+                } else {
+                    Err(ReadFault::BadInitialiser)
+                }
+            }
+            Ok(None) => self.rarer_init_operator(alloc),
+            Err(fault) => Err(fault),
+        }
+    }
+
+    /// The same for operators of all shapes.
+    #[inline(never)]
+    #[tactic(auto, unfolding(crate::specs::Reading::Inits::init_instr_at))]
+    fn rarer_init_operator(&mut self, alloc: Global) -> Result<Instr<'a>, ReadFault>
         ensures { Gives (λ i. instr_value i) result self.new.rest.now
             (init_instr_at self.old.rest.now) }
     {
         let operator = self.operator(alloc)?;
-        if is_end(operator.opcode) || is_constant(operator.opcode) {
+        if is_init_opcode(operator.opcode) {
             Ok(operator)
         } else {
             Err(ReadFault::BadInitialiser)
@@ -129,12 +187,22 @@ impl<'a> Reader<'a> {
     }
 }
 
+/// Whether an operator may stand in an initialiser: it is constant, or the end.
+#[inline(always)]
+fn is_init_opcode(opcode: Opcode) -> bool
+    ensures { result ≡ (is_end opcode || is_constant opcode) }
+{
+    is_end(opcode) || is_constant(opcode)
+}
+
+#[inline(always)]
 pub fn is_end(opcode: Opcode) -> bool
     ensures { result ≡ is_end opcode }
 {
     matches!(opcode, Opcode::Byte(END))
 }
 
+#[inline(always)]
 fn is_constant(opcode: Opcode) -> bool
     ensures { result ≡ is_constant opcode }
 {
@@ -142,6 +210,7 @@ fn is_constant(opcode: Opcode) -> bool
 }
 
 /// The constant operators (3.3.10).
+#[inline(always)]
 pub fn constant_of(opcode: Opcode) -> Option<Constant>
     ensures { result ≡ constant_of opcode }
 {
@@ -153,6 +222,7 @@ pub fn constant_of(opcode: Opcode) -> Option<Constant>
     }
 }
 
+#[inline(always)]
 #[tactic(auto, unfolding(crate::specs::Inits::constant_byte))]
 fn constant_byte(code: u8) -> Option<Constant>
     ensures { result ≡ constant_byte code }

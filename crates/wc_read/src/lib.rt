@@ -47,6 +47,7 @@ mod fault;
 mod framing;
 mod globals;
 mod imports;
+mod init_operators;
 mod init_types;
 mod inits;
 mod instructions;
@@ -67,6 +68,7 @@ mod reader;
 mod references;
 mod section_contents;
 mod sections;
+mod short_types;
 mod signed;
 mod spaces;
 mod stops;
@@ -81,6 +83,8 @@ pub use exports::{Export, ExportKind};
 pub use fault::ReadFault;
 pub use framing::frames;
 pub use imports::read_imports;
+pub use init_operators::{InitIndex, InitOperators, init_index, is_init};
+pub use init_types::{Scope, has_type_index, is_typed_init};
 pub use inits::{Init, read_init};
 pub use items::{Def, Func, Global, Item, Memory, Table};
 pub use modules::read_module;
@@ -88,7 +92,12 @@ pub use names::function_names;
 pub use operators::{
     BlockType, Form, Immediates, Index, IndexKind, Instr, MemArg, Opcode, Refs, Space, form_of,
 };
+pub use order::section_content;
 pub use place::{ReadPlace, imports_place, read_module_explained};
+pub use reader::{Reader, Spelled};
 pub use references::{names_segment, refs};
+pub use section_contents::section_items;
 pub use sections::{Frames, MODULE_HEADER, Section};
-pub use types::{FuncType, GlobalType, Import, ImportType, MemoryType, TableType, ValType};
+pub use types::{
+    FuncType, GlobalType, Import, ImportType, MemoryType, TableType, ValType, is_reference,
+};

@@ -59,8 +59,8 @@ fn section_position(id: u8) -> u8
     }
 }
 
-/// The content of the first section with an id.
-pub fn content<'a>(sections: &[Section<'a>], id: u8) -> Option<&'a [u8]>
+/// The content of the first section with an id; `None` where there is no such section.
+pub fn section_content<'a>(sections: &[Section<'a>], id: u8) -> Option<&'a [u8]>
     ensures { option_map (λ b. b.now) result ≡ content_of id (section_values sections.now) }
 {
     for section in sections {

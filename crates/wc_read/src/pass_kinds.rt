@@ -25,6 +25,8 @@ pub enum PassKind {
     MemArg,
     /// A memory.
     Memory,
+    /// Labels, and one label after them.
+    Labels,
     /// It opens a block in which no `else` may occur: `block` and `loop`.
     Block,
     /// It opens a block in which one may: `if`.
@@ -58,7 +60,7 @@ static PASS_KINDS: [PassKind; 256] = [
     PassKind::End,
     PassKind::Index,
     PassKind::Index,
-    PassKind::Never,
+    PassKind::Labels,
     PassKind::CodeOnly,
     // 10
     PassKind::Never,

@@ -9,7 +9,9 @@ use crate::blocks::Blocks;
 use crate::codes::{EMPTY_BLOCK, MORE_BYTES};
 use crate::operators::END;
 use crate::pass_kinds::{PassKind, pass_kind, short_size};
-use crate::text_sizes::{bytes_size, mem_arg_size, memory_index_size, number_size, signed_size};
+use crate::text_sizes::{
+    bytes_size, labels_size, mem_arg_size, memory_index_size, number_size, signed_size,
+};
 
 /// Goes past operators, as far as it can, and answers the bytes that are left. Operators that name memory 0 are passed
 /// over where `memory` is true. A body's last `end` by itself is passed here.
@@ -82,6 +84,7 @@ fn pass_next(blocks: &mut Blocks, input: &[u8], memory: bool) -> Option<usize>
         PassKind::EightBytes => Some(1 + bytes_size(rest, 8)?),
         PassKind::MemArg => Some(1 + mem_arg_size(rest, memory)?),
         PassKind::Memory => Some(1 + memory_index_size(rest, memory)?),
+        PassKind::Labels => Some(1 + labels_size(rest)?),
         PassKind::Block | PassKind::If | PassKind::Else | PassKind::End => {
             pass_nesting_run(blocks, input)
         }

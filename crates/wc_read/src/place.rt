@@ -7,6 +7,10 @@ ghost use Rattle.wc_read.specs.Place.{IsPlaced, IsPlaceIn, IsRefusedWith, sectio
 ghost use Rattle.wc_read.specs.Private.Places.{IsLastRead};
 ghost use Rattle.wc_read.specs.Sections.{IsComponent, module_header, section_value};
 
+use crate::codes::{
+    CODE_ID, CUSTOM_ID, DATA_COUNT_ID, DATA_ID, ELEMENT_ID, EXPORT_ID, FUNCTION_ID, GLOBAL_ID,
+    IMPORT_ID, MEMORY_ID, START_ID, TABLE_ID, TYPE_ID,
+};
 use crate::core_module::Module;
 use crate::fault::ReadFault;
 use crate::modules::read_module;
@@ -51,19 +55,19 @@ fn section_name(id: u8) -> &'static str
     ensures { result.now ≡ section_name id }
 {
     match id {
-        0 => "custom",
-        1 => "type",
-        2 => "import",
-        3 => "function",
-        4 => "table",
-        5 => "memory",
-        6 => "global",
-        7 => "export",
-        8 => "start",
-        9 => "element",
-        10 => "code",
-        11 => "data",
-        12 => "data count",
+        CUSTOM_ID => "custom",
+        TYPE_ID => "type",
+        IMPORT_ID => "import",
+        FUNCTION_ID => "function",
+        TABLE_ID => "table",
+        MEMORY_ID => "memory",
+        GLOBAL_ID => "global",
+        EXPORT_ID => "export",
+        START_ID => "start",
+        ELEMENT_ID => "element",
+        CODE_ID => "code",
+        DATA_ID => "data",
+        DATA_COUNT_ID => "data count",
         _ => "unknown",
     }
 }

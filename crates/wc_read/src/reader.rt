@@ -172,6 +172,7 @@ impl<'a> Reader<'a> {
         Ok(number as u32)
     }
 
+    #[inline(always)]
     #[tactic(auto, using(crate::proofs::TextLemmas::text), unfolding(crate::specs::Reading::Reader::name_at))]
     pub fn name(&mut self) -> Result<&'a str, ReadFault>
         ensures { GivesWithoutMemory (λ x. x.now) result self.new.rest.now

@@ -12,7 +12,7 @@ use crate::contents::{items, start};
 use crate::exports::Export;
 use crate::fault::ReadFault;
 use crate::globals::LocalGlobal;
-use crate::order::content;
+use crate::order::section_content;
 use crate::reader::Spelled;
 use crate::sections::Section;
 use crate::types::{FuncType, Import, MemoryType, TableType};
@@ -42,15 +42,15 @@ pub fn read_section_contents<'a>(
     ensures { Answers (λ p. section_contents_value p) result
         (section_contents_in (section_values sections.now)) }
 {
-    let types = section::<FuncType>(alloc, sections, TYPE_ID)?;
-    let imports = section::<Import>(alloc, sections, IMPORT_ID)?;
-    let func_types = section::<u32>(alloc, sections, FUNCTION_ID)?;
-    let tables = section::<TableType>(alloc, sections, TABLE_ID)?;
-    let memories = section::<MemoryType>(alloc, sections, MEMORY_ID)?;
-    let globals = section::<LocalGlobal>(alloc, sections, GLOBAL_ID)?;
-    let exports = section::<Export>(alloc, sections, EXPORT_ID)?;
+    let types = section_items::<FuncType>(alloc, sections, TYPE_ID)?;
+    let imports = section_items::<Import>(alloc, sections, IMPORT_ID)?;
+    let func_types = section_items::<u32>(alloc, sections, FUNCTION_ID)?;
+    let tables = section_items::<TableType>(alloc, sections, TABLE_ID)?;
+    let memories = section_items::<MemoryType>(alloc, sections, MEMORY_ID)?;
+    let globals = section_items::<LocalGlobal>(alloc, sections, GLOBAL_ID)?;
+    let exports = section_items::<Export>(alloc, sections, EXPORT_ID)?;
     let start = start_section(sections)?;
-    let bodies = section::<&[u8]>(alloc, sections, CODE_ID)?;
+    let bodies = section_items::<&[u8]>(alloc, sections, CODE_ID)?;
     Ok(SectionContents {
         types,
         imports,
@@ -64,9 +64,17 @@ pub fn read_section_contents<'a>(
     })
 }
 
-/// The items of the section with an id.
+/// The items of the section with an id, which is a vector of them up to its end (WebAssembly core specification, 5.5.2);
+/// none where there is no such section.
+///
+/// # Errors
+///
+/// - `SectionSize`: bytes follow the last item.
+/// - `Truncated`, `BadNumber`: the content ends before the last item, or its count is no u32 in LEB128.
+/// - The faults of an item.
+/// - `Memory`: an allocation failed.
 #[tactic(auto, unfolding(crate::specs::Reading::Contents::items_in))]
-fn section<'a, T: Spelled<'a> + Drop>(
+pub fn section_items<'a, T: Spelled<'a> + Drop>(
     alloc: Global,
     sections: &[Section<'a>],
     id: u8,
@@ -74,7 +82,7 @@ fn section<'a, T: Spelled<'a> + Drop>(
     ensures { Answers (λ v. map T.view v.items) result
         (items_in id T.read (section_values sections.now)) }
 {
-    match content(sections, id) {
+    match section_content(sections, id) {
         Some(content) => items::<T>(alloc, content),
         None => Ok(Vec::new(alloc)),
     }
@@ -86,7 +94,7 @@ fn start_section(sections: &[Section]) -> Result<Option<u32>, ReadFault>
     ensures { AnswersWithoutMemory (λ n. n) result
         (content_in start_id (number_at 32) (section_values sections.now)) }
 {
-    match content(sections, START_ID) {
+    match section_content(sections, START_ID) {
         Some(content) => Ok(Some(start(content)?)),
         None => Ok(None),
     }

@@ -1,10 +1,10 @@
 //! How many bytes numbers and other immediates have, where these bytes are their text: where no fewer spell them.
 
-ghost use Rattle.std.specs.Prelude.{◌≡◌, ◌<◌, ◌≤◌, true, false, All};
+ghost use Rattle.std.specs.Prelude.{◌≡◌, ◌<◌, ◌≤◌, true, false, All, IfSome};
 ghost use Rattle.wc_read.specs.Reading.Reader.{number_at, bytes_at};
 ghost use Rattle.wc_read.specs.Reading.Signed.{signed_at};
 ghost use Rattle.wc_read.specs.Text.{number_text, signed_text};
-ghost use Rattle.wc_read.specs.Private.TextSizes.{SizesText, SizesMemArg, SizesMemoryIndex, IsLonger, IsShortest, IsShortestSigned, without_sign};
+ghost use Rattle.wc_read.specs.Private.TextSizes.{SizesText, SizesMemArg, SizesMemoryIndex, SizesLabels, AreNumbers, IsLonger, IsShortest, IsShortestSigned, without_sign};
 
 use crate::codes::{GROUP_BITS, MORE_BYTES};
 use crate::reader::Reader;
@@ -149,6 +149,35 @@ pub fn memory_index_size(input: &[u8], memory: bool) -> Option<usize>
 {
     let (first, _) = input.split_first()?;
     if memory && *first == 0 { Some(1) } else { None }
+}
+
+/// How many bytes the labels of a `br_table` have, the one for all other numbers among them, where no fewer spell them.
+#[inline(never)]
+pub fn labels_size(input: &[u8]) -> Option<usize>
+    ensures { SizesLabels input.now result }
+{
+    number_size(input, 32)?;
+    let mut reader = Reader::new(input);
+    let Ok(count) = reader.u32() else {
+        return None;
+    };
+    let last = after_labels(reader.rest, count)?;
+    let size = number_size(last, 32)?;
+    Some(input.len() - last.len() + size)
+}
+
+/// The bytes after so many labels, where no fewer spell these.
+#[inline(always)]
+fn after_labels(input: &[u8], count: u32) -> Option<&[u8]>
+    ensures { IfSome result (λ left. AreNumbers count input.now left.now) }
+{
+    let mut rest = input;
+    for _ in 0..count {
+        let size = number_size(rest, 32)?;
+        let (_, left) = rest.split_at(size);
+        rest = left;
+    }
+    Some(rest)
 }
 
 /// The bytes of a slice are below 256. A call does nothing when it runs.

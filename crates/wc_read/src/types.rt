@@ -11,6 +11,7 @@ ghost use Rattle.wc_read.specs.declared.types.ValType.{ValType as val_type};
 use crate::codes::{NON_NULLABLE, NULLABLE};
 use crate::fault::ReadFault;
 use crate::reader::{Reader, Spelled};
+use crate::short_types::ShortTypes;
 use std::alloc::{AllocError, Global};
 
 /// A value type (2.3.1 to 2.3.4, and the proposal of typed function references): a number of 32 or 64 bits, a
@@ -119,8 +120,18 @@ pub struct Import<'a> {
 /// A function type (2.3.6): a function's parameters and results.
 #[derive(Debug, PartialEq, Eq, Drop)]
 pub struct FuncType {
-    params: Vec<ValType>,
-    results: Vec<ValType>,
+    types: FuncTypes,
+}
+
+/// The types of parameters and results. Most are few, which take no memory of their own.
+#[derive(Debug, PartialEq, Eq, Drop)]
+enum FuncTypes {
+    Short(ShortTypes),
+    /// More than `Short` holds.
+    Long {
+        params: Vec<ValType>,
+        results: Vec<ValType>,
+    },
 }
 
 impl FuncType {
@@ -132,21 +143,41 @@ impl FuncType {
         ensures params { (func_type_value result).params ≡ params.items }
         ensures results { (func_type_value result).results ≡ results.items }
     {
-        Self { params, results }
+        match ShortTypes::of(&params, &results) {
+            Some(types) => FuncType::of_short(types),
+            None => FuncType {
+                types: FuncTypes::Long { params, results },
+            },
+        }
+    }
+
+    /// The type of functions with few parameters and results.
+    pub(crate) fn of_short(types: ShortTypes) -> FuncType
+        ensures { result.types ≡ FuncTypes.Short types }
+    {
+        FuncType {
+            types: FuncTypes::Short(types),
+        }
     }
 
     /// The types of the parameters, in order (2.3.6).
     pub fn params(&self) -> &[ValType]
         ensures { result.now ≡ (func_type_value self.now).params }
     {
-        self.params.as_slice()
+        match &self.types {
+            FuncTypes::Short(types) => types.params(),
+            FuncTypes::Long { params, .. } => params.as_slice(),
+        }
     }
 
     /// The types of the results, in order (2.3.6).
     pub fn results(&self) -> &[ValType]
         ensures { result.now ≡ (func_type_value self.now).results }
     {
-        self.results.as_slice()
+        match &self.types {
+            FuncTypes::Short(types) => types.results(),
+            FuncTypes::Long { results, .. } => results.as_slice(),
+        }
     }
 
     /// The same function type in new memory.
@@ -157,9 +188,16 @@ impl FuncType {
     pub fn clone(&self, alloc: Global) -> Result<FuncType, AllocError>
         ensures { IfOk result (λ f. func_type_value f ≡ func_type_value self.now) }
     {
-        let params = Vec::from_slice(alloc, &self.params)?;
-        let results = Vec::from_slice(alloc, &self.results)?;
-        Ok(FuncType { params, results })
+        match &self.types {
+            FuncTypes::Short(types) => Ok(FuncType::of_short(*types)),
+            FuncTypes::Long { params, results } => {
+                let params = Vec::from_slice(alloc, params)?;
+                let results = Vec::from_slice(alloc, results)?;
+                Ok(FuncType {
+                    types: FuncTypes::Long { params, results },
+                })
+            }
+        }
     }
 }
 

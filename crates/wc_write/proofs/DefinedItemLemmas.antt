@@ -5,21 +5,18 @@ use Rattle.std.proofs.lemmas.List.{length-map}
 use Rattle.std.proofs.lemmas.List.Folds.{flat_map-map}
 use Rattle.wc_read.specs.Imports.{ImportValue, import_value}
 use Rattle.wc_read.specs.Items.{item_value}
-use Rattle.wc_read.specs.Operators.{instr_value}
+use Rattle.wc_read.specs.Operators.{InstrValue, instr_value}
 use Rattle.wc_read.specs.Bodies.{BodyValue}
-use Rattle.wc_read.specs.Inits.{init_value}
-use Rattle.wc_read.specs.declared.inits.Init.{Init}
-use Rattle.wc_read.specs.declared.types.GlobalType.{GlobalType}
+use Rattle.wc_read.specs.declared.operators.Instr.{Instr}
 use Rattle.wc_read.specs.declared.types.Import.{Import}
 use Rattle.wc_read.specs.declared.types.ImportType.{ImportType}
 use Rattle.wc_read.specs.declared.types.ImportType.TheVariants.{Func, Table, Memory, Global}
 use Rattle.wc_read.specs.declared.items.Def.{Def}
 use Rattle.wc_read.specs.declared.items.Def.TheVariants.{Import as imported_def, Local as local_def}
 use Rattle.wc_read.specs.declared.items.Item.{Item}
-use Rattle.wc_write.specs.Text.{global_text}
 use Rattle.wc_write.specs.Operators.{instr_text}
 use Rattle.wc_write.specs.Spaces.{imports_of, DefinedValue, defined, defined_types, defined_contents, defined_value}
-use Rattle.wc_write.specs.Modules.{built_value_by, built_imports, defined_global_text, items_content}
+use Rattle.wc_write.specs.Modules.{built_value_by, built_imports, items_content, operators_text}
 use Rattle.wc_write.specs.declared.modules.Built.{Built}
 use Rattle.wc_write.specs.declared.spaces.Defined.{Defined}
 
@@ -34,9 +31,9 @@ imports_seen kind view [] = refl
 imports_seen kind view (i ∷ items) = import_seen kind view i items (imports_seen kind view items) i.def refl
 
 -- the imports of a module, group by group
-pub imports_grouped : {C : Type 0} (view : C → BodyValue) (b : Built C) (one two three four : List Import) → map import_value one ≡ [] ++ imports_of Memory (map (item_value (λ x. x)) b.memories.items) → map import_value two ≡ map import_value one ++ imports_of Table (map (item_value (λ x. x)) b.tables.items) → map import_value three ≡ map import_value two ++ imports_of Global (map (item_value (λ x. x)) b.globals.items) → map import_value four ≡ map import_value three ++ imports_of Func (map (item_value (λ x. x)) b.funcs.items) → map import_value four ≡ built_imports (built_value_by view b)
-imports_grouped view b one two three four e f g h =
-    rw (h, g, f, e, append_assoc, append_assoc, imports_seen Memory (λ _. tt {0}) b.memories.items, imports_seen Table (λ _. tt {0}) b.tables.items, imports_seen Global init_value b.globals.items, imports_seen Func view b.funcs.items) refl
+pub imports_grouped : {C I : Type 0} (view : C → BodyValue) (init : I → List InstrValue) (b : Built C I) (one two three four : List Import) → map import_value one ≡ [] ++ imports_of Memory (map (item_value (λ x. x)) b.memories.items) → map import_value two ≡ map import_value one ++ imports_of Table (map (item_value (λ x. x)) b.tables.items) → map import_value three ≡ map import_value two ++ imports_of Global (map (item_value (λ x. x)) b.globals.items) → map import_value four ≡ map import_value three ++ imports_of Func (map (item_value (λ x. x)) b.funcs.items) → map import_value four ≡ built_imports (built_value_by view init b)
+imports_grouped view init b one two three four e f g h =
+    rw (h, g, f, e, append_assoc, append_assoc, imports_seen Memory (λ _. tt {0}) b.memories.items, imports_seen Table (λ _. tt {0}) b.tables.items, imports_seen Global init b.globals.items, imports_seen Func view b.funcs.items) refl
 
 -- the defined items
 
@@ -76,5 +73,5 @@ pub content_contents : {T C D : Type 0} (text : D → List ℕ) (view : C → D)
 content_contents {T} {C} {D} text view os items e =
     content_defined (λ (o : DefinedValue T D). text o.content) view os items e ∙ content_seen text (λ (o : DefinedValue T D). o.content) (defined (map (item_value view) items))
 
-pub global_written : (old : List ℕ) (g : Defined GlobalType Init) → (old ++ global_text g.ty) ++ flat_map (λ i. instr_text (instr_value i)) g.content.now.operators.items ≡ old ++ defined_global_text (defined_value init_value g)
-global_written old g = append_assoc old _ _ ∙ rw (← flat_map-map instr_text instr_value g.content.now.operators.items) refl
+pub init_texts : (is : List Instr) → flat_map (λ i. instr_text (instr_value i)) is ≡ operators_text (map instr_value is)
+init_texts is = sym (flat_map-map instr_text instr_value is)

@@ -14,12 +14,13 @@ use Rattle.wc_read.specs.Producers.{producers_text}
 use Rattle.wc_read.specs.Contents.{func_type_code}
 use Rattle.wc_read.specs.Sections.{module_header, custom_id, type_id, import_id, function_id, table_id, memory_id, global_id, export_id, start_id, code_id}
 use Rattle.wc_read.specs.declared.bodies.Body.{Body}
+use Rattle.wc_read.specs.declared.inits.Init.{Init}
 use Rattle.wc_read.specs.declared.types.GlobalType.{GlobalType}
 use Rattle.wc_read.specs.declared.types.ImportType.TheVariants.{Func, Table, Memory, Global}
 use Rattle.wc_write.specs.Text.{number_text, vector_text, name_text, val_type_text, table_text, memory_text, global_text, import_text, FitsSize, section_text}
 use Rattle.wc_write.specs.Operators.{instr_text}
 use Rattle.wc_write.specs.Bodies.{body_text}
-use Rattle.wc_write.specs.Spaces.{imports_of, DefinedValue, defined, defined_types, defined_contents}
+use Rattle.wc_write.specs.Spaces.{imports_of, DefinedValue, defined, defined_types, defined_contents, defined_value}
 use Rattle.wc_write.specs.declared.fault.WriteFault.{WriteFault}
 use Rattle.wc_write.specs.declared.fault.WriteFault.TheVariants.{TooLarge}
 use Rattle.wc_write.specs.declared.modules.Built.{Built}
@@ -36,21 +37,21 @@ pub record BuiltValue : Type 0 where
   pub start : Option ℕ
   pub producers : Option (List ℕ)
 
--- bodies are seen by view
-abbrev pub built_value_by : {C : Type 0} → (C → BodyValue) → Built C → BuiltValue
-built_value_by view b = record {
+-- bodies and initialisers are seen by views
+abbrev pub built_value_by : {C I : Type 0} → (C → BodyValue) → (I → List InstrValue) → Built C I → BuiltValue
+built_value_by view init b = record {
   types = map func_type_value b.types.items;
   funcs = map (item_value view) b.funcs.items;
   tables = map table_value b.tables.items;
   memories = map memory_value b.memories.items;
-  globals = map (item_value init_value) b.globals.items;
+  globals = map (item_value init) b.globals.items;
   exports = map export_value b.exports.items;
   start = b.start;
   producers = option_map (λ b. b.now) b.producers;
 }
 
-abbrev pub built_value : Built Body → BuiltValue
-built_value b = built_value_by body_value b
+abbrev pub built_value : Built Body Init → BuiltValue
+built_value b = built_value_by body_value init_value b
 
 -- the imports of a built module: memories, tables, globals and functions, each group in the order of its index space
 abbrev pub built_imports : BuiltValue → List ImportValue
@@ -75,6 +76,10 @@ operators_text operators = flat_map instr_text operators
 -- a defined global (5.5.9): its type, and its initialiser
 abbrev pub defined_global_text : DefinedValue GlobalType (List InstrValue) → List ℕ
 defined_global_text g = global_text g.ty ++ operators_text g.content
+
+-- that of a global by a view of its content
+abbrev pub global_text_of : {I : Type 0} → (I → List InstrValue) → Defined GlobalType I → List ℕ
+global_text_of init g = defined_global_text (defined_value init g)
 
 -- a function's code (5.5.13): its body's size, its body
 abbrev pub code_text : BodyValue → List ℕ

@@ -2,7 +2,7 @@
 
 ghost use Rattle.std.specs.Prelude.{◌≡◌, ◌++◌, IfOk, OnOk, IsOk, IsErrOf};
 ghost use Rattle.wc_read.specs.Bodies.{BodyValue, body_value};
-ghost use Rattle.wc_read.specs.Operators.{instr_value};
+ghost use Rattle.wc_read.specs.Operators.{WithIndex, instr_value};
 ghost use Rattle.wc_write.specs.Text.{FitsSize, ExceedsSize, vector_text};
 ghost use Rattle.wc_write.specs.Operators.{instr_text};
 ghost use Rattle.wc_write.specs.Bodies.{locals_text, body_text};
@@ -12,7 +12,7 @@ use crate::numbers::put_number;
 use crate::types::put_val_type;
 use crate::vectors::{Written, put_all, put_vector};
 use std::alloc::{AllocError, Global};
-use wc_read::{Body, Instr, Locals};
+use wc_read::{Body, Immediates, Index, Instr, Locals, Opcode};
 
 impl Written for Locals {
     ghost text = { locals_text };
@@ -75,6 +75,36 @@ pub fn append_operator(out: &mut Vec<u8>, operator: &Instr<'_>) -> Result<(), Al
         ≡ out.old.items ++ instr_text (instr_value operator.now)) }
 {
     operator.put(out)
+}
+
+/// Appends an operator that has one index and no other immediates (5.4), as `append_operator` does.
+///
+/// # Errors
+///
+/// `AllocError`: an allocation failed.
+#[inline(always)]
+#[tactic(auto, unfolding(crate::specs::Operators::instr_text, crate::specs::Operators::immediates_text))]
+pub fn append_index_operator(
+    out: &mut Vec<u8>,
+    opcode: Opcode,
+    index: Index,
+) -> Result<(), AllocError>
+    ensures { OnOk result (out.new.items ≡ out.old.items
+        ++ instr_text (record { opcode = opcode; immediates = WithIndex index })) }
+{
+    match opcode {
+        Opcode::Byte(code) => {
+            out.push(code)?;
+            put_number(out, u64::from(index.number))
+        }
+        _ => append_operator(
+            out,
+            &Instr {
+                opcode,
+                immediates: Immediates::Index(index),
+            },
+        ),
+    }
 }
 
 /// A function's body without its size (WebAssembly core specification, 5.4 and 5.5.13): its runs of locals unchanged,

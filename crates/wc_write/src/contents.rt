@@ -3,18 +3,16 @@
 ghost use Rattle.std.specs.Prelude.{◌≡◌};
 ghost use Rattle.wc_read.specs.Types.{func_type_value};
 ghost use Rattle.wc_read.specs.Exports.{export_value, export_kind_code};
-ghost use Rattle.wc_read.specs.Inits.{init_value};
 ghost use Rattle.wc_write.specs.Text.{table_text, memory_text};
-ghost use Rattle.wc_write.specs.Modules.{func_type_text, export_text, defined_global_text};
-ghost use Rattle.wc_write.specs.Spaces.{defined_value};
+ghost use Rattle.wc_write.specs.Modules.{func_type_text, export_text};
 
 use crate::numbers::{put_name, put_number};
 use crate::spaces::Defined;
-use crate::types::{put_global, put_memory, put_table};
-use crate::vectors::{Written, put_all, put_vector};
+use crate::types::{put_memory, put_table};
+use crate::vectors::{Written, put_vector};
 use std::alloc::AllocError;
 use wc_read::codes::FUNC_TYPE;
-use wc_read::{Export, ExportKind, FuncType, GlobalType, Init, MemoryType, TableType};
+use wc_read::{Export, ExportKind, FuncType, MemoryType, TableType};
 
 impl Written for FuncType {
     ghost text = { λ f. func_type_text (func_type_value f) };
@@ -39,16 +37,6 @@ impl<'b> Written for Defined<'b, MemoryType, ()> {
 
     fn put(&self, out: &mut Vec<u8>) -> Result<(), AllocError> {
         put_memory(out, &self.ty)
-    }
-}
-
-impl<'a, 'b> Written for Defined<'b, GlobalType, Init<'a>> {
-    ghost text = { λ g. defined_global_text (defined_value init_value g) };
-
-    fn put(&self, out: &mut Vec<u8>) -> Result<(), AllocError> {
-        put_global(out, &self.ty)?;
-        put_all(out, &self.content.operators)?;
-        Ok(())
     }
 }
 

@@ -7,23 +7,24 @@ ghost use Rattle.std.specs.Option.{option_map};
 ghost use Rattle.wc_read.specs.Types.{func_type_value};
 ghost use Rattle.wc_read.specs.Imports.{import_values};
 ghost use Rattle.wc_read.specs.Exports.{export_value};
-ghost use Rattle.wc_read.specs.Inits.{init_value};
 ghost use Rattle.wc_read.specs.Items.{item_value, table_value, memory_value};
-ghost use Rattle.wc_write.specs.Modules.{built_value_by, built_imports, code_text, code_text_of, items_content, type_section, import_section, func_section, table_section, memory_section, global_section, export_section, start_section, code_section, producers_section, AppendsSection, AppendsContent};
+ghost use Rattle.wc_write.specs.Modules.{built_value_by, built_imports, code_text, code_text_of, global_text_of, items_content, type_section, import_section, func_section, table_section, memory_section, global_section, export_section, start_section, code_section, producers_section, AppendsSection, AppendsContent};
 
 use crate::bodies::BodyText;
 use crate::fault::WriteFault;
+use crate::inits::InitText;
 use crate::modules::Built;
 use crate::numbers::{put_name, put_number};
 use crate::sections::append_raw_section;
 use crate::spaces::{Defined, defined_items, push_imports};
+use crate::types::put_global;
 use crate::vectors::{Written, put_vector};
 use std::alloc::{AllocError, Global};
 use wc_read::codes::{
     CODE_ID, CUSTOM_ID, EXPORT_ID, FUNCTION_ID, GLOBAL_ID, IMPORT_ID, MEMORY_ID, PRODUCERS,
     START_ID, TABLE_ID, TYPE_ID,
 };
-use wc_read::{Export, FuncType, GlobalType, Import, Init, Item, Memory, Table};
+use wc_read::{Export, FuncType, GlobalType, Import, Item, Memory, Table};
 
 /// A size below it has one byte.
 const ONE_BYTE: usize = 128;
@@ -66,25 +67,25 @@ pub(crate) fn append_types(
 }
 
 /// Appends the section of imports, where there are any.
-pub(crate) fn append_imports<C: BodyText>(
+pub(crate) fn append_imports<C: BodyText, I: InitText>(
     out: &mut Vec<u8>,
     content: &mut Vec<u8>,
-    built: &Built<'_, C>,
+    built: &Built<'_, C, I>,
 ) -> Result<(), WriteFault>
     ensures { AppendsSection result out.old.items out.new.items
-        (import_section (built_imports (built_value_by C.body built.now))) }
+        (import_section (built_imports (built_value_by C.body I.init built.now))) }
 {
     let imports = imports(*out.allocator(), built)?;
     append_items(out, content, IMPORT_ID, &imports)
 }
 
 /// The imports of a module: memories, tables, globals and functions, each in the order of its index space.
-fn imports<'a, C: BodyText>(
+fn imports<'a, C: BodyText, I: InitText>(
     alloc: Global,
-    built: &Built<'a, C>,
+    built: &Built<'a, C, I>,
 ) -> Result<Vec<Import<'a>>, AllocError>
     ensures { IfOk result (λ v. import_values v.items
-        ≡ built_imports (built_value_by C.body built.now)) }
+        ≡ built_imports (built_value_by C.body I.init built.now)) }
 {
     let mut imports = Vec::new(alloc);
     push_imports(&mut imports, &built.memories)?;
@@ -147,16 +148,58 @@ pub(crate) fn append_memories(
 }
 
 /// Appends the section of defined globals, where there are any.
-pub(crate) fn append_globals(
+pub(crate) fn append_globals<I: InitText>(
     out: &mut Vec<u8>,
     content: &mut Vec<u8>,
-    globals: &[Item<'_, GlobalType, Init<'_>>],
+    globals: &[Item<'_, GlobalType, I>],
 ) -> Result<(), WriteFault>
     ensures { AppendsSection result out.old.items out.new.items
-        (global_section (map (item_value init_value) globals.now)) }
+        (global_section (map (item_value I.init) globals.now)) }
 {
     let globals = defined_items(*out.allocator(), globals)?;
-    append_items(out, content, GLOBAL_ID, &globals)
+    append_defined_globals(out, content, &globals)
+}
+
+fn append_defined_globals<I: InitText>(
+    out: &mut Vec<u8>,
+    content: &mut Vec<u8>,
+    globals: &[Defined<'_, GlobalType, I>],
+) -> Result<(), WriteFault>
+    ensures { AppendsContent result out.old.items out.new.items GLOBAL_ID
+        (items_content (global_text_of I.init) globals.now) }
+{
+    if globals.is_empty() {
+        return Ok(());
+    }
+    content.clear();
+    put_number(content, globals.len() as u64)?;
+    put_globals(content, globals)?;
+    append_content(out, GLOBAL_ID, content)
+}
+
+/// Appends globals.
+fn put_globals<I: InitText>(
+    out: &mut Vec<u8>,
+    globals: &[Defined<'_, GlobalType, I>],
+) -> Result<(), AllocError>
+    ensures { OnOk result (out.new.items ≡
+        out.old.items ++ flat_map (global_text_of I.init) globals.now) }
+{
+    for global in globals {
+        put_defined_global(out, global)?;
+    }
+    Ok(())
+}
+
+/// Appends a global: its type, and its initialiser.
+fn put_defined_global<I: InitText>(
+    out: &mut Vec<u8>,
+    global: &Defined<'_, GlobalType, I>,
+) -> Result<(), AllocError>
+    ensures { OnOk result (out.new.items ≡ out.old.items ++ global_text_of I.init global.now) }
+{
+    put_global(out, &global.ty)?;
+    global.content.put(out)
 }
 
 /// Appends the section of exports, where there are any.

@@ -5,6 +5,7 @@ ghost use Rattle.wc_write.specs.Modules.{SizesFit, built_value, built_value_by, 
 
 use crate::bodies::BodyText;
 use crate::fault::WriteFault;
+use crate::inits::InitText;
 use crate::module_sections::{
     append_code, append_exports, append_func_types, append_globals, append_imports,
     append_memories, append_producers, append_start, append_tables, append_types,
@@ -14,9 +15,9 @@ use wc_read::{Body, Export, FuncType, GlobalType, Init, Item, MODULE_HEADER, Mem
 
 /// A module to be written (WebAssembly core specification, 2.5). Its imports are the imported items of its index
 /// spaces. In each index space imported items come before defined ones, which is not checked. The content of a defined
-/// function is its body, or whatever else can append the body's text.
+/// function is its body, or whatever else can append the body's text; so is that of a defined global its initialiser.
 #[derive(Debug, Drop)]
-pub struct Built<'a, C = Body<'a>> {
+pub struct Built<'a, C = Body<'a>, I = Init<'a>> {
     /// The function types, by their indices (2.5.2).
     pub types: Vec<FuncType>,
     /// The functions, each with the index of its type, and defined ones with their bodies (2.5.3).
@@ -26,7 +27,7 @@ pub struct Built<'a, C = Body<'a>> {
     /// The memories (2.5.5).
     pub memories: Vec<Memory<'a>>,
     /// The globals, and defined ones with their initialisers (2.5.6).
-    pub globals: Vec<Item<'a, GlobalType, Init<'a>>>,
+    pub globals: Vec<Item<'a, GlobalType, I>>,
     /// The exports, in order (2.5.10).
     pub exports: Vec<Export<'a>>,
     /// The index of the start function; `None` where there is none (2.5.9).
@@ -58,22 +59,22 @@ pub fn write_module(alloc: Global, built: &Built<'_>) -> Result<Vec<u8>, WriteFa
     write_module_of(alloc, built)
 }
 
-/// The same of a module whose bodies are given by any content that can append their texts (5.5.13): no operator need be
-/// kept.
+/// The same of a module whose bodies and initialisers are given by any contents that can append their texts (5.4.9 and
+/// 5.5.13): no operator need be kept.
 ///
 /// # Errors
 ///
 /// - `TooLarge`: the content of a section has 2^32 bytes or more.
 /// - `Memory`: an allocation failed.
 #[tactic(auto, unfolding(crate::specs::Modules::built_text))]
-pub fn write_module_of<C: BodyText>(
+pub fn write_module_of<C: BodyText, I: InitText>(
     alloc: Global,
-    built: &Built<'_, C>,
+    built: &Built<'_, C, I>,
 ) -> Result<Vec<u8>, WriteFault>
-    ensures written { IfOk result (λ v. v.items ≡ built_text (built_value_by C.body built.now)) }
-    ensures fits { IsOk result → SizesFit (built_value_by C.body built.now) }
+    ensures written { IfOk result (λ v. v.items ≡ built_text (built_value_by C.body I.init built.now)) }
+    ensures fits { IsOk result → SizesFit (built_value_by C.body I.init built.now) }
     ensures too_large { IsErrOf result WriteFault.TooLarge
-        → ¬ (SizesFit (built_value_by C.body built.now)) }
+        → ¬ (SizesFit (built_value_by C.body I.init built.now)) }
 {
     let mut out = Vec::from_slice(alloc, MODULE_HEADER)?;
     append_sections(&mut out, built)?;
@@ -81,12 +82,15 @@ pub fn write_module_of<C: BodyText>(
 }
 
 /// Appends the sections of a module. One buffer serves all their contents.
-fn append_sections<C: BodyText>(out: &mut Vec<u8>, built: &Built<'_, C>) -> Result<(), WriteFault>
+fn append_sections<C: BodyText, I: InitText>(
+    out: &mut Vec<u8>,
+    built: &Built<'_, C, I>,
+) -> Result<(), WriteFault>
     ensures written { OnOk result (out.new.items ≡
-        out.old.items ++ sections_text (built_value_by C.body built.now)) }
-    ensures fits { IsOk result → SizesFit (built_value_by C.body built.now) }
+        out.old.items ++ sections_text (built_value_by C.body I.init built.now)) }
+    ensures fits { IsOk result → SizesFit (built_value_by C.body I.init built.now) }
     ensures too_large { IsErrOf result WriteFault.TooLarge
-        → ¬ (SizesFit (built_value_by C.body built.now)) }
+        → ¬ (SizesFit (built_value_by C.body I.init built.now)) }
 {
     let mut content = Vec::new(*out.allocator());
     append_types(out, &mut content, &built.types)?;

@@ -24,9 +24,6 @@ NameEntry = Bor (List ℕ) × Bor (List ℕ) × ℕ
 abbrev pub entry_name : NameEntry → ImportName
 entry_name e = named (e.0, e.1)
 
-abbrev pub entry_indices : List NameEntry → List ℕ
-entry_indices es = map (λ e. e.2) es
-
 -- the order of names: that of their modules, or of the names where the modules are equal
 abbrev pub names_cmp : ImportName → ImportName → Ordering
 names_cmp a b = ordering_then (slice_cmp nat_cmp a.module_name b.module_name) (slice_cmp nat_cmp a.name b.name)

@@ -8,6 +8,10 @@ use Rattle.wc_dedupe.specs.Renaming.{ImportName, RenameView, name_with_number}
 abbrev pub numbered : ImportName → ℕ → ImportName
 numbered x n = record { module_name = x.module_name; name = name_with_number x.name n }
 
+-- no name of a list is one with a number
+abbrev pub LacksNumbered : List ImportName → Type 0
+LacksNumbered known = (x : ImportName) (n : ℕ) → ¬ Contains known (numbered x n)
+
 -- the number of a name, where these names are given
 abbrev pub IsNumberOf : List ImportName → ImportName → ℕ → Type 0
 IsNumberOf given x v =

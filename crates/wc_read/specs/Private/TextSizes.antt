@@ -1,8 +1,12 @@
 -- How many bytes the text of a number or of other immediates has.
 use Rattle.std.specs.Prelude.{◌≡◌, ◌⊎◌, ℕ, List, ◌∷◌, ◌++◌, length, Bool, true, Option, Some, None, ◌<◌, ◌≤◌, ◌^◌, ◌*◌, ◌-◌, ℤ, pos, negsuc}
-use Rattle.wc_read.specs.OperatorText.{mem_arg_text}
-use Rattle.wc_read.specs.Reading.Reader.{Read}
-use Rattle.wc_read.specs.Reading.Instructions.{mem_arg_at}
+use Rattle.std.specs.List.{flat_map}
+use Rattle.wc_read.specs.Text.{number_text}
+use Rattle.wc_read.specs.Operators.{WithLabels}
+use Rattle.wc_read.specs.OperatorText.{immediates_text, mem_arg_text}
+use Rattle.wc_read.specs.Reading.Reader.{Read, items_at, number_at}
+use Rattle.wc_read.specs.Reading.Instructions.{immediates_at, mem_arg_at}
+use Rattle.wc_read.specs.declared.operators.Form.TheVariants.{Labels as form_labels}
 
 -- bytes begin with the text of a value, of so many bytes, and this value is read
 pub record IsTextSize {A : Type 0} (read : Read A) (text : A → List ℕ) (bytes : List ℕ) (size : ℕ) : Type 0 where
@@ -26,6 +30,26 @@ SizesMemArg memory bytes (Some size) = (s : IsTextSize mem_arg_at mem_arg_text b
 abbrev pub SizesMemoryIndex : Bool → List ℕ → Option ℕ → Type 0
 SizesMemoryIndex memory bytes None = Unit {0}
 SizesMemoryIndex memory bytes (Some size) = (left : List ℕ) × (bytes ≡ 0 ∷ left) × (size ≡ 1) × (memory ≡ true)
+
+-- bytes begin with the texts of so many numbers of 32 bits, and these numbers are read
+pub record AreNumbers (count : ℕ) (bytes left : List ℕ) : Type 0 where
+  pub numbers : List ℕ
+  pub read_is : items_at (number_at 32) count bytes ≡ Some (numbers, left)
+  pub cut : bytes ≡ flat_map number_text numbers ++ left
+  pub count_is : count ≡ length numbers
+
+-- bytes begin with the text of labels and one label after them, of so many bytes, and these are read
+pub record IsLabelsSize (bytes : List ℕ) (size : ℕ) : Type 0 where
+  pub labels : List ℕ
+  pub others : ℕ
+  pub left : List ℕ
+  pub read_is : immediates_at form_labels bytes ≡ Some (WithLabels labels others, left)
+  pub cut : bytes ≡ immediates_text (WithLabels labels others) ++ left
+  pub size_is : size ≡ length (immediates_text (WithLabels labels others))
+
+abbrev pub SizesLabels : List ℕ → Option ℕ → Type 0
+SizesLabels bytes None = Unit {0}
+SizesLabels bytes (Some size) = IsLabelsSize bytes size
 
 -- no fewer bytes than so many, ten at most, spell the number
 abbrev pub IsShortest : ℕ → ℕ → Type 0

@@ -1,5 +1,6 @@
 -- Exports (5.5.10).
-use Rattle.std.specs.Prelude.{ℕ, ◌==◌, if◌then◌else◌, Option, Some, None, List, map}
+use Rattle.std.specs.Prelude.{ℕ, ◌==◌, if◌then◌else◌, Option, Some, None, List, map, length, ◌+◌, ◌<◌, ◌≢◌, slice_index_or}
+use Rattle.std.specs.Borrow.{Bor}
 use Rattle.wc_read.specs.Options.{◌>>=◌}
 use Rattle.wc_read.specs.Exports.{ExportValue}
 use Rattle.wc_read.specs.Reading.Reader.{Read, coded_at, number_at, name_at}
@@ -22,3 +23,7 @@ export_at bytes = do
 
 abbrev pub export_names : List Export → List (List ℕ)
 export_names es = map (λ e. e.name.now) es
+
+-- each name differs from the next one
+unfoldable pub NeighboursDiffer : List (Bor (List ℕ)) → Type 0
+NeighboursDiffer names = (k : ℕ) (d : Bor (List ℕ)) → k + 1 < length names → (slice_index_or names k d).now ≢ (slice_index_or names (k + 1) d).now

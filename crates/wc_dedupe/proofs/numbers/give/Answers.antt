@@ -7,7 +7,7 @@ use Rattle.wc_dedupe.proofs.numbers.give.Goals as goal
 use Rattle.wc_dedupe.proofs.numbers.give.Goals.{Start}
 
 within : (c : Start) → c.args.position < length c.args.numbers.now
-within c = number_within (names_of c.args.names.now) c.requires.given.0 c.args.numbers.now c.requires.given.2 c.args.position (omega (arith, c.requires.position, length-map c.args.names.now named))
+within c = number_within (names_of c.args.known.names.now) c.requires.given.0 c.args.numbers.now c.requires.given.2 c.args.position (omega (arith, c.requires.position, length-map c.args.known.names.now named))
 
 pub bounds-numbers-position : goal.bounds-numbers-position
 bounds-numbers-position c = within (goal.at.bounds-numbers-position c).Start

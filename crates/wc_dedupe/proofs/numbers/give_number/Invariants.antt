@@ -6,4 +6,4 @@ use Rattle.wc_dedupe.proofs.numbers.give_number.Given as goal
 abbrev pub invariant-loop-number : goal.invariant-loop-number
 invariant-loop-number l =
     (l.numbers ≡ l.fn.numbers)
-    × ((k : ℕ) → get_or l.fn.numbers l.position 0 ≤ k → k < l.number → IsTaken (names_of l.names) l.fn.numbers (numbered (named l.original) k))
+    × ((k : ℕ) → get_or l.fn.numbers l.position 0 ≤ k → k < l.number → IsTaken (names_of l.known.names.now) l.fn.numbers (numbered (named l.original) k))

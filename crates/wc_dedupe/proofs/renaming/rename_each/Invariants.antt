@@ -5,4 +5,4 @@ use Rattle.wc_dedupe.proofs.RenameAllLemmas.{IsRenamedTo}
 use Rattle.wc_dedupe.proofs.renaming.rename_each.Given as goal
 
 abbrev pub invariant-loop-i : goal.invariant-loop-i
-invariant-loop-i l = (ns : List ImportName) × IsRenamedTo l.fn.names l.i l.known.names.items ns l.indices.items (map rename_view l.renames.items) l.numbers.items
+invariant-loop-i l = (ns : List ImportName) × IsRenamedTo l.fn.names l.i l.known.names.now ns l.indices.items (map rename_view l.renames.items) l.numbers.items

@@ -8,7 +8,7 @@ use Rattle.wc_gc.specs.Edit.{EditedModule, edit, edited_by, import_func}
 use Rattle.wc_gc.specs.EditedImage.{FitsBits, edited_image}
 use Rattle.wc_gc.specs.Found.{found_view}
 use Rattle.wc_gc.specs.Live.{has_item}
-use Rattle.wc_gc.specs.NewBodies.{body_written}
+use Rattle.wc_gc.specs.NewBodies.{body_written, init_written}
 use Rattle.wc_gc.specs.NewIndices.{HasRoomFor}
 use Rattle.wc_gc.specs.Parts.{settings_view}
 use Rattle.wc_gc.proofs.EditedImageLemmas.{imports_same, defined_same, new_ranks, edited_length}
@@ -78,7 +78,7 @@ returns-in_err-write_module_of-clause-fault g c =
     let p = err_from_is_err_and c.from_residual-in_err-write_module_of.result c.from_residual-in_err-write_module_of.ensures.1 in
     rw (p.1, p.2) (not_written (FitsBits
     (edited_image (edit (settings_view c.args.settings) (decoded_module c.args.adapter) (map export_value c.args.reached.now.exports.items)
-    (has_item g.L.LiveSet.has c.args.reached.now.found.live)))) (built_value_by body_written c.in_ok-built.built)
+    (has_item g.L.LiveSet.has c.args.reached.now.found.live)))) (built_value_by body_written init_written c.in_ok-built.built)
     (λ b. subst SizesFit (sym is) b.sizes) _ c.in_err-write_module_of.ensures.too_large)
 
 pub returns-clause-written : goal.returns-clause-written

@@ -1,6 +1,6 @@
 use Rattle.std.proofs.Common.{sym, ◌∙◌}
 use Rattle.wc_read.specs.Blocks.{open_blocks}
-use Rattle.wc_read.proofs.PassingLemmas.{code_only_over, index_over, i32_over, i64_over, four_over, eight_over, mem_arg_over, memory_index_over, run_of_size}
+use Rattle.wc_read.proofs.PassingLemmas.{code_only_over, index_over, i32_over, i64_over, four_over, eight_over, mem_arg_over, memory_index_over, labels_over, run_of_size}
 use Rattle.wc_read.proofs.passing.pass_next.Goals as goal
 
 pub returns-in-CodeOnly-clause-passed : goal.returns-in-CodeOnly-clause-passed
@@ -37,3 +37,7 @@ returns-in_ok-memory_index_size-in-Memory-clause-passed c =
 
 pub returns-in-Block-clause-passed : goal.returns-in-Block-clause-passed
 returns-in-Block-clause-passed c = c.pass_nesting_run.ensures.passed c.args.memory
+
+pub returns-in_ok-labels_size-in-Labels-clause-passed : goal.returns-in_ok-labels_size-in-Labels-clause-passed
+returns-in_ok-labels_size-in-Labels-clause-passed c =
+    run_of_size c.args.memory (open_blocks c.args.blocks.now) (open_blocks c.args.blocks.now) c.args.input.now _ (labels_over c.args.memory c.args.input.now _ _ (open_blocks c.args.blocks.now) c.in_ok-labels_size-in-Labels.field-0 c.in_ok-first.ensures.cases.0 (sym c.in-Labels.is ∙ c.pass_kind.ensures) c.requires c.in_ok-labels_size-in-Labels.ensures)

@@ -1,7 +1,7 @@
 use Rattle.std.proofs.Common.{◌<◌, ◌-◌, length, arith}
 use Rattle.wc_gc.specs.Ranges.{in_ranges}
 use Rattle.wc_gc.specs.Counts.{count_below}
-use Rattle.wc_gc.proofs.RangeRankLemmas.{probe_found, found_rank}
+use Rattle.wc_gc.proofs.RangeRankLemmas.{inside_range, probe_found, found_rank}
 use Rattle.wc_gc.proofs.RankLemmas.{bounded_below}
 use Rattle.wc_gc.proofs.StartLemmas.{found_at, found_within}
 use Rattle.wc_gc.proofs.ranks.Ranks.rank_at.Goals as goal
@@ -26,6 +26,14 @@ returns-clause-rank c =
     let lt : c.args.index < length s.ranges.items = omega (arith, test, count) in
     let found = probe_found s.ranges.items s.before.items s.long s.each c.args.index c.args.x c.index.result.now c.index.ensures lt c.if-x-first.false c.if-last-x.false in
     found_rank s.before.items c.args.index c.index-2.result.now (c.args.x - c.index.result.now.0) (count_below (in_ranges s.ranges.items) c.args.x) (omega (arith, lt, s.long)) c.index-2.ensures found
+
+pub returns-clause-member : goal.returns-clause-member
+returns-clause-member c =
+    let s = c.args.self.now in
+    let test = c.if-index-len.false in
+    let count = c.len.ensures in
+    let lt : c.args.index < length s.ranges.items = omega (arith, test, count) in
+    inside_range s.ranges.items c.args.index c.args.x c.index.result.now c.index.ensures lt c.if-x-first.false c.if-last-x.false
 
 pub returns-then-index-len-clause-found : goal.returns-then-index-len-clause-found
 returns-then-index-len-clause-found c = λ cut has.
