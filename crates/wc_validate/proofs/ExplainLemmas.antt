@@ -156,7 +156,7 @@ type_at types index d ty below is =
 differ_as : (ty : ExternType) (wanted found : FuncTypeValue) → ty ≡ func_type found → ty ≢ func_type wanted → found ≢ wanted
 differ_as ty wanted found is differ same = differ (is ∙ ap func_type same)
 
-mismatch_of : (e : NameScope) (a : CoreImport) (wanted : FuncType) → IsClassified e a (Err (naming.SignatureMismatch wanted))
+pub mismatch_of : (e : NameScope) (a : CoreImport) (wanted : FuncType) → IsClassified e a (Err (naming.SignatureMismatch wanted))
     → (v : ImportView) × Classified e a (means v (Some (func_type_value wanted))) × (a.ty ≢ func_type (func_type_value wanted))
 unfolding IsClassified
 mismatch_of e a wanted h = h

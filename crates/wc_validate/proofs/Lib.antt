@@ -44,6 +44,7 @@ pub mod FirstPositionLemmas
 pub mod FirstExportLemmas
 pub mod FirstFunctionLemmas
 pub mod ExplainLemmas
+pub mod SignedLemmas
 pub mod MissingLemmas
 pub mod PlaceLawLemmas
 pub mod WorldInterfaceLemmas

@@ -27,6 +27,7 @@ use Rattle.wc_names.specs.Keys.{item_under, key_eq}
 use Rattle.wc_names.specs.ExportViews.{ExportView}
 use Rattle.wc_validate.specs.declared.fault.ValidateFault.{ValidateFault}
 use Rattle.wc_validate.specs.declared.fault.ValidateFault.TheVariants.{Memory, MissingCallback, SeveralMemoryExports}
+use Rattle.wc_validate.specs.declared.explain.keys.LackingKey.{LackingKey}
 use Rattle.wc_validate.specs.declared.names.Names.{Names}
 use Rattle.wc_validate.specs.declared.place.Place.{Place}
 use Rattle.wc_validate.specs.declared.place.Subject.{Subject}
@@ -34,7 +35,7 @@ use Rattle.wc_validate.specs.declared.requirements.RequiredExports.{RequiredExpo
 use Rattle.wc_validate.specs.Exports.Map.{ExportRecord, export_entry, is_memory}
 use Rattle.wc_validate.specs.Imports.Map.{required_entry}
 use Rattle.wc_validate.specs.Explain.{IsCallbackPlace, IsFirstFailing, IsFirstLacking, IsFirstUnexported, IsFunctionLack, IsFunctionPlace, IsKeyPlace, IsLack, IsMemoryPlace, IsMissingPlace, IsSecondMemory, PlaceView, an_export, SubjectView, difference_of, missing_export, place_view}
-use Rattle.wc_validate.specs.Private.Explain.{IsCallbackPlaced, IsFunctionLackAt, IsLackAt, IsLackNamed, IsLackOf, IsMemoryPlaced, IsRefusedForCallbacks, IsRefusedForMemories, IsSecondNamed, IsUncalled, IsUnexported}
+use Rattle.wc_validate.specs.Private.Explain.{IsCallbackPlaced, IsFunctionLackAt, IsKeyStop, IsLackAt, IsLackNamed, IsLackOf, IsMemoryPlaced, IsRefusedForCallbacks, IsRefusedForMemories, IsSecondNamed, IsUncalled, IsUnexported}
 use Rattle.wc_validate.specs.NameScope.{HasItsWorld}
 use Rattle.wc_validate.specs.Private.Requirements.{HasKeysNamed}
 use Rattle.wc_validate.specs.Private.ExportedFunctions.{IsExportIndexOf}
@@ -269,6 +270,19 @@ pub key_placed : (r : ResolveView) (xs : List CoreExport) (recorded : ExportReco
     → IsKeyPlace r xs recorded exports keys f (record { subject = subject; types = None })
 key_placed r xs recorded exports keys key Memory subject h real lack = absurd (real refl)
 key_placed r xs recorded exports keys key f subject h real lack = record { key = key; first = h; lack = lack h.need h.required; types = refl }
+
+-- something is missing for a key at which validation stops
+lacks : (r : ResolveView) (xs : List CoreExport) (recorded : ExportRecord) (exports : Entries) (keys : List KeyView) (key : KeyView) (f : ValidateFault)
+    → IsLackAt r xs recorded exports keys key f → f ≢ Memory
+    → ((need : Requirement) → key_requirement exports key ≡ Some need → IsMet r xs recorded need) → ⊥
+lacks r xs recorded exports keys key Memory h real met = real refl
+lacks r xs recorded exports keys key f h real met = h.unmet (met h.need h.required)
+
+pub key_lacks : (n : Names) (functions : List (Option InterfaceId × String Global)) (x : LackingKey) → IsKeyStop n functions x → x.fault ≢ Memory
+    → IsLackNamed n.resolve.now functions n.world.now.exports.entries x.key.now None → ⊥
+key_lacks n functions x stop real named =
+    lacks n.resolve.now stop.0 stop.1 (map world_entry n.world.now.exports.entries) stop.2 (key_view x.key.now) x.fault stop.4 real
+    (λ need is. named need is stop.1 stop.3 stop.0)
 
 -- the types of a place
 pub difference_is : (a b : FuncType) (wanted found : FuncTypeValue) → func_type_value a ≡ wanted → func_type_value b ≡ found

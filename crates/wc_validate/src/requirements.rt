@@ -5,9 +5,10 @@ ghost use Rattle.wc_read.specs.Modules.{HaveTypes, module_value};
 ghost use Rattle.wc_resolve.specs.Ranges.{IsItemIn};
 ghost use Rattle.wc_resolve.specs.Views.{world_entry};
 ghost use Rattle.wc_names.specs.ExportViews.{export_view};
-ghost use Rattle.wc_validate.specs.Exports.Map.{export_entry, is_memory};
+ghost use Rattle.wc_validate.specs.Exports.Map.{ExportRecord, export_entry, is_memory};
 ghost use Rattle.wc_validate.specs.Requirements.{is_called_back, is_callback_for, memory_count, needs_callback};
 ghost use Rattle.wc_validate.specs.Private.Explain.{IsMissingIn, IsRefusedForCallbacks, IsRefusedForMemories, IsSecondNamed, IsUncalled, RefusesKeys};
+ghost use Rattle.wc_validate.specs.Private.ExportedFunctions.{AreNamesOf};
 ghost use Rattle.wc_validate.specs.Private.Requirements.{AreMetBy, HasItemsInRange, HasKeysNamed, IsUnmetBy, requirement_of_key, requirements_of_keys, AreCalledBack, FailsByNames, MeetsByNames};
 ghost use Rattle.wc_validate.specs.Refused.{IsRefusedAt};
 ghost use Rattle.wc_validate.specs.NameScope.{name_scope_of};
@@ -216,6 +217,7 @@ fn check_keys(
 ) -> Result<(), RefusedModule>
     requires world { HasItemsInRange (name_scope_of names.now) }
     requires named { HasKeysNamed (name_scope_of names.now) }
+    requires recorded { (recorded : ExportRecord) × AreNamesOf functions.now.keys recorded }
     ensures met { MeetsByNames names.now.resolve.now functions.now.keys
         (requirements_of_keys names.now.world.now.exports.entries keys.now.keys) result }
     ensures refused { RefusesKeys names.now functions.now.keys keys.now.keys result }

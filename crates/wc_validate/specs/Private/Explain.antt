@@ -82,6 +82,10 @@ AreMismatchedTypes c i wanted d =
     (library : Option LibraryView) (before : List Entry) → IsClassifiedIn c library i (Err (naming.SignatureMismatch wanted))
     → AreTypesOfImport (import_scope c library) before (import_value i) SignatureMismatch (difference_view d)
 
+-- an import is refused for its name, by some library that the module may be
+abbrev pub IsRefusedByName : ImportContext → Import → NameFault → Type 0
+IsRefusedByName c i f = (library : Option LibraryView) × IsClassifiedIn c library i (Err f)
+
 abbrev pub IsNameRefusal : ImportContext → Import → NameFault → ImportFault → Type 0
 IsNameRefusal c i f x =
     (library : Option LibraryView) (before : List Entry) → library_entry library i.module.now i.name.now ≡ None → IsClassifiedIn c library i (Err f)
@@ -100,6 +104,10 @@ IsExportStopAt e keys m es index f = ⊥
 
 abbrev pub IsExportStopIn : ExportContext → Module → List ModuleExport → RefusedExport → Type 0
 IsExportStopIn c m es x = IsExportStopAt (name_scope_of c.names) c.standard.keys (module_value m) (map export_value es) x.index x.fault
+
+-- validation stops at the export at an index, by something that exports are classified by
+abbrev pub IsExportStop : Module → List ModuleExport → ℕ → NameFault → Type 0
+IsExportStop m es index f = (e : NameScope) × (keys : List KeyView) × IsExportStopAt e keys (module_value m) (map export_value es) index f
 
 -- why an export is refused
 abbrev pub IsRefusedExport : ExportContext → List ℕ → Extern → NameFault → Type 0
@@ -157,6 +165,12 @@ IsLackOf r functions key need answer =
 abbrev pub IsLackNamed : ResolveView → List (Option InterfaceId × String Global) → List (WorldKey × WorldItem) → WorldKey → Option Subject → Type 0
 IsLackNamed r functions exports key answer =
     (need : Requirement) → key_requirement (map world_entry exports) (key_view key) ≡ Some need → IsLackOf r functions (key_view key) need answer
+
+-- validation stops at a key, by some exports whose functions are those of names
+abbrev pub IsKeyStop : Names → List (Option InterfaceId × String Global) → LackingKey → Type 0
+IsKeyStop n functions x =
+    (xs : List CoreExport) × (recorded : ExportRecord) × (keys : List KeyView) × AreNamesOf functions recorded
+    × IsLackAt n.resolve.now xs recorded (map world_entry n.world.now.exports.entries) keys (key_view x.key.now) x.fault
 
 -- what is missing for the key that is refused, as a place; nothing only where an allocation failed
 abbrev pub IsKeyPlaced : Names → List (Option InterfaceId × String Global) → LackingKey → Option Place → Type 0

@@ -3,7 +3,7 @@
 ghost use Rattle.std.specs.Prelude.{◌<◌, IfOk, length};
 ghost use Rattle.wc_read.specs.Modules.{HaveTypes, module_value};
 ghost use Rattle.wc_validate.specs.Exports.Record.{AreExportsIn};
-ghost use Rattle.wc_validate.specs.Private.Explain.{AreExportsRefusedAt, IsMismatchPlaced};
+ghost use Rattle.wc_validate.specs.Private.Explain.{AreExportsRefusedAt, IsExportStop, IsMismatchPlaced};
 
 use crate::ValidateFault;
 use crate::exports::record::exported_type;
@@ -26,12 +26,14 @@ fn export_place(
     requires in_range { index < length exports.now }
     requires items { AreExportsIn «module».now exports.now }
     requires typed { HaveTypes (module_value «module».now) }
+    requires stopped { IsExportStop «module».now exports.now index
+        (NameFault.SignatureMismatch wanted) }
     ensures { IfOk result (IsMismatchPlaced «module».now exports.now index wanted) }
 {
     let export = &exports[index];
     // Only functions have signatures.
     let Extern::Func(ty) = exported_type(module, export.kind, export.index) else {
-        return Err(AllocError);
+        unreachable!()
     };
     let found = ty.clone(alloc)?;
     let name = String::from_str(alloc, export.name)?;
@@ -51,6 +53,7 @@ pub(crate) fn export_refusal(
     requires in_range { refused.index < length exports.now }
     requires items { AreExportsIn «module».now exports.now }
     requires typed { HaveTypes (module_value «module».now) }
+    requires stopped { IsExportStop «module».now exports.now refused.index refused.fault }
     ensures { IfOk result (AreExportsRefusedAt «module».now exports.now refused) }
 {
     let (index, cause) = (refused.index, refused.fault);

@@ -2,7 +2,7 @@
 
 ghost use Rattle.std.specs.Prelude.{◌≡◌, ◌<◌, IfOk, length};
 ghost use Rattle.wc_validate.specs.Explain.{an_import, subject_view};
-ghost use Rattle.wc_validate.specs.Private.Explain.{AreMismatchedTypes, IsImportRefused, IsNameRefusal};
+ghost use Rattle.wc_validate.specs.Private.Explain.{AreMismatchedTypes, IsImportRefused, IsNameRefusal, IsRefusedByName};
 ghost use Rattle.wc_validate.specs.Private.Imports.Contexts.{IsTypeIn};
 
 use crate::ValidateFault;
@@ -40,11 +40,13 @@ fn mismatched_types(
     wanted: FuncType,
 ) -> Result<TypeDifference, AllocError>
     requires typed { IsTypeIn (length context.now.types.now) import.now.ty }
+    requires refused { IsRefusedByName context.now import.now
+        (NameFault.SignatureMismatch wanted) }
     ensures { IfOk result (AreMismatchedTypes context.now import.now wanted) }
 {
-    // A function is refused for its type, or an allocation failed.
+    // Only functions have signatures.
     let ImportType::Func(index) = import.ty else {
-        return Err(AllocError);
+        unreachable!()
     };
     let found = context.types[index as usize].clone(alloc)?;
     Ok(TypeDifference { wanted, found })
@@ -58,6 +60,7 @@ pub(crate) fn name_refusal(
     cause: NameFault,
 ) -> Result<ImportFault, AllocError>
     requires typed { IsTypeIn (length context.now.types.now) import.now.ty }
+    requires refused { IsRefusedByName context.now import.now cause }
     ensures { IfOk result (IsNameRefusal context.now import.now cause) }
 {
     match cause {

@@ -4,7 +4,7 @@ ghost use Rattle.std.specs.Prelude.{◌≡◌, ◌<◌, All, IfErr, IfOk, MatchO
 ghost use Rattle.wc_resolve.specs.Ranges.{IsItemIn};
 ghost use Rattle.wc_resolve.specs.Views.{key_view, world_entry};
 ghost use Rattle.wc_validate.specs.NameScope.{name_scope_of};
-ghost use Rattle.wc_validate.specs.Private.Explain.{AreAllNamed, IsKeyPlaced, IsLackIn, IsLackNamed, IsLackOf, IsLackingFunction};
+ghost use Rattle.wc_validate.specs.Private.Explain.{AreAllNamed, IsKeyPlaced, IsKeyStop, IsLackIn, IsLackNamed, IsLackOf, IsLackingFunction};
 ghost use Rattle.wc_validate.specs.Private.Requirements.{AreKeysNamed, HasItemsInRange, HasKeysNamed, IsKeyNamed, MeetsByNames, requirements_of_keys};
 ghost use Rattle.wc_validate.specs.Requirements.{interface_functions};
 
@@ -124,19 +124,20 @@ fn key_place(
 ) -> Result<Option<Place>, AllocError>
     requires items { HasItemsInRange (name_scope_of names.now) }
     requires named { HasKeysNamed (name_scope_of names.now) }
+    requires stopped { IsKeyStop names.now functions.now.keys lacking.now }
     ensures { IfOk result (IsKeyPlaced names.now functions.now.keys lacking.now) }
 {
     if is_memory(&lacking.fault) {
         return Ok(None);
     }
     let exports = &names.world.exports;
-    // Something is missing, or an allocation failed.
+    // Something is missing, since no allocation failed.
     match key_lack(alloc, functions, names.resolve, exports, lacking.key)? {
         Some(subject) => Ok(Some(Place {
             subject,
             types: None,
         })),
-        None => Err(AllocError),
+        None => unreachable!(),
     }
 }
 
@@ -149,6 +150,7 @@ pub(crate) fn key_refusal(
 ) -> Result<RefusedModule, AllocError>
     requires items { HasItemsInRange (name_scope_of names.now) }
     requires named { HasKeysNamed (name_scope_of names.now) }
+    requires stopped { IsKeyStop names.now functions.now.keys lacking }
     ensures fault { IfOk result (λ x. x.fault ≡ lacking.entry.fault) }
     ensures place { IfOk result
         (λ x. IsKeyPlaced names.now functions.now.keys lacking.entry x.place) }

@@ -1,4 +1,4 @@
-use Rattle.std.proofs.Common.{map}
+use Rattle.std.proofs.Common.{[], map}
 use Rattle.wc_resolve.specs.Views.{key_view, world_entry}
 use Rattle.wc_validate.specs.Explain.{IsKeyPlace}
 use Rattle.wc_validate.specs.Refused.{IsMemoryRefusal, IsRefusedAt, RefusedModule}
@@ -21,3 +21,8 @@ returns-in_err-key_refusal-in-Err-clause-refused c = λ xs recorded same.
     let keys = map key_view c.args.keys.now.keys in
     failed_on IsMemoryRefusal (λ (x : RefusedModule). IsUnmetFault r xs recorded (key_requirements exports keys) x.fault
     × IsRefusedAt (IsKeyPlace r xs recorded exports keys) x) _ (keys_failed r xs recorded exports keys) c.from_residual.ensures.1
+
+pub key_refusal-requires-clause-stopped : goal.key_refusal-requires-clause-stopped
+key_refusal-requires-clause-stopped c =
+    let recorded = c.requires.recorded in
+    ([], recorded.0, map key_view c.args.keys.now.keys, recorded.1, c.in-Err.ensures.lacking [] recorded.0 recorded.1)

@@ -1,4 +1,4 @@
-use Rattle.std.proofs.Common.{subst}
+use Rattle.std.proofs.Common.{◌∙◌, sym, subst}
 use Rattle.wc_validate.specs.Exports.Record.{AreExportsAdded}
 use Rattle.wc_validate.specs.NameScope.{name_scope_of}
 use Rattle.wc_validate.specs.Private.Explain.{AreExportsRefusedAt, IsExportStopIn, IsRefusedForExport}
@@ -25,3 +25,9 @@ returns-in_err-export_refusal-in-Err-clause-refused c =
     failed_on IsMemoryRefusal (IsRefusedForExport c.args.context.now c.args.module.now) _
     (memory_refused (name_scope_of c.args.context.now.names) c.args.context.now.standard.keys (module_value c.args.module.now)
     c.args.module.now.exports.items) c.from_residual.ensures.1
+
+pub export_refusal-requires-clause-stopped : goal.export_refusal-requires-clause-stopped
+export_refusal-requires-clause-stopped c =
+    let stop = subst (λ z. IsExportStopIn c.args.context.now c.args.module.now z c.in-Err.refused)
+    (c.deref.ensures.value ∙ sym c.deref-in-Err.ensures.value) c.in-Err.ensures.refused in
+    (name_scope_of c.args.context.now.names, c.args.context.now.standard.keys, stop)

@@ -1,4 +1,4 @@
-use Rattle.std.proofs.Common.{◌∙◌, sym, subst}
+use Rattle.std.proofs.Common.{◌∙◌, None, sym, subst}
 use Rattle.wc_read.specs.Imports.{import_value}
 use Rattle.wc_names.specs.Views.{library_item}
 use Rattle.wc_validate.specs.Private.Imports.Contexts.{import_scope}
@@ -53,3 +53,6 @@ returns-in-Ok-clause-fault c = λ library before has is.
 pub returns-in_ok-name_refusal-in-Err-clause-fault : goal.returns-in_ok-name_refusal-in-Err-clause-fault
 returns-in_ok-name_refusal-in-Err-clause-fault c = λ library before has is.
     c.in_ok-name_refusal-in-Err.ensures library before (sym (c.in-None.ensures ∙ has _ _)) (c.in-Err.ensures library)
+
+pub name_refusal-requires-clause-refused : goal.name_refusal-requires-clause-refused
+name_refusal-requires-clause-refused c = (None, c.in-Err.ensures None)
