@@ -1,5 +1,5 @@
-mod TextsLemmas
 mod ArgumentLemmas
+mod ReadLemmas
 mod FileNameLemmas
 mod NamesLemmas
 mod WorldsLemmas

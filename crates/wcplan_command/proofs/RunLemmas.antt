@@ -13,12 +13,13 @@ use Rattle.wc_world.specs.Views.{ComponentWorldView}
 use Rattle.wc_world.specs.World.{IsWorldOf}
 use Rattle.wc_world.specs.declared.fault.WorldFault.{WorldFault}
 use Rattle.wc_world.specs.declared.fault.WorldFault.TheVariants.{Memory as world_memory}
-use Rattle.wcplan_command.specs.Arguments.{CommandView, IsStop, Reading, wrong_view}
+use Rattle.wc_options.specs.Wrong.{IsStop, Reading, wrong_view}
+use Rattle.wcplan_command.specs.Arguments.{CommandView}
 use Rattle.wcplan_command.specs.Details.{IsExplanation}
 use Rattle.wcplan_command.specs.Reading.{AsksMemory, read_arguments}
 use Rattle.wc_program.specs.Screen.{Printing, nothing, printed}
-use Rattle.wcplan_command.specs.declared.arguments.NoCommand.{NoCommand}
-use Rattle.wcplan_command.specs.declared.arguments.NoCommand.TheVariants.{Memory, Help, Version, Wrong}
+use Rattle.wc_options.specs.declared.wrong.NoCommand.{NoCommand}
+use Rattle.wc_options.specs.declared.wrong.NoCommand.TheVariants.{Memory, Help, Version, Wrong}
 use Rattle.wc_gc.specs.declared.fault.GcFault.{GcFault}
 use Rattle.wc_gc.specs.declared.fault.GcFault.TheVariants.{Memory as gc_memory}
 use Rattle.wc_ways.specs.WaysFaults.{IsWaysFault}

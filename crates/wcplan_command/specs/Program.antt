@@ -52,7 +52,8 @@ use Rattle.wc_selection.specs.ModuleKeys.{required_keys}
 use Rattle.wc_selection.specs.Texts.{second_parts}
 use Rattle.wcplan_command.specs.AdapterNames.{IsNoAdapter}
 use Rattle.wcplan_command.specs.Asked.{IsAskedThere, IsUnasked}
-use Rattle.wcplan_command.specs.Arguments.{CommandView, Reading, Stop, WrongView, help, version, wrong}
+use Rattle.wc_options.specs.Wrong.{Reading, Stop, WrongView, help, version, wrong, wrong_text}
+use Rattle.wcplan_command.specs.Arguments.{CommandView}
 use Rattle.wcplan_command.specs.Details.{IsExplanation, fault_lines}
 use Rattle.wcplan_command.specs.Fault.{NeedsText, program_fault_text, unprinted_text}
 use Rattle.wcplan_command.specs.JsonFaults.{IsReportedJson}
@@ -62,7 +63,7 @@ use Rattle.wcplan_command.specs.ExplainedPart.{IsPartExplanation}
 use Rattle.wcplan_command.specs.Reading.{AsksMemory, is_standard, read_arguments}
 use Rattle.wcplan_command.specs.ModuleKeys.{AreNamesThere, IsMeant, IsNamesCause, IsNotMeant, IsSelectionCause, adapter_names, hook_of, request_of}
 use Rattle.wc_program.specs.Screen.{Printing, nothing, printed, failed}
-use Rattle.wcplan_command.specs.Usage.{fault_and_usage, fault_line, help_text, no_text, usage_text, version_text, wrong_text}
+use Rattle.wcplan_command.specs.Usage.{fault_and_usage, fault_line, help_text, no_text, usage_text, version_text}
 use Rattle.wcplan_command.specs.Warnings.{AreWarned, warnings_text}
 use Rattle.wcplan_command.specs.declared.fault.SelectionFault.{SelectionFault}
 use Rattle.wcplan_command.specs.declared.fault.SelectionFault.TheVariants.{Request, UnknownAdapter}

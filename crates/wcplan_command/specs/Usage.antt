@@ -1,6 +1,5 @@
--- The texts that say how the program is called, and what is wrong with a call.
+-- The texts that say how the program is called, and what is printed of a wrong call.
 use Rattle.std.specs.Prelude.{ℕ, List, ◌++◌, codes}
-use Rattle.wcplan_command.specs.Arguments.{WrongView, unknown_option, missing_value, not_a_pair, repeated_option, unexpected, missing, together}
 
 -- the usage text
 abbrev pub usage_text : List ℕ
@@ -34,16 +33,6 @@ help_text = usage_text ++ options_text
 
 abbrev pub version_text : List ℕ
 version_text = codes "wcplan 0.262.0\n"
-
--- what is wrong with an argument
-abbrev pub wrong_text : WrongView → List ℕ
-wrong_text (unknown_option argument) = codes "unknown option " ++ argument
-wrong_text (missing_value option) = codes "missing value of " ++ option
-wrong_text (not_a_pair option value) = codes "no = in " ++ (value ++ (codes " of " ++ option))
-wrong_text (repeated_option option) = option ++ codes " twice"
-wrong_text (unexpected argument) = codes "unexpected argument " ++ argument
-wrong_text (missing name) = codes "missing " ++ name
-wrong_text (together option other) = option ++ (codes " with " ++ other)
 
 -- what is wrong where an argument is no text
 abbrev pub no_text : List ℕ

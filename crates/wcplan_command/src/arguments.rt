@@ -1,13 +1,17 @@
 //! The arguments of the program.
 
-ghost use Rattle.std.specs.Prelude.{◌≡◌, IfErr, OnOk, None, Some, false, filter, is_some, length, map, string_bytes, true};
+ghost use Rattle.std.specs.Prelude.{◌≡◌, IfOk, ⊤, filter, length, map};
 ghost use Rattle.std.specs.Option.{option_map};
-ghost use Rattle.wcplan_command.specs.Arguments.{IsRead, IsReadWithoutMemory, IsStopOf, command_view, option_view};
-ghost use Rattle.wcplan_command.specs.Reading.{AsksMemory, HasMoreOptions, HasMorePaths, KeepsMore, adapter_file_of, add_option, add_path, add_value, are_inputs_apart, begins_option, draft_view, file_name, finish, fitting, flag_of, is_no_key, is_standard, module_valued_of, pair_of, plain_command, read_arguments, stem, take_flag, take_option, take_up, take_valued, takes_module_value, takes_value, valued_of};
-ghost use Rattle.wcplan_command.specs.declared.arguments.NoCommand.TheVariants.{Memory};
+ghost use Rattle.wc_options.specs.Reading.{first, is_given, lines_of, plain_texts, said_by, texts_in, values_of};
+ghost use Rattle.wc_options.specs.Wrong.{IsRead, IsReadWithoutMemory};
+ghost use Rattle.wc_selection.specs.Texts.{text_of, text_pair};
+ghost use Rattle.wcplan_command.specs.Arguments.{command_view};
+ghost use Rattle.wcplan_command.specs.Reading.{AsksMemory, AreModules, adapter_file_of, are_inputs_apart, command_with, file_name, finish_with, fitting, is_standard, option_table, pair_or, read_arguments, stem};
 
-use std::alloc::{AllocFailed, Global};
+use std::alloc::{AllocError, Global};
 use std::path::Path;
+pub use wc_options::{NoCommand, WrongArgument};
+use wc_options::{ProgramOption, Value, check, is_given, pair, text_count, texts, value, values};
 
 /// What the program is asked to do. Paths, names and keys are any texts.
 #[derive(Debug, Drop)]
@@ -41,81 +45,90 @@ pub struct Command<'a> {
     pub out: Option<&'a str>,
 }
 
-/// Why there is no command.
-#[derive(Clone, Copy, Debug, PartialEq, Eq)]
-pub enum NoCommand<'a> {
-    /// An allocation failed.
-    Memory,
-    /// The help text is asked for.
-    Help,
-    /// The version is asked for.
-    Version,
-    /// An argument is wrong, or missing.
-    Wrong(WrongArgument<'a>),
-}
-
-/// A wrong argument. An option is here by its name, as it was given.
-#[derive(Clone, Copy, Debug, PartialEq, Eq)]
-pub enum WrongArgument<'a> {
-    /// There is no such option.
-    UnknownOption(&'a str),
-    /// Nothing comes after this option, which has a value.
-    MissingValue(&'a str),
-    /// The value of this option has no `=`.
-    NotAPair { option: &'a str, value: &'a str },
-    /// This option is given twice, and may be given once; or `-` is, which is standard input, as a file.
-    RepeatedOption(&'a str),
-    /// This argument comes after the third that is no option, and is none.
-    Unexpected(&'a str),
-    /// The argument that the usage text calls so is missing.
-    Missing(&'a str),
-    /// These two options are given together.
-    Together { option: &'a str, other: &'a str },
-}
-
-impl<T: Drop> From<AllocFailed<T>> for NoCommand<'_> {
-    ghost from_gives = { λ _ e. e ≡ Memory };
-
-    fn from(_e: AllocFailed<T>) -> Self {
-        NoCommand::Memory
-    }
-}
-
-/// An option with its values.
-#[derive(Clone, Copy)]
-enum CommandOption<'a> {
-    Adapt { name: &'a str, file: &'a str },
-    Export { key: &'a str },
-    AdapterExport { name: &'a str, key: &'a str },
-    RejectLegacyNames,
-    ReallocViaMemoryGrow,
-    TaskHook { name: &'a str },
-    Json,
-    Why { key: &'a str },
-    Dot,
-    Out { directory: &'a str },
-}
-
-/// The arguments that were read besides options and their values.
-#[derive(Drop)]
-struct Draft<'a> {
-    /// The arguments that are no options, in order.
-    paths: Vec<&'a str>,
-    /// The option that has the next argument for its value.
-    pending: Option<&'a str>,
-    /// Whether no later argument is an option.
-    is_ended: bool,
-}
+/// The options.
+pub(crate) const OPTIONS: [ProgramOption; 10] = [
+    ProgramOption {
+        name: "--adapt",
+        value: Value::Text,
+        repeats: true,
+        usage: " [--adapt [NAME=]FILE]...",
+        help: "  --adapt [NAME=]FILE        an adapter, and its module; NAME is else FILE's name up to its first `.`\n",
+    },
+    ProgramOption {
+        name: "--export",
+        value: Value::Text,
+        repeats: true,
+        usage: " [--export KEY]...",
+        help: "  --export KEY               a key of the world's exports that the main module exports\n",
+    },
+    ProgramOption {
+        name: "--adapter-export",
+        value: Value::Pair,
+        repeats: true,
+        usage: " [--adapter-export NAME=KEY]...",
+        help: "  --adapter-export NAME=KEY  a key of the world's exports that the adapter exports\n",
+    },
+    ProgramOption {
+        name: "--reject-legacy-names",
+        value: Value::Nothing,
+        repeats: false,
+        usage: "\n              [--reject-legacy-names]",
+        help: "  --reject-legacy-names      refuse names of the older scheme\n",
+    },
+    ProgramOption {
+        name: "--realloc-via-memory-grow",
+        value: Value::Nothing,
+        repeats: false,
+        usage: " [--realloc-via-memory-grow]",
+        help: "  --realloc-via-memory-grow  let adapters grow memory for themselves\n",
+    },
+    ProgramOption {
+        name: "--task-hook",
+        value: Value::Text,
+        repeats: false,
+        usage: " [--task-hook NAME]",
+        help: "  --task-hook NAME           the export of MAIN.wasm that is the hook of tasks\n",
+    },
+    ProgramOption {
+        name: "--json",
+        value: Value::Nothing,
+        repeats: false,
+        usage: " [--json]",
+        help: "  --json                     print the component's world and its plan as JSON; with --why the ways\n",
+    },
+    ProgramOption {
+        name: "--why",
+        value: Value::Key,
+        repeats: false,
+        usage: " [--why KEY [--dot]]",
+        help: "  --why KEY                  print why the interface KEY is imported; why each is, if KEY is `all`\n",
+    },
+    ProgramOption {
+        name: "--dot",
+        value: Value::Nothing,
+        repeats: false,
+        usage: "",
+        help: "  --dot                      print that as a graph, in the language of Graphviz\n",
+    },
+    ProgramOption {
+        name: "--out",
+        value: Value::Text,
+        repeats: false,
+        usage: " [--out DIR]",
+        help: "  --out DIR                  write the modules to DIR, which is made if need be\n",
+    },
+];
 
 /// The command of these arguments, the first of them the one after the program's name: `WORLDS.json`, `WORLD` and
 /// `MAIN.wasm` in this order, of which `WORLD` may be left out, and options before, between and after them. `--adapt
 /// NAME=FILE`, `--export KEY` and `--adapter-export NAME=KEY` may come several times, `--reject-legacy-names`,
 /// `--realloc-via-memory-grow`, `--task-hook NAME`, `--json`, `--why KEY`, `--dot` and `--out DIR` once. What comes
-/// after the name of an option that has a value is its value, whatever it is, but that no option is the key of `--why`; in
-/// one argument there is a `=` between them, as in `--out=DIR`. NAME of an adapter ends at the first `=`. Without a `=` the value of `--adapt` is FILE, and
-/// NAME is the name of this file up to its first `.`. `--` is not an argument, and says that those after it are no
-/// options. No option is `-` alone, nor what begins with another character. `--dot` comes with `--why`, and without
-/// `--json`. Of `WORLDS.json`, `MAIN.wasm` and the FILEs one is `-` at most, which is standard input.
+/// after the name of an option that has a value is its value, whatever it is, but that no option is the key of `--why`;
+/// in one argument there is a `=` between them, as in `--out=DIR`. NAME of an adapter ends at the first `=`. Without a
+/// `=` the value of `--adapt` is FILE, and NAME is the name of this file up to its first `.`. `--` is not an argument,
+/// and says that those after it are no options. No option is `-` alone, nor what begins with another character. `--dot`
+/// comes with `--why`, and without `--json`. Of `WORLDS.json`, `MAIN.wasm` and the FILEs one is `-` at most, which is
+/// standard input.
 ///
 /// # Errors
 ///
@@ -124,212 +137,160 @@ struct Draft<'a> {
 /// - `Help`, `Version`: an option is `--help` or `-h`, or `--version`.
 /// - `Wrong`: an argument is wrong; or, after the last, the value of an option or one of the two paths is missing, or
 ///   options or files don't fit together.
-/// - `Memory`: an allocation failed. It may come in place of any other after an argument that is kept: one of the three,
-///   or the value of `--adapt`, `--export` or `--adapter-export`. Without such an argument nothing is allocated.
+/// - `Memory`: an allocation failed. It may come where no argument by itself is wrong, and one at least is no option. Without
+///   such an argument nothing is allocated.
 pub fn parse(alloc: Global, arguments: &[String]) -> Result<Command<'_>, NoCommand<'_>>
-    ensures { IsRead (AsksMemory (map string_bytes arguments.now)) result
-        (read_arguments (map string_bytes arguments.now)) }
+    ensures { IsRead command_view (AsksMemory (texts_in arguments.now)) result
+        (read_arguments (texts_in arguments.now)) }
 {
-    let mut command = no_options(alloc);
-    let mut draft = Draft {
-        paths: Vec::new(alloc),
-        pending: None,
-        is_ended: false,
-    };
-    for argument in arguments {
-        take_up(&mut command, &mut draft, argument.as_str())?;
+    check(options(), Some(3), arguments)?;
+    if text_count(options(), arguments) == 0 {
+        return Err(NoCommand::Wrong(WrongArgument::Missing("WORLDS.json")));
     }
-    finish(command, &draft)
+    finish(alloc, arguments)
 }
 
-/// The command without options and a world, whose paths are empty.
-fn no_options<'a>(alloc: Global) -> Command<'a>
-    ensures { command_view result ≡ plain_command }
+/// The options as a table.
+fn options() -> &'static [ProgramOption]
+    ensures { lines_of result.now ≡ option_table }
 {
-    Command {
-        worlds: "",
-        world: None,
-        main: "",
-        adapters: Vec::new(alloc),
-        exports: Vec::new(alloc),
-        adapter_exports: Vec::new(alloc),
-        reject_legacy_names: false,
-        realloc_via_memory_grow: false,
-        task_hook: None,
-        json: false,
-        why: None,
-        dot: false,
-        out: None,
-    }
+    &OPTIONS
 }
 
-/// Takes up the next argument.
-fn take_up<'a>(
-    command: &mut Command<'a>,
-    draft: &mut Draft<'a>,
-    argument: &'a str,
-) -> Result<(), NoCommand<'a>>
-    ensures taken { OnOk result (take_up (command_view command.old) (draft_view draft.old)
-        argument.now ≡ Ok (command_view command.new, draft_view draft.new)) }
-    ensures stops { let c = command_view command.old in let d = draft_view draft.old in
-        IfErr result (IsStopOf (KeepsMore c d) (take_up c d argument.now)) }
+/// The command of arguments of which none by itself is wrong.
+fn finish(alloc: Global, arguments: &[String]) -> Result<Command<'_>, NoCommand<'_>>
+    ensures { let tokens = said_by option_table (texts_in arguments.now) in
+        IsRead command_view ⊤ result (finish_with tokens (plain_texts tokens)) }
 {
-    if draft.is_ended {
-        return add_path(draft, argument);
-    }
-    if let Some(option) = draft.pending {
-        if is_no_key(option, argument) {
-            return Err(NoCommand::Wrong(WrongArgument::MissingValue(option)));
-        }
-        draft.pending = None;
-        return add_value(command, option, argument);
-    }
-    if argument == "--" {
-        draft.is_ended = true;
-        return Ok(());
-    }
-    if begins_option(argument) {
-        take_option(command, draft, argument)
-    } else {
-        add_path(draft, argument)
-    }
-}
-
-/// Whether an argument begins as options do.
-fn begins_option(argument: &str) -> bool
-    ensures { result ≡ begins_option argument.now }
-{
-    argument.starts_with('-') && argument != "-"
-}
-
-/// Whether an option comes where the key of `--why` should be.
-fn is_no_key(option: &str, argument: &str) -> bool
-    ensures { result ≡ is_no_key option.now argument.now }
-{
-    option == "--why" && begins_option(argument)
-}
-
-/// Takes up an argument that is no option.
-fn add_path<'a>(draft: &mut Draft<'a>, argument: &'a str) -> Result<(), NoCommand<'a>>
-    ensures added { OnOk result (add_path (draft_view draft.old) argument.now
-        ≡ Ok (draft_view draft.new)) }
-    ensures stops { IfErr result (IsStopOf (HasMorePaths (draft_view draft.old))
-        (add_path (draft_view draft.old) argument.now)) }
-{
-    if draft.paths.len() == 3 {
-        return Err(NoCommand::Wrong(WrongArgument::Unexpected(argument)));
-    }
-    draft.paths.push(argument)?;
-    Ok(())
-}
-
-/// Takes up an argument that begins as options do.
-fn take_option<'a>(
-    command: &mut Command<'a>,
-    draft: &mut Draft<'a>,
-    argument: &'a str,
-) -> Result<(), NoCommand<'a>>
-    ensures taken { OnOk result (take_option (command_view command.old) (draft_view draft.old)
-        argument.now ≡ Ok (command_view command.new, draft_view draft.new)) }
-    ensures stops { let c = command_view command.old in let d = draft_view draft.old in
-        IfErr result (IsStopOf (KeepsMore c d) (take_option c d argument.now)) }
-{
-    if argument == "--help" || argument == "-h" {
-        return Err(NoCommand::Help);
-    }
-    if argument == "--version" {
-        return Err(NoCommand::Version);
-    }
-    take_flag(command, draft, argument)
-}
-
-/// Takes up an argument that is an option by itself, or else has a value.
-fn take_flag<'a>(
-    command: &mut Command<'a>,
-    draft: &mut Draft<'a>,
-    argument: &'a str,
-) -> Result<(), NoCommand<'a>>
-    ensures taken { OnOk result (take_flag (command_view command.old) (draft_view draft.old)
-        argument.now (flag_of argument.now)
-        ≡ Ok (command_view command.new, draft_view draft.new)) }
-    ensures stops { let c = command_view command.old in let d = draft_view draft.old in
-        IfErr result (IsStopOf (KeepsMore c d)
-        (take_flag c d argument.now (flag_of argument.now))) }
-{
-    match flag(argument) {
-        Some(option) => add_option(command, argument, option),
-        None => take_valued(command, draft, argument),
-    }
-}
-
-/// Takes up an argument that has a value, in itself or in the next one.
-fn take_valued<'a>(
-    command: &mut Command<'a>,
-    draft: &mut Draft<'a>,
-    argument: &'a str,
-) -> Result<(), NoCommand<'a>>
-    ensures taken { OnOk result (take_valued (command_view command.old) (draft_view draft.old)
-        argument.now ≡ Ok (command_view command.new, draft_view draft.new)) }
-    ensures stops { let c = command_view command.old in let d = draft_view draft.old in
-        IfErr result (IsStopOf (KeepsMore c d) (take_valued c d argument.now)) }
-{
-    if takes_value(argument) {
-        draft.pending = Some(argument);
-        return Ok(());
-    }
-    match pair(argument) {
-        Some((option, value)) if takes_value(option) => add_value(command, option, value),
-        _ => Err(NoCommand::Wrong(WrongArgument::UnknownOption(argument))),
-    }
-}
-
-/// Adds the option of this name with this value.
-fn add_value<'a>(
-    command: &mut Command<'a>,
-    option: &'a str,
-    value: &'a str,
-) -> Result<(), NoCommand<'a>>
-    ensures added { OnOk result (add_value (command_view command.old) option.now value.now
-        ≡ Ok (command_view command.new)) }
-    ensures stops { let c = command_view command.old in
-        IfErr result (IsStopOf (HasMoreOptions c) (add_value c option.now value.now)) }
-{
-    match valued(option, value) {
-        Some(valued) => add_option(command, option, valued),
-        None => Err(NoCommand::Wrong(WrongArgument::NotAPair { option, value })),
-    }
-}
-
-/// The command with the paths and the world that were read, if both paths were.
-fn finish<'a>(command: Command<'a>, draft: &Draft<'a>) -> Result<Command<'a>, NoCommand<'a>>
-    ensures { IsReadWithoutMemory result
-        (finish (command_view command.entry) (draft_view draft.now)) }
-{
-    if let Some(option) = draft.pending {
-        return Err(NoCommand::Wrong(WrongArgument::MissingValue(option)));
-    }
-    let mut command = command;
-    match draft.paths.as_slice() {
-        [worlds, world, main, ..] => {
-            command.worlds = worlds;
-            command.world = Some(world);
-            command.main = main;
-            fitting(command)
-        }
-        [worlds, main] => {
-            command.worlds = worlds;
-            command.world = None;
-            command.main = main;
-            fitting(command)
-        }
+    let words = texts(alloc, options(), arguments)?;
+    match words.as_slice() {
+        [worlds, world, main, ..] => finish_paths(alloc, arguments, worlds, Some(world), main),
+        [worlds, main] => finish_paths(alloc, arguments, worlds, None, main),
         [_] => Err(NoCommand::Wrong(WrongArgument::Missing("MAIN.wasm"))),
         [] => Err(NoCommand::Wrong(WrongArgument::Missing("WORLDS.json"))),
     }
 }
 
+/// The command with these paths, and this world, if one is named.
+fn finish_paths<'a>(
+    alloc: Global,
+    arguments: &'a [String],
+    worlds: &'a str,
+    world: Option<&'a str>,
+    main: &'a str,
+) -> Result<Command<'a>, NoCommand<'a>>
+    ensures { IsRead command_view ⊤ result (fitting (command_with
+        (said_by option_table (texts_in arguments.now)) worlds.now
+        (option_map text_of world.entry) main.now)) }
+{
+    let modules = modules_of(alloc, arguments)?;
+    fitting(command_from(arguments, worlds, world, main, modules))
+}
+
+/// The command with these paths, this world and these modules.
+fn command_from<'a>(
+    arguments: &'a [String],
+    worlds: &'a str,
+    world: Option<&'a str>,
+    main: &'a str,
+    modules: Modules<'a>,
+) -> Command<'a>
+    requires { AreModules (said_by option_table (texts_in arguments.now)) modules }
+    ensures { command_view result ≡ command_with
+        (said_by option_table (texts_in arguments.now)) worlds.now
+        (option_map text_of world.entry) main.now }
+{
+    Command {
+        worlds,
+        world,
+        main,
+        adapters: modules.adapters,
+        exports: modules.exports,
+        adapter_exports: modules.adapter_exports,
+        reject_legacy_names: has_option(arguments, "--reject-legacy-names"),
+        realloc_via_memory_grow: has_option(arguments, "--realloc-via-memory-grow"),
+        task_hook: option_value(arguments, "--task-hook"),
+        json: has_option(arguments, "--json"),
+        why: option_value(arguments, "--why"),
+        dot: has_option(arguments, "--dot"),
+        out: option_value(arguments, "--out"),
+    }
+}
+
+/// Whether the option of this name is given.
+fn has_option(arguments: &[String], name: &str) -> bool
+    ensures { result ≡ is_given name.now (said_by option_table (texts_in arguments.now)) }
+{
+    is_given(options(), arguments, name)
+}
+
+/// The value of the option of this name.
+fn option_value<'a>(arguments: &'a [String], name: &str) -> Option<&'a str>
+    ensures { option_map text_of result
+        ≡ first (values_of name.now (said_by option_table (texts_in arguments.now))) }
+{
+    value(options(), arguments, name)
+}
+
+/// What a command says of modules.
+#[derive(Drop)]
+struct Modules<'a> {
+    adapters: Vec<(&'a str, &'a str)>,
+    exports: Vec<&'a str>,
+    adapter_exports: Vec<(&'a str, &'a str)>,
+}
+
+/// What arguments say of modules.
+fn modules_of(alloc: Global, arguments: &[String]) -> Result<Modules<'_>, AllocError>
+    ensures { IfOk result (AreModules (said_by option_table (texts_in arguments.now))) }
+{
+    let adapters = adapters_of(alloc, &values(alloc, options(), arguments, "--adapt")?)?;
+    let exports = values(alloc, options(), arguments, "--export")?;
+    let given = values(alloc, options(), arguments, "--adapter-export")?;
+    let adapter_exports = pairs_of(alloc, &given)?;
+    Ok(Modules {
+        adapters,
+        exports,
+        adapter_exports,
+    })
+}
+
+/// The names and the files of adapters.
+fn adapters_of<'a>(alloc: Global, values: &[&'a str]) -> Result<Vec<(&'a str, &'a str)>, AllocError>
+    ensures { IfOk result (λ v. map text_pair v.items
+        ≡ map adapter_file_of (map text_of values.now)) }
+{
+    let mut found = Vec::new(alloc);
+    for value in values {
+        found.push(adapter_file(value))?;
+    }
+    Ok(found)
+}
+
+/// The names of adapters, and keys.
+fn pairs_of<'a>(alloc: Global, values: &[&'a str]) -> Result<Vec<(&'a str, &'a str)>, AllocError>
+    ensures { IfOk result (λ v. map text_pair v.items ≡ map pair_or (map text_of values.now)) }
+{
+    let mut found = Vec::new(alloc);
+    for value in values {
+        found.push(pair_or(value))?;
+    }
+    Ok(found)
+}
+
+/// The texts before and after the first `=`; all and none, where there is no `=`.
+fn pair_or(value: &str) -> (&str, &str)
+    ensures { (result.0.now, result.1.now) ≡ pair_or value.now }
+{
+    match pair(value) {
+        Some((name, key)) => (name, key),
+        None => (value, ""),
+    }
+}
+
 /// The command, if its options and files fit together.
 fn fitting<'a>(command: Command<'a>) -> Result<Command<'a>, NoCommand<'a>>
-    ensures { IsReadWithoutMemory result (fitting (command_view command.entry)) }
+    ensures { IsReadWithoutMemory command_view result (fitting (command_view command.entry)) }
 {
     if command.dot && command.why.is_none() {
         return Err(NoCommand::Wrong(WrongArgument::Missing("--why")));
@@ -376,70 +337,6 @@ pub(crate) fn is_standard(path: &str) -> bool
     path == "-"
 }
 
-/// The option that an argument is by itself.
-fn flag(argument: &str) -> Option<CommandOption<'_>>
-    ensures { option_map option_view result ≡ flag_of argument.now }
-{
-    if argument == "--reject-legacy-names" {
-        Some(CommandOption::RejectLegacyNames)
-    } else if argument == "--realloc-via-memory-grow" {
-        Some(CommandOption::ReallocViaMemoryGrow)
-    } else if argument == "--json" {
-        Some(CommandOption::Json)
-    } else if argument == "--dot" {
-        Some(CommandOption::Dot)
-    } else {
-        None
-    }
-}
-
-/// Whether an option of this name has a value.
-#[tactic(auto, unfolding(crate::specs::Reading::takes_value))]
-fn takes_value(option: &str) -> bool
-    ensures { result ≡ takes_value option.now }
-{
-    takes_module_value(option) || option == "--task-hook" || option == "--why" || option == "--out"
-}
-
-/// Whether an option of this name has a value, and may come several times.
-fn takes_module_value(option: &str) -> bool
-    ensures { result ≡ takes_module_value option.now }
-{
-    option == "--adapt" || option == "--export" || option == "--adapter-export"
-}
-
-/// The option of this name with this value.
-fn valued<'a>(argument: &str, value: &'a str) -> Option<CommandOption<'a>>
-    ensures { option_map option_view result ≡ valued_of argument.now value.now }
-{
-    if argument == "--task-hook" {
-        Some(CommandOption::TaskHook { name: value })
-    } else if argument == "--why" {
-        Some(CommandOption::Why { key: value })
-    } else if argument == "--out" {
-        Some(CommandOption::Out { directory: value })
-    } else {
-        module_valued(argument, value)
-    }
-}
-
-/// The option of this name with this value, if one of this name may come several times.
-fn module_valued<'a>(argument: &str, value: &'a str) -> Option<CommandOption<'a>>
-    ensures { option_map option_view result ≡ module_valued_of argument.now value.now }
-{
-    if argument == "--adapt" {
-        let (name, file) = adapter_file(value);
-        Some(CommandOption::Adapt { name, file })
-    } else if argument == "--export" {
-        Some(CommandOption::Export { key: value })
-    } else if argument == "--adapter-export" {
-        let (name, key) = pair(value)?;
-        Some(CommandOption::AdapterExport { name, key })
-    } else {
-        None
-    }
-}
-
 /// The name and the file of an adapter: the texts before and after the first `=`; or else the file's own name.
 fn adapter_file(value: &str) -> (&str, &str)
     ensures { (result.0.now, result.1.now) ≡ adapter_file_of value.now }
@@ -468,69 +365,4 @@ fn stem(name: &str) -> &str
         Some((stem, _rest)) => stem,
         None => name,
     }
-}
-
-/// The texts before and after the first `=`.
-fn pair(text: &str) -> Option<(&str, &str)>
-    ensures { option_map (λ p. (p.0.now, p.1.now)) result ≡ pair_of text.now }
-{
-    text.split_once('=')
-}
-
-/// Adds an option of this name to a command.
-fn add_option<'a>(
-    command: &mut Command<'a>,
-    name: &'a str,
-    option: CommandOption<'a>,
-) -> Result<(), NoCommand<'a>>
-    ensures added { OnOk result (add_option (command_view command.old) name.now
-        (option_view option.entry) ≡ Ok (command_view command.new)) }
-    ensures stops { let c = command_view command.old in
-        IfErr result (IsStopOf (HasMoreOptions c)
-        (add_option c name.now (option_view option.entry))) }
-{
-    match option {
-        CommandOption::Adapt { name, file } => command.adapters.push((name, file))?,
-        CommandOption::Export { key } => command.exports.push(key)?,
-        CommandOption::AdapterExport { name, key } => command.adapter_exports.push((name, key))?,
-        CommandOption::RejectLegacyNames => set(&mut command.reject_legacy_names, name)?,
-        CommandOption::ReallocViaMemoryGrow => set(&mut command.realloc_via_memory_grow, name)?,
-        CommandOption::Json => set(&mut command.json, name)?,
-        CommandOption::Dot => set(&mut command.dot, name)?,
-        CommandOption::Why { key } => set_text(&mut command.why, name, key)?,
-        CommandOption::TaskHook { name: hook } => set_text(&mut command.task_hook, name, hook)?,
-        CommandOption::Out { directory } => set_text(&mut command.out, name, directory)?,
-    }
-    Ok(())
-}
-
-/// Sets the value of an option of this name, which is given once.
-fn set_text<'a>(
-    held: &mut Option<&'a str>,
-    name: &'a str,
-    value: &'a str,
-) -> Result<(), NoCommand<'a>>
-    ensures set { OnOk result ((held.old ≡ None) × (held.new ≡ Some value.entry)) }
-    ensures repeated { IfErr result (λ e.
-        (e ≡ NoCommand.Wrong (WrongArgument.RepeatedOption name.entry))
-        × (is_some held.old ≡ true)) }
-{
-    if held.is_some() {
-        return Err(NoCommand::Wrong(WrongArgument::RepeatedOption(name)));
-    }
-    *held = Some(value);
-    Ok(())
-}
-
-/// Sets the flag of an option of this name, which is given once.
-fn set<'a>(flag: &mut bool, name: &'a str) -> Result<(), NoCommand<'a>>
-    ensures set { OnOk result ((flag.old ≡ false) × (flag.new ≡ true)) }
-    ensures repeated { IfErr result (λ e.
-        (e ≡ NoCommand.Wrong (WrongArgument.RepeatedOption name.entry)) × (flag.old ≡ true)) }
-{
-    if *flag {
-        return Err(NoCommand::Wrong(WrongArgument::RepeatedOption(name)));
-    }
-    *flag = true;
-    Ok(())
 }

@@ -13,7 +13,7 @@ ghost use Rattle.wc_program.specs.Program.{Prints, failure, success, wrong_argum
 ghost use Rattle.wcplan_command.specs.Fault.{NeedsText};
 ghost use Rattle.wcplan_command.specs.Program.{CommandEnds, EndsWell, EndsWith, EndsWithout, EndsWithoutArguments, IsEncoderOf, IsPlanned, IsReported, IsReportedAs, IsRunCause, PrintsAsked, ProgramEnds};
 ghost use Rattle.wcplan_command.specs.Private.Runs.{AnswersStop, IsMadeFor};
-ghost use Rattle.wcplan_command.specs.Usage.{fault_and_usage, fault_line, help_text};
+ghost use Rattle.wcplan_command.specs.Usage.{fault_and_usage, fault_line, help_text, usage_text};
 ghost use Rattle.wcplan_command.specs.Warnings.{AreWarned};
 
 use crate::arguments::{Command, NoCommand, parse};
@@ -22,12 +22,13 @@ use crate::fault::{ProgramFault, UNPRINTED};
 use crate::inputs::read_encoder;
 use crate::json_faults::report_json;
 use crate::outputs::{description_of, outputs_of, write_and_print};
-use crate::usage::{AND_USAGE, NO_TEXT, OPTIONS, USAGE, VERSION};
+use crate::usage::{NO_TEXT, VERSION, page};
 use crate::warnings::warnings_of;
 use std::alloc::{AllocError, Global};
 use std::io::{self, ErrorKind};
 use wc_encoder::ComponentEncoder;
 use wc_maps::Seed;
+use wc_options::{Help, Usage, WrongCall};
 use wc_plan::laws::worlds_nameable;
 use wc_plan::{Plan, plan_explained};
 use wc_program::{
@@ -97,7 +98,7 @@ impl<F: DirectoryStore, O: Screen, E: Screen> Program<F, O, E> for Wcplan {
 
     fn run_without(&self, why: NoArguments, shell: &mut Shell<F, O, E>) -> u8 {
         match why {
-            NoArguments::Empty => print_asked(&mut shell.out, &mut shell.err, &Text(USAGE)),
+            NoArguments::Empty => print_usage(&mut shell.out, &mut shell.err),
             NoArguments::NoMemory => print_fault(&mut shell.err, OUT_OF_MEMORY),
             NoArguments::NoText => print_usage_fault(&mut shell.err, NO_TEXT),
         }
@@ -336,17 +337,20 @@ fn report_made<E: Screen>(alloc: Global, err: &mut E, fault: &ProgramFault<'_>) 
     }
 }
 
+/// Prints the usage text. The answer is the exit status.
+fn print_usage<O: Screen, E: Screen>(out: &mut O, err: &mut E) -> u8
+    ensures { PrintsAsked usage_text
+        (Becomes O.ends out.old out.new) (Becomes E.ends err.old err.new) result }
+{
+    print_asked(out, err, &Usage(page()))
+}
+
 /// Prints the help text. The answer is the exit status.
 fn print_help<O: Screen, E: Screen>(out: &mut O, err: &mut E) -> u8
     ensures { PrintsAsked help_text
         (Becomes O.ends out.old out.new) (Becomes E.ends err.old err.new) result }
 {
-    let text = TextBetween {
-        before: USAGE,
-        text: &Text(OPTIONS),
-        after: "",
-    };
-    print_asked(out, err, &text)
+    print_asked(out, err, &Help(page()))
 }
 
 /// Prints a text that was asked for; or to `err` that it could not be. The answer is the exit status.
@@ -385,10 +389,10 @@ fn print_usage_fault<E: Screen>(err: &mut E, text: &str) -> u8
     ensures { Prints (fault_and_usage text.now) wrong_arguments
         (Becomes E.ends err.old err.new) result }
 {
-    let lines = TextBetween {
-        before: "wcplan: ",
-        text: &Text(text),
-        after: AND_USAGE,
+    let lines = WrongCall {
+        start: "wcplan: ",
+        text,
+        page: page(),
     };
     print(err, &lines, WRONG_ARGUMENTS)
 }

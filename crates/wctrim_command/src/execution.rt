@@ -249,15 +249,15 @@ fn scan<S: Sink>(
 /// Puts a line for each import and export of a module.
 fn scan_module<S: Sink>(
     out: &mut S,
-    module: &Module<'_>,
+    scanned: &Module<'_>,
 ) -> Result<(), Refused<CommandFault, TrimPlace>>
     ensures put { OnOk result (Appends (S.written out.old) (S.written out.new)
-        (scan_lines (module_value module.now))) }
+        (scan_lines (module_value scanned.now))) }
     ensures works { OnOk result (S.is_failed out.new ≡ S.is_failed out.old) }
     ensures fault { IfErr result (λ r. (r.fault ≡ CommandFault.Output) × (r.place ≡ None)) }
     ensures output { IfErr result (λ _. S.is_failed out.new ≡ true) }
 {
-    match put_scan(out, module) {
+    match put_scan(out, scanned) {
         Ok(()) => Ok(()),
         Err(PutFailed) => Err(Refused::without_place(CommandFault::Output)),
     }
@@ -281,13 +281,9 @@ fn trim(
     ensures place { IfErr result (λ r. IsTrimsPlace
         (trim_input_for_names input.now (names_of arguments.entry.exports.now)) r.fault r.place) }
 {
-    let TrimArguments {
-        realloc,
-        page_size_log2,
-        exports,
-    } = arguments;
-    let required = required_exports(alloc, seed, exports)?;
-    match run_explained(alloc, input, &required, realloc, page_size_log2) {
+    let required = required_exports(alloc, seed, arguments.exports)?;
+    let page_size_log2 = arguments.page_size_log2;
+    match run_explained(alloc, input, &required, arguments.realloc, page_size_log2) {
         Ok(bytes) => Ok(bytes),
         Err(refused) => Err(trim_refusal(refused)),
     }

@@ -1,5 +1,5 @@
 -- What was printed of an adapter, or why it could not be, as of the bytes that spell it.
-use Rattle.std.proofs.Common.{◌≡◌, ◌+◌, ◌<◌, ℕ, List, [], ◌∷◌, length, map, take, get_or, String, Global, string_bytes, None, Option, Result, Ok, Err, OnOk, IfErr, sym, ◌∙◌, ap, subst}
+use Rattle.std.proofs.Common.{◌≡◌, ◌+◌, ◌<◌, ℕ, List, [], ◌∷◌, length, map, take, get_or, String, Global, string_bytes, Option, Result, Ok, Err, OnOk, IfErr, sym, ◌∙◌, ap, subst}
 use Rattle.std.proofs.lemmas.List.{map-append, take_more}
 use Rattle.std.specs.Borrow.{Bor}
 use Rattle.indexmap.specs.IndexSet.{insert_key}
@@ -19,8 +19,7 @@ use Rattle.wc_gc.specs.declared.fault.GcFault.TheVariants.{Memory as gc_memory}
 use Rattle.wc_program.specs.Screen.{Printing, nothing}
 use Rattle.wcwhy_command.specs.Arguments.{CommandView, text_of}
 use Rattle.wcwhy_command.specs.Fault.{of_adapter}
-use Rattle.wcwhy_command.specs.Program.{HasNoCause, IsPrintCause, IsPrintedOf, IsReasonsText}
-use Rattle.wcwhy_command.specs.Patterns.{first_unknown}
+use Rattle.wcwhy_command.specs.Program.{HasNoCause, IsPrintCause, IsPrintedOf}
 use Rattle.wcwhy_command.specs.Private.Execution.{ArePrinted, IsReasonsCause, PrintsSome}
 use Rattle.wcwhy_command.specs.declared.fault.WhyFault.{WhyFault}
 use Rattle.wcwhy_command.specs.declared.fault.WhyFault.TheVariants.{Memory, NoImport, Output}
@@ -64,13 +63,6 @@ module _ (c : CommandView) (bytes : List ℕ) (m : ModuleValue) (spelled : Spell
   pub some_cause_of : {T : Type 0} (r : Result T WhyFault) → HasNoCause c bytes → IfErr r (IsReasonsCause c m out) → IfErr r (IsPrintCause c bytes out)
   some_cause_of (Ok x) none h = tt
   some_cause_of (Err f) none h = cause_of none f h
-
--- an adapter that has some of the imports that each option asks for
-pub printed_adapter : (c : CommandView) (m : ModuleValue) (names : List GlobalNameValue) (required : List (List ℕ)) (out : Printing → Type 0)
-    → required ≡ first_occurrences c.exports → first_unknown m.imports c.imports ≡ None → PrintsSome (IsReasonsText c.dot required m names c.imports) out
-    → ArePrinted c m names out
-printed_adapter c m names required out same known (text, is, shown) =
-    (text, known, subst (λ (r : List (List ℕ)). IsReasonsText c.dot r m names c.imports text) same is, shown)
 
 -- one more export, in the set of their names
 pub required_more : (keys new : List (String Global)) (xs : List (Bor (List ℕ))) (k : ℕ) (d : Bor (List ℕ)) (name : String Global) → k < length xs

@@ -1,8 +1,8 @@
-mod TextsLemmas
 pub mod JoinedLemmas
 pub mod ItemLemmas
 pub mod LineLemmas
 pub mod ExecutionLemmas
+mod AskedLemmas
 mod RunLemmas
 pub mod MarkLemmas
 mod PatternLemmas

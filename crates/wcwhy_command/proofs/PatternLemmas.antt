@@ -1,11 +1,7 @@
 -- Options that are gone through one after another.
-use Rattle.std.proofs.Common.{◌≡◌, ℕ, zero, suc, ◌+◌, ◌<◌, Bool, true, false, not, ◌==◌, List, [], ◌∷◌, length, map, take, get_or, Some, None, refl, subst, arith, inl, inr}
+use Rattle.std.proofs.Common.{◌≡◌, ℕ, zero, suc, ◌+◌, ◌<◌, Bool, true, false, List, [], ◌∷◌, length, map, take, get_or, Some, None, refl, subst, arith, inl, inr}
 use Rattle.std.proofs.lemmas.Bool.{cases_Bool}
-use Rattle.std.proofs.lemmas.Bool.Decides.{nat_tests}
 use Rattle.std.specs.List.{find, list_any}
-use Rattle.wcwhy_command.specs.Arguments.{pattern_view}
-use Rattle.wcwhy_command.specs.Patterns.{are_asked}
-use Rattle.wcwhy_command.specs.declared.arguments.ImportPattern.{ImportPattern}
 
 module _ {X Y : Type 0} (v : X → Y) (f : Y → Bool) where
   pub found_here : (xs : List X) (k : ℕ) (d : X) → k < length xs → find f (map v (take k xs)) ≡ None → f (v (get_or xs k d)) ≡ true
@@ -39,10 +35,3 @@ module _ {X Y : Type 0} (v : X → Y) (f : Y → Bool) where
     | inl yes_it ↦ rw yes_it refl
     | inr no_it ↦ rw no_it (any_here xs k d (omega arith) is)
   ]
-
-is_empty : (n : ℕ) → (suc n == 0) ≡ false
-is_empty n = grind (arith, nat_tests)
-
-pub asked_is : (patterns : List ImportPattern) → are_asked (map pattern_view patterns) ≡ not (length patterns == 0)
-asked_is [] = refl
-asked_is (p ∷ patterns) = rw (is_empty (length patterns)) refl

@@ -2,12 +2,13 @@
 use Rattle.std.proofs.Common.{◌≡◌, ℕ, List, Result, Ok, Err, OnOk, IfErr, sym, subst, inl, inr}
 use Rattle.wc_program.specs.Files.{FileChange, Holds}
 use Rattle.wc_program.specs.Screen.{Printing}
-use Rattle.wcwhy_command.specs.Arguments.{CommandView, IsStop, Reading, wrong_view}
+use Rattle.wc_options.specs.Wrong.{IsStop, Reading, wrong_view}
+use Rattle.wcwhy_command.specs.Arguments.{CommandView}
 use Rattle.wcwhy_command.specs.Reading.{AsksMemory, read_arguments}
 use Rattle.wcwhy_command.specs.Program.{CommandEnds, EndsWell, EndsWith, IsPrintCause, IsPrintedOf, IsRunCause, ReadingEnds, input_path}
 use Rattle.wcwhy_command.specs.Private.Execution.{AnswersStop, PrintsSome}
-use Rattle.wcwhy_command.specs.declared.arguments.NoCommand.{NoCommand}
-use Rattle.wcwhy_command.specs.declared.arguments.NoCommand.TheVariants.{Memory, Help, Version, Wrong}
+use Rattle.wc_options.specs.declared.wrong.NoCommand.{NoCommand}
+use Rattle.wc_options.specs.declared.wrong.NoCommand.TheVariants.{Memory, Help, Version, Wrong}
 use Rattle.wcwhy_command.specs.declared.fault.WhyFault.{WhyFault}
 use Rattle.wcwhy_command.specs.declared.fault.WhyFault.TheVariants.{Memory as why_memory, CannotRead}
 

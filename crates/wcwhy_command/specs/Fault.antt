@@ -1,5 +1,5 @@
 -- The texts of faults.
-use Rattle.std.specs.Prelude.{ℕ, List, [], ◌++◌, cond, codes, Option, Some, None, string_bytes}
+use Rattle.std.specs.Prelude.{⊤, ℕ, List, [], ◌++◌, cond, codes, Option, Some, None, string_bytes}
 use Rattle.std.specs.Option.{option_map}
 use Rattle.std.specs.Str.{bytes_eq}
 use Rattle.wc_gc.specs.declared.fault.GcFault.{GcFault}
@@ -55,6 +55,12 @@ why_fault_text (CannotRead path p) = unread_text path.now p
 why_fault_text (Adapter f place) = adapter_text f place
 why_fault_text (NoImport p near) = unknown_text (pattern_view p) (option_map string_bytes near)
 why_fault_text Output = codes "cannot print"
+
+-- memory is needed for the text of a fault, unless it is always the same
+abbrev pub NeedsText : WhyFault → Type 0
+NeedsText Memory = ⊥
+NeedsText Output = ⊥
+NeedsText f = ⊤
 
 -- the fault for one of liveness
 abbrev pub of_adapter : GcFault → Option TrimPlace → WhyFault

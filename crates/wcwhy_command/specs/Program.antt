@@ -20,13 +20,14 @@ use Rattle.wc_program.specs.Screen.{Printing, nothing, printed, failed}
 use Rattle.wc_program.specs.declared.files.FileProblem.TheVariants.{Memory as read_memory}
 use Rattle.wc_program.specs.declared.program.NoArguments.{NoArguments}
 use Rattle.wc_program.specs.declared.program.NoArguments.TheVariants.{Empty, NoMemory, NoText}
-use Rattle.wcwhy_command.specs.Arguments.{CommandView, PatternView, Reading, Stop, help, version, wrong, WrongView, pattern_view}
+use Rattle.wc_options.specs.Wrong.{Reading, Stop, WrongView, help, version, wrong, wrong_text}
+use Rattle.wcwhy_command.specs.Arguments.{CommandView, PatternView, pattern_view}
 use Rattle.wcwhy_command.specs.Reading.{AsksMemory, read_arguments}
-use Rattle.wcwhy_command.specs.Usage.{usage_text, help_text, version_text, wrong_text, no_text, fault_line, fault_and_usage}
+use Rattle.wcwhy_command.specs.Usage.{usage_text, help_text, version_text, no_text, fault_line, fault_and_usage}
 use Rattle.wcwhy_command.specs.Lines.{AreLines}
 use Rattle.wcwhy_command.specs.Graph.{IsGraph}
 use Rattle.wcwhy_command.specs.Patterns.{first_unknown}
-use Rattle.wcwhy_command.specs.Fault.{near_text, why_fault_text}
+use Rattle.wcwhy_command.specs.Fault.{NeedsText, near_text, why_fault_text}
 use Rattle.wcwhy_command.specs.declared.arguments.ImportPattern.{ImportPattern}
 use Rattle.wcwhy_command.specs.declared.fault.WhyFault.{WhyFault}
 use Rattle.wcwhy_command.specs.declared.fault.WhyFault.TheVariants.{Memory, CannotRead, Adapter, NoImport, Output}
@@ -91,10 +92,10 @@ IsRunCause c files out f = IsHeldCause c files.before out f
 abbrev pub EndsWell : CommandView → Option Held → (Printing → Type 0) → Type 0
 EndsWell c before out = (bytes text : List ℕ) × Holds before (input_path c.source) bytes × IsPrintedOf c bytes text × out (printed text)
 
--- a fault is printed in a line, or that there was no memory for its text
+-- a fault is printed in a line; or that there was no memory for its text, if memory is needed for it
 abbrev pub IsReported : WhyFault → (Printing → Type 0) → ℕ → Type 0
 IsReported fault err status =
-    (text : List ℕ) × ((text ≡ why_fault_text fault) ⊎ (text ≡ memory_text)) × Prints (fault_line text) failure err status
+    (text : List ℕ) × ((text ≡ why_fault_text fault) ⊎ (NeedsText fault × (text ≡ memory_text))) × Prints (fault_line text) failure err status
 
 -- there was no memory, which is printed
 abbrev pub EndsWithoutMemory : (Printing → Type 0) → (Printing → Type 0) → ℕ → Type 0

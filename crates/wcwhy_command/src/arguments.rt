@@ -1,12 +1,14 @@
 //! The arguments of the program.
 
-ghost use Rattle.std.specs.Prelude.{◌≡◌, IfErr, OnOk, false, map, string_bytes, true};
-ghost use Rattle.std.specs.Option.{option_map};
-ghost use Rattle.wcwhy_command.specs.Arguments.{IsRead, IsReadWithoutMemory, IsStopOf, command_view, pattern_view};
-ghost use Rattle.wcwhy_command.specs.Reading.{AsksMemory, KeepsMore, add_text, draft_view, finish, none_read, pair_of, pattern_of, plain_command, read_arguments, take_option, take_pair, take_up, with_import};
-ghost use Rattle.wcwhy_command.specs.declared.arguments.NoCommand.TheVariants.{Memory};
+ghost use Rattle.std.specs.Prelude.{◌≡◌, ◌<◌, IfOk, length, map};
+ghost use Rattle.wc_options.specs.Reading.{lines_of, plain_texts, said_by, texts_in};
+ghost use Rattle.wc_options.specs.Wrong.{IsRead};
+ghost use Rattle.wcwhy_command.specs.Arguments.{command_view, pattern_view, text_of};
+ghost use Rattle.wcwhy_command.specs.Reading.{AsksMemory, command_of, option_table, pattern_of, read_arguments};
 
-use std::alloc::{AllocFailed, Global};
+use std::alloc::{AllocError, Global};
+use wc_options::{ProgramOption, Value, check, is_given, pair, text_count, texts, values};
+pub use wc_options::{NoCommand, WrongArgument};
 
 /// A request to the program. Paths and names are any texts.
 #[derive(Debug, Drop)]
@@ -22,7 +24,7 @@ pub struct Command<'a> {
 }
 
 /// The imports that an option asks for: those of a module, or those of a module that have a name.
-#[derive(Clone, Copy, Debug, PartialEq, Eq)]
+#[derive(Clone, Copy, Debug, PartialEq, Eq, Hash)]
 pub struct ImportPattern<'a> {
     /// The name of the module, which has no `=`.
     pub module: &'a str,
@@ -30,50 +32,23 @@ pub struct ImportPattern<'a> {
     pub name: Option<&'a str>,
 }
 
-/// Why there is no command.
-#[derive(Clone, Copy, Debug, PartialEq, Eq)]
-pub enum NoCommand<'a> {
-    /// An allocation failed.
-    Memory,
-    /// The help text is asked for.
-    Help,
-    /// The version is asked for.
-    Version,
-    /// An argument is wrong, or missing.
-    Wrong(WrongArgument<'a>),
-}
-
-/// The first mistake in the arguments.
-#[derive(Clone, Copy, Debug, PartialEq, Eq)]
-pub enum WrongArgument<'a> {
-    /// There is no such option.
-    UnknownOption(&'a str),
-    /// Nothing comes after the option of this name, which has a value.
-    MissingValue(&'a str),
-    /// This option is given twice, and may be given once.
-    RepeatedOption(&'a str),
-    /// The argument that the usage text calls so is missing.
-    Missing(&'a str),
-}
-
-impl<T: Drop> From<AllocFailed<T>> for NoCommand<'_> {
-    ghost from_gives = { λ _ e. e ≡ Memory };
-
-    fn from(_e: AllocFailed<T>) -> Self {
-        NoCommand::Memory
-    }
-}
-
-/// The state of reading arguments, besides the command.
-#[derive(Clone, Copy)]
-struct Draft {
-    /// Whether the path of the adapter was read.
-    has_source: bool,
-    /// Whether the next argument is the value of `--import`.
-    is_pending: bool,
-    /// Whether no later argument is an option.
-    is_ended: bool,
-}
+/// The options.
+pub(crate) const OPTIONS: [ProgramOption; 2] = [
+    ProgramOption {
+        name: "--import",
+        value: Value::Text,
+        repeats: true,
+        usage: " [--import MODULE[=NAME]]...",
+        help: "  --import MODULE[=NAME]  an import that is asked for; else all that stay\n",
+    },
+    ProgramOption {
+        name: "--dot",
+        value: Value::Nothing,
+        repeats: false,
+        usage: " [--dot]",
+        help: "  --dot                   print a graph, in the language of Graphviz\n",
+    },
+];
 
 /// The command of these arguments, the first of them the one after the program's name: `IN` and one `EXPORT` or more in
 /// this order, and options before, between and after them. `--import MODULE[=NAME]` may come several times, `--dot`
@@ -87,134 +62,53 @@ struct Draft {
 ///
 /// - `Help`, `Version`: an option is `--help` or `-h`, or `--version`.
 /// - `Wrong`: an argument is wrong; or, after the last, the value of an option, or IN or EXPORT is missing.
-/// - `Memory`: an allocation failed. It may come in place of any other after an argument that is kept in a list: the value
-///   of `--import`, or an EXPORT. Without such an argument nothing is allocated.
+/// - `Memory`: an allocation failed. It may come only where nothing is wrong.
 pub fn parse(alloc: Global, arguments: &[String]) -> Result<Command<'_>, NoCommand<'_>>
-    ensures { IsRead (AsksMemory (map string_bytes arguments.now)) result
-        (read_arguments (map string_bytes arguments.now)) }
+    ensures { IsRead command_view (AsksMemory (texts_in arguments.now)) result
+        (read_arguments (texts_in arguments.now)) }
 {
-    let mut command = no_options(alloc);
-    let mut draft = Draft {
-        has_source: false,
-        is_pending: false,
-        is_ended: false,
-    };
-    for argument in arguments {
-        take_up(&mut command, &mut draft, argument.as_str())?;
-    }
-    finish(command, &draft)
-}
-
-/// The command without options and exports, whose path is empty.
-fn no_options<'a>(alloc: Global) -> Command<'a>
-    ensures { command_view result ≡ plain_command }
-{
-    Command {
-        source: "",
-        imports: Vec::new(alloc),
-        dot: false,
-        exports: Vec::new(alloc),
+    check(options(), None, arguments)?;
+    match text_count(options(), arguments) {
+        0 => Err(NoCommand::Wrong(WrongArgument::Missing("IN"))),
+        1 => Err(NoCommand::Wrong(WrongArgument::Missing("EXPORT"))),
+        _ => Ok(command_of(alloc, arguments)?),
     }
 }
 
-/// Takes up the next argument.
-fn take_up<'a>(
-    command: &mut Command<'a>,
-    draft: &mut Draft,
-    argument: &'a str,
-) -> Result<(), NoCommand<'a>>
-    ensures taken { OnOk result (take_up (command_view command.old) (draft_view draft.old)
-        argument.now ≡ Ok (command_view command.new, draft_view draft.new)) }
-    ensures stops { let c = command_view command.old in let d = draft_view draft.old in
-        IfErr result (IsStopOf (KeepsMore c) (take_up c d argument.now)) }
+/// The options as a table.
+fn options() -> &'static [ProgramOption]
+    ensures { lines_of result.now ≡ option_table }
 {
-    if draft.is_ended {
-        return add_text(command, draft, argument);
-    }
-    if draft.is_pending {
-        draft.is_pending = false;
-        return add_import(command, argument);
-    }
-    if argument == "--" {
-        draft.is_ended = true;
-        return Ok(());
-    }
-    if argument.starts_with('-') && argument != "-" {
-        take_option(command, draft, argument)
-    } else {
-        add_text(command, draft, argument)
-    }
+    &OPTIONS
 }
 
-/// Takes up an argument that is no option: the path of the adapter, and then an export.
-fn add_text<'a>(
-    command: &mut Command<'a>,
-    draft: &mut Draft,
-    argument: &'a str,
-) -> Result<(), NoCommand<'a>>
-    ensures added { OnOk result (add_text (command_view command.old) (draft_view draft.old)
-        argument.now ≡ Ok (command_view command.new, draft_view draft.new)) }
-    ensures stops { let c = command_view command.old in let d = draft_view draft.old in
-        IfErr result (IsStopOf (KeepsMore c) (add_text c d argument.now)) }
+/// The command of arguments that are read, two of which at least are no options.
+fn command_of(alloc: Global, arguments: &[String]) -> Result<Command<'_>, AllocError>
+    requires { 1 < length (plain_texts (said_by option_table (texts_in arguments.now))) }
+    ensures { IfOk result (λ c. command_view c
+        ≡ command_of (said_by option_table (texts_in arguments.now))) }
 {
-    if draft.has_source {
-        command.exports.push(argument)?;
-    } else {
-        command.source = argument;
-        draft.has_source = true;
-    }
-    Ok(())
+    let words = texts(alloc, options(), arguments)?;
+    let imports = patterns(alloc, &values(alloc, options(), arguments, "--import")?)?;
+    let exports = Vec::from_slice(alloc, &words[1..])?;
+    Ok(Command {
+        source: words[0],
+        imports,
+        dot: is_given(options(), arguments, "--dot"),
+        exports,
+    })
 }
 
-/// Takes up an argument that begins as options do.
-fn take_option<'a>(
-    command: &mut Command<'a>,
-    draft: &mut Draft,
-    argument: &'a str,
-) -> Result<(), NoCommand<'a>>
-    ensures taken { OnOk result (take_option (command_view command.old) (draft_view draft.old)
-        argument.now ≡ Ok (command_view command.new, draft_view draft.new)) }
-    ensures stops { let c = command_view command.old in let d = draft_view draft.old in
-        IfErr result (IsStopOf (KeepsMore c) (take_option c d argument.now)) }
+/// The imports that the values of an option ask for.
+fn patterns<'a>(alloc: Global, values: &[&'a str]) -> Result<Vec<ImportPattern<'a>>, AllocError>
+    ensures { IfOk result (λ v. map pattern_view v.items
+        ≡ map pattern_of (map text_of values.now)) }
 {
-    if argument == "--help" || argument == "-h" {
-        return Err(NoCommand::Help);
+    let mut found = Vec::new(alloc);
+    for value in values {
+        found.push(pattern(value))?;
     }
-    if argument == "--version" {
-        return Err(NoCommand::Version);
-    }
-    if argument == "--dot" {
-        return set_dot(&mut command.dot, argument);
-    }
-    if argument == "--import" {
-        draft.is_pending = true;
-        return Ok(());
-    }
-    take_pair(command, argument)
-}
-
-/// Takes up an argument that is `--import=MODULE[=NAME]`.
-fn take_pair<'a>(command: &mut Command<'a>, argument: &'a str) -> Result<(), NoCommand<'a>>
-    ensures taken { OnOk result (take_pair (command_view command.old) argument.now
-        ≡ Ok (command_view command.new)) }
-    ensures stops { let c = command_view command.old in
-        IfErr result (IsStopOf (λ next. KeepsMore c (next, none_read))
-        (take_pair c argument.now)) }
-{
-    match pair(argument) {
-        Some((option, value)) if option == "--import" => add_import(command, value),
-        _ => Err(NoCommand::Wrong(WrongArgument::UnknownOption(argument))),
-    }
-}
-
-/// Adds the pattern of an option `--import`.
-fn add_import<'a>(command: &mut Command<'a>, value: &'a str) -> Result<(), NoCommand<'a>>
-    ensures added { OnOk result (with_import (command_view command.old) value.now
-        ≡ command_view command.new) }
-    ensures memory { IfErr result (λ e. e ≡ NoCommand.Memory) }
-{
-    command.imports.push(pattern(value))?;
-    Ok(())
+    Ok(found)
 }
 
 /// The imports that the value of an option asks for.
@@ -231,41 +125,4 @@ fn pattern(value: &str) -> ImportPattern<'_>
             name: None,
         },
     }
-}
-
-/// The texts before and after the first `=`.
-fn pair(text: &str) -> Option<(&str, &str)>
-    ensures { option_map (λ p. (p.0.now, p.1.now)) result ≡ pair_of text.now }
-{
-    text.split_once('=')
-}
-
-/// Asks for a graph, by an option of this name, which is given once.
-fn set_dot<'a>(dot: &mut bool, name: &'a str) -> Result<(), NoCommand<'a>>
-    ensures set { OnOk result ((dot.old ≡ false) × (dot.new ≡ true)) }
-    ensures repeated { IfErr result (λ e.
-        (e ≡ NoCommand.Wrong (WrongArgument.RepeatedOption name.entry)) × (dot.old ≡ true)) }
-{
-    if *dot {
-        return Err(NoCommand::Wrong(WrongArgument::RepeatedOption(name)));
-    }
-    *dot = true;
-    Ok(())
-}
-
-/// Refuses arguments that end in `--import`, or lack IN or EXPORT, in this order.
-fn finish<'a>(command: Command<'a>, draft: &Draft) -> Result<Command<'a>, NoCommand<'a>>
-    ensures { IsReadWithoutMemory result
-        (finish (command_view command.entry) (draft_view draft.now)) }
-{
-    if draft.is_pending {
-        return Err(NoCommand::Wrong(WrongArgument::MissingValue("--import")));
-    }
-    if !draft.has_source {
-        return Err(NoCommand::Wrong(WrongArgument::Missing("IN")));
-    }
-    if command.exports.is_empty() {
-        return Err(NoCommand::Wrong(WrongArgument::Missing("EXPORT")));
-    }
-    Ok(command)
 }

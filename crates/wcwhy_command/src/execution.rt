@@ -11,10 +11,10 @@ ghost use Rattle.wcwhy_command.specs.Private.Reasons.{AreReasons, IsSearched, Is
 ghost use Rattle.wcwhy_command.specs.Private.Execution.{ArePrinted, IsNoImportFault, IsReasonsCause, PrintsSome};
 
 use crate::arguments::{Command, ImportPattern};
+use crate::asked::Asked;
 use crate::fault::{PrintFault, WhyFault, near_text};
 use crate::graph::put_graph;
 use crate::lines::put_lines;
-use crate::patterns::first_unknown;
 use crate::reasons::{Found, Reasons};
 use std::alloc::{AllocError, Global};
 use wc_gc::why_imports_explained;
@@ -130,13 +130,39 @@ fn print_adapter<'a, O: Output>(
         (adapter_in reasons.now)
         (Becomes (output_ends O.written O.sent O.is_failed) out.old out.new)) }
 {
-    match first_unknown(&command.imports, &reasons.adapter.imports) {
-        Some(pattern) => Err(no_import(alloc, pattern, &reasons.adapter.imports)),
-        None => match put_and_flush(alloc, command, reasons, out) {
+    match Asked::new(alloc, *reasons.required.hasher(), &command.imports) {
+        Ok(asked) => print_asked(alloc, command, &asked, reasons, out),
+        Err(AllocError) => Err(WhyFault::Memory),
+    }
+}
+
+/// The same, where what options ask for is made ready to look for.
+fn print_asked<'a, O: Output>(
+    alloc: Global,
+    command: &Command<'a>,
+    asked: &Asked<'_, 'a>,
+    reasons: &Reasons<'_, '_>,
+    out: &mut O,
+) -> Result<(), WhyFault<'a>>
+    requires chains { AreReasons reasons.now }
+    requires required { required_in reasons.now
+        ≡ first_occurrences (map text_of command.now.exports.items) }
+    requires asked { asked.now ≡ (command_view command.now).imports }
+    ensures done { OnOk result (ArePrinted (command_view command.now)
+        (adapter_in reasons.now) (names_in reasons.now)
+        (Becomes (output_ends O.written O.sent O.is_failed) out.old out.new)) }
+    ensures fault { IfErr result (IsReasonsCause (command_view command.now)
+        (adapter_in reasons.now)
+        (Becomes (output_ends O.written O.sent O.is_failed) out.old out.new)) }
+{
+    match asked.first_unknown(alloc, &reasons.adapter.imports) {
+        Ok(Some(pattern)) => Err(no_import(alloc, pattern, &reasons.adapter.imports)),
+        Ok(None) => match put_and_flush(alloc, command.dot, asked, reasons, out) {
             Ok(()) => Ok(()),
             Err(PrintFault::Memory) => Err(WhyFault::Memory),
             Err(PrintFault::Output) => Err(WhyFault::Output),
         },
+        Err(AllocError) => Err(WhyFault::Memory),
     }
 }
 
@@ -153,17 +179,18 @@ fn no_import<'a>(alloc: Global, pattern: ImportPattern<'a>, imports: &[Import<'_
 /// Puts why imports of an adapter stay, and flushes it.
 fn put_and_flush<O: Output>(
     alloc: Global,
-    command: &Command<'_>,
+    dot: bool,
+    asked: &Asked<'_, '_>,
     reasons: &Reasons<'_, '_>,
     out: &mut O,
 ) -> Result<(), PrintFault>
     requires { AreReasons reasons.now }
-    ensures done { OnOk result (PrintsSome (IsTextOfReasons reasons.now command.now.dot
-        (command_view command.now).imports)
+    ensures done { OnOk result (PrintsSome (IsTextOfReasons reasons.now dot
+        asked.now)
         (Becomes (output_ends O.written O.sent O.is_failed) out.old out.new)) }
     ensures output { IsErrOf result PrintFault.Output → O.is_failed out.new ≡ true }
 {
-    put_reasons(alloc, command, reasons, out)?;
+    put_reasons(alloc, dot, asked, reasons, out)?;
     out.flush()?;
     Ok(())
 }
@@ -171,19 +198,20 @@ fn put_and_flush<O: Output>(
 /// Puts why imports of an adapter stay: as a graph, if it is asked for, or else in lines.
 fn put_reasons<S: Sink>(
     alloc: Global,
-    command: &Command<'_>,
+    dot: bool,
+    asked: &Asked<'_, '_>,
     reasons: &Reasons<'_, '_>,
     out: &mut S,
 ) -> Result<(), PrintFault>
     requires { AreReasons reasons.now }
-    ensures done { OnOk result (PutsSome (IsTextOfReasons reasons.now command.now.dot
-        (command_view command.now).imports) (S.written out.old) (S.written out.new)) }
+    ensures done { OnOk result (PutsSome (IsTextOfReasons reasons.now dot
+        asked.now) (S.written out.old) (S.written out.new)) }
     ensures works { OnOk result (S.is_failed out.new ≡ S.is_failed out.old) }
     ensures output { IsErrOf result PrintFault.Output → S.is_failed out.new ≡ true }
 {
-    if command.dot {
-        put_graph(alloc, &command.imports, reasons, out)
+    if dot {
+        put_graph(alloc, asked, reasons, out)
     } else {
-        put_lines(alloc, &command.imports, reasons, out)
+        put_lines(alloc, asked, reasons, out)
     }
 }

@@ -1,10 +1,10 @@
 //! Why the program could not do what its arguments say.
 
-ghost use Rattle.std.specs.Prelude.{◌≡◌, IfOk, map, string_bytes};
+ghost use Rattle.std.specs.Prelude.{◌≡◌, IfNone, IfOk, IfSome, map, string_bytes};
 ghost use Rattle.std.specs.Option.{option_map};
 ghost use Rattle.wc_read.specs.Imports.{import_value};
 ghost use Rattle.wcwhy_command.specs.Arguments.{pattern_view};
-ghost use Rattle.wcwhy_command.specs.Fault.{adapter_text, given_word, near_text, pattern_text, unknown_text, unread_text, why_fault_text};
+ghost use Rattle.wcwhy_command.specs.Fault.{NeedsText, adapter_text, given_word, near_text, pattern_text, unknown_text, unread_text, why_fault_text};
 
 use crate::arguments::ImportPattern;
 use crate::patterns::{near_import, near_pattern};
@@ -14,7 +14,7 @@ use wc_gc::{GcFault, TrimPlace};
 use wc_json::escaped;
 use wc_program::{FileProblem, problem_text};
 use wc_read::Import;
-use wc_texts::{PutFailed, Refused, text_of};
+use wc_texts::{OUT_OF_MEMORY, PutFailed, Refused, text_of};
 
 /// Why the program could not do what its arguments say. `run_command` says which of several causes is named; `Memory`
 /// may come in place of any.
@@ -45,14 +45,29 @@ impl WhyFault<'_> {
         ensures { IfOk result (λ text. string_bytes text ≡ why_fault_text self.now) }
     {
         match self {
-            WhyFault::Memory => String::from_str(alloc, "out of memory"),
+            WhyFault::Memory => String::from_str(alloc, OUT_OF_MEMORY),
             WhyFault::CannotRead(path, problem) => unread_text(alloc, path, *problem),
             WhyFault::Adapter(fault, place) => adapter_text(alloc, fault, place),
             WhyFault::NoImport(pattern, near) => unknown_text(alloc, pattern, near),
-            WhyFault::Output => String::from_str(alloc, "cannot print"),
+            WhyFault::Output => String::from_str(alloc, UNPRINTED),
+        }
+    }
+
+    /// The text of the fault, where it is always the same.
+    pub(crate) fn fixed_text(&self) -> Option<&'static str>
+        ensures whole { IfSome result (λ text. text.now ≡ why_fault_text self.now) }
+        ensures none { IfNone result (NeedsText self.now) }
+    {
+        match self {
+            WhyFault::Memory => Some(OUT_OF_MEMORY),
+            WhyFault::Output => Some(UNPRINTED),
+            WhyFault::CannotRead(_, _) | WhyFault::Adapter(_, _) | WhyFault::NoImport(_, _) => None,
         }
     }
 }
+
+/// The text where what was to be printed could not be.
+const UNPRINTED: &str = "cannot print";
 
 /// The fault for a file that could not be read: its path, and why.
 fn unread_text(alloc: Global, path: &str, problem: FileProblem) -> Result<String, AllocError>

@@ -1,16 +1,14 @@
 //! The chains to imports as a graph, in the language of Graphviz.
 
-ghost use Rattle.std.specs.Prelude.{◌≡◌, ◌<◌, length, map, IfOk, IsErrOf, OnOk, string_bytes, true};
+ghost use Rattle.std.specs.Prelude.{◌≡◌, ◌<◌, length, IfOk, IsErrOf, OnOk, string_bytes, true};
 ghost use Rattle.wc_read.specs.Imports.{import_value};
-ghost use Rattle.wcwhy_command.specs.Arguments.{pattern_view};
 ghost use Rattle.wcwhy_command.specs.Graph.{AreMarks, IsArrow, IsNodeAt, export_text, import_node};
 ghost use Rattle.wcwhy_command.specs.Private.Reasons.{AreItemsOf, AreNodesOf, AreReasons, IsGraphOf, IsItemOf, IsNodeOf, PutsSome, adapter_in, names_in};
 
-use crate::arguments::ImportPattern;
+use crate::asked::Asked;
 use crate::fault::PrintFault;
 use crate::lines::{item_text, title};
 use crate::marks::marks_of;
-use crate::patterns::is_shown;
 use crate::reasons::Reasons;
 use crate::texts::graph_text;
 use std::alloc::{AllocError, Global};
@@ -22,39 +20,39 @@ use wc_write::Sink;
 /// the item that first names it, or from a node of the export that does; and a node for each of these imports.
 pub(crate) fn put_graph<S: Sink>(
     alloc: Global,
-    patterns: &[ImportPattern<'_>],
+    asked: &Asked<'_, '_>,
     reasons: &Reasons<'_, '_>,
     out: &mut S,
 ) -> Result<(), PrintFault>
     requires { AreReasons reasons.now }
-    ensures done { OnOk result (PutsSome (IsGraphOf reasons.now (map pattern_view patterns.now))
+    ensures done { OnOk result (PutsSome (IsGraphOf reasons.now asked.now)
         (S.written out.old) (S.written out.new)) }
     ensures works { OnOk result (S.is_failed out.new ≡ S.is_failed out.old) }
     ensures output { IsErrOf result PrintFault.Output → S.is_failed out.new ≡ true }
 {
-    let marks = marks_of(alloc, patterns, reasons)?;
-    put_marked(alloc, patterns, reasons, &marks, out)
+    let marks = marks_of(alloc, asked, reasons)?;
+    put_marked(alloc, asked, reasons, &marks, out)
 }
 
 /// Puts a graph in the language of Graphviz: the marked items, then the imports.
 fn put_marked<S: Sink>(
     alloc: Global,
-    patterns: &[ImportPattern<'_>],
+    asked: &Asked<'_, '_>,
     reasons: &Reasons<'_, '_>,
     marks: &[bool],
     out: &mut S,
 ) -> Result<(), PrintFault>
     requires chains { AreReasons reasons.now }
     requires marked { AreMarks reasons.now.chains.now (adapter_in reasons.now).imports
-        (map pattern_view patterns.now) marks.now }
-    ensures done { OnOk result (PutsSome (IsGraphOf reasons.now (map pattern_view patterns.now))
+        asked.now marks.now }
+    ensures done { OnOk result (PutsSome (IsGraphOf reasons.now asked.now)
         (S.written out.old) (S.written out.new)) }
     ensures works { OnOk result (S.is_failed out.new ≡ S.is_failed out.old) }
     ensures output { IsErrOf result PrintFault.Output → S.is_failed out.new ≡ true }
 {
     out.put(b"digraph wcwhy {\n")?;
     put_items(alloc, reasons, marks, out)?;
-    put_imports(alloc, patterns, reasons, out)?;
+    put_imports(alloc, asked, reasons, out)?;
     out.put(b"}\n")?;
     Ok(())
 }
@@ -155,18 +153,18 @@ fn export_text(alloc: Global, name: &str, index: usize) -> Result<String, AllocE
 /// Puts the nodes of the imports that are asked for, in the order of the module.
 fn put_imports<S: Sink>(
     alloc: Global,
-    patterns: &[ImportPattern<'_>],
+    asked: &Asked<'_, '_>,
     reasons: &Reasons<'_, '_>,
     out: &mut S,
 ) -> Result<(), PrintFault>
     requires { AreReasons reasons.now }
-    ensures done { OnOk result (PutsSome (AreNodesOf reasons.now (map pattern_view patterns.now))
+    ensures done { OnOk result (PutsSome (AreNodesOf reasons.now asked.now)
         (S.written out.old) (S.written out.new)) }
     ensures works { OnOk result (S.is_failed out.new ≡ S.is_failed out.old) }
     ensures output { IsErrOf result PrintFault.Output → S.is_failed out.new ≡ true }
 {
     for position in 0..reasons.adapter.imports.len() {
-        put_import(alloc, patterns, reasons, position, out)?;
+        put_import(alloc, asked, reasons, position, out)?;
     }
     Ok(())
 }
@@ -174,7 +172,7 @@ fn put_imports<S: Sink>(
 /// Puts the node of the import at a position, if it is asked for and reached.
 fn put_import<S: Sink>(
     alloc: Global,
-    patterns: &[ImportPattern<'_>],
+    asked: &Asked<'_, '_>,
     reasons: &Reasons<'_, '_>,
     position: usize,
     out: &mut S,
@@ -182,12 +180,12 @@ fn put_import<S: Sink>(
     requires chains { AreReasons reasons.now }
     requires there { position < length reasons.now.adapter.now.imports.items }
     ensures done { OnOk result (PutsSome
-        (IsNodeOf reasons.now (map pattern_view patterns.now) position)
+        (IsNodeOf reasons.now asked.now position)
         (S.written out.old) (S.written out.new)) }
     ensures works { OnOk result (S.is_failed out.new ≡ S.is_failed out.old) }
     ensures output { IsErrOf result PrintFault.Output → S.is_failed out.new ≡ true }
 {
-    let text = import_text(alloc, patterns, reasons, position)?;
+    let text = import_text(alloc, asked, reasons, position)?;
     out.put(text.as_bytes())?;
     Ok(())
 }
@@ -195,18 +193,18 @@ fn put_import<S: Sink>(
 /// The node of the import at a position, if it is asked for and reached.
 fn import_text(
     alloc: Global,
-    patterns: &[ImportPattern<'_>],
+    asked: &Asked<'_, '_>,
     reasons: &Reasons<'_, '_>,
     position: usize,
 ) -> Result<String, AllocError>
     requires chains { AreReasons reasons.now }
     requires there { position < length reasons.now.adapter.now.imports.items }
-    ensures { IfOk result (λ t. IsNodeOf reasons.now (map pattern_view patterns.now) position
+    ensures { IfOk result (λ t. IsNodeOf reasons.now asked.now position
         (string_bytes t)) }
 {
     let import = &reasons.adapter.imports[position];
     match reasons.chains.imports[position] {
-        Some(index) if is_shown(patterns, import) => import_node(alloc, import, position, index),
+        Some(index) if asked.is_shown(import) => import_node(alloc, import, position, index),
         _ => Ok(String::new(alloc)),
     }
 }

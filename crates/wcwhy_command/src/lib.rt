@@ -7,6 +7,7 @@
 #![tactic(auto)]
 
 mod arguments;
+mod asked;
 mod execution;
 mod fault;
 mod graph;

@@ -1,18 +1,17 @@
 //! The lines that say why imports stay.
 
-ghost use Rattle.std.specs.Prelude.{◌≡◌, ◌<◌, ◌++◌, length, map, IfOk, IsErrOf, OnOk, Some, string_bytes, true};
+ghost use Rattle.std.specs.Prelude.{◌≡◌, ◌<◌, ◌++◌, length, IfOk, IsErrOf, OnOk, Some, string_bytes, true};
 ghost use Rattle.std.specs.List.{flat_map, slice_get};
 ghost use Rattle.std.specs.Option.{option_map};
 ghost use Rattle.wc_read.specs.Imports.{import_value};
 ghost use Rattle.wc_read.specs.Names.{name_entries};
 ghost use Rattle.wc_gc.specs.Decoded.{ItemIndex};
-ghost use Rattle.wcwhy_command.specs.Arguments.{pattern_view, text_of};
+ghost use Rattle.wcwhy_command.specs.Arguments.{text_of};
 ghost use Rattle.wcwhy_command.specs.Lines.{IsChainText, chain_text, item_line, item_text, name_in, space_name, title, unreached_text};
 ghost use Rattle.wcwhy_command.specs.Private.Reasons.{AreLinesOf, AreReasons, IsLineOf, PutsSome, adapter_in, names_in, required_in};
 
-use crate::arguments::ImportPattern;
+use crate::asked::Asked;
 use crate::fault::PrintFault;
-use crate::patterns::is_shown;
 use crate::reasons::Reasons;
 use crate::texts::word;
 use std::alloc::{AllocError, Global};
@@ -25,18 +24,18 @@ use wc_write::Sink;
 /// Puts the lines of each import that is asked for, in order. The text of one import at a time is kept in memory.
 pub(crate) fn put_lines<S: Sink>(
     alloc: Global,
-    patterns: &[ImportPattern<'_>],
+    asked: &Asked<'_, '_>,
     reasons: &Reasons<'_, '_>,
     out: &mut S,
 ) -> Result<(), PrintFault>
     requires { AreReasons reasons.now }
-    ensures done { OnOk result (PutsSome (AreLinesOf reasons.now (map pattern_view patterns.now))
+    ensures done { OnOk result (PutsSome (AreLinesOf reasons.now asked.now)
         (S.written out.old) (S.written out.new)) }
     ensures works { OnOk result (S.is_failed out.new ≡ S.is_failed out.old) }
     ensures output { IsErrOf result PrintFault.Output → S.is_failed out.new ≡ true }
 {
     for position in 0..reasons.adapter.imports.len() {
-        put_import(alloc, patterns, reasons, position, out)?;
+        put_import(alloc, asked, reasons, position, out)?;
     }
     Ok(())
 }
@@ -44,7 +43,7 @@ pub(crate) fn put_lines<S: Sink>(
 /// Puts an import with its chain; nothing where no pattern asks for it.
 fn put_import<S: Sink>(
     alloc: Global,
-    patterns: &[ImportPattern<'_>],
+    asked: &Asked<'_, '_>,
     reasons: &Reasons<'_, '_>,
     position: usize,
     out: &mut S,
@@ -52,12 +51,12 @@ fn put_import<S: Sink>(
     requires chains { AreReasons reasons.now }
     requires there { position < length reasons.now.adapter.now.imports.items }
     ensures done { OnOk result (PutsSome
-        (IsLineOf reasons.now (map pattern_view patterns.now) position)
+        (IsLineOf reasons.now asked.now position)
         (S.written out.old) (S.written out.new)) }
     ensures works { OnOk result (S.is_failed out.new ≡ S.is_failed out.old) }
     ensures output { IsErrOf result PrintFault.Output → S.is_failed out.new ≡ true }
 {
-    let text = import_text(alloc, patterns, reasons, position)?;
+    let text = import_text(alloc, asked, reasons, position)?;
     out.put(text.as_bytes())?;
     Ok(())
 }
@@ -66,22 +65,22 @@ fn put_import<S: Sink>(
 /// given.
 fn import_text(
     alloc: Global,
-    patterns: &[ImportPattern<'_>],
+    asked: &Asked<'_, '_>,
     reasons: &Reasons<'_, '_>,
     position: usize,
 ) -> Result<String, AllocError>
     requires chains { AreReasons reasons.now }
     requires there { position < length reasons.now.adapter.now.imports.items }
-    ensures { IfOk result (λ t. IsLineOf reasons.now (map pattern_view patterns.now) position
+    ensures { IfOk result (λ t. IsLineOf reasons.now asked.now position
         (string_bytes t)) }
 {
     let import = &reasons.adapter.imports[position];
-    if !is_shown(patterns, import) {
+    if !asked.is_shown(import) {
         return Ok(String::new(alloc));
     }
     match reasons.chains.imports[position] {
         Some(index) => reached_text(alloc, reasons, import, index),
-        None => unreached_text(alloc, import, !patterns.is_empty()),
+        None => unreached_text(alloc, import, asked.are_there()),
     }
 }
 

@@ -19,10 +19,10 @@ fn is_match(pattern: &ImportPattern<'_>, import: &Import<'_>) -> bool
 }
 
 /// Whether a module is asked for: by its name, with its version or without.
-fn is_module(asked: &str, module: &str) -> bool
-    ensures { result ≡ is_module asked.now module.now }
+fn is_module(asked: &str, imported: &str) -> bool
+    ensures { result ≡ is_module asked.now imported.now }
 {
-    asked == module || asked == unversioned(module)
+    asked == imported || asked == unversioned(imported)
 }
 
 /// Whether a name is asked for: this one, or any.

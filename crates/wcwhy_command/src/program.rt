@@ -6,17 +6,19 @@ ghost use Rattle.wc_program.specs.Files.{file_change};
 ghost use Rattle.wc_program.specs.Screen.{Becomes, output_ends};
 ghost use Rattle.wc_program.specs.Program.{Prints, failure, success, wrong_arguments};
 ghost use Rattle.wcwhy_command.specs.Arguments.{command_view};
+ghost use Rattle.wcwhy_command.specs.Fault.{NeedsText};
 ghost use Rattle.wcwhy_command.specs.Program.{CommandEnds, EndsWell, EndsWith, EndsWithout, EndsWithoutArguments, IsReported, IsRunCause, ProgramEnds, input_path};
 ghost use Rattle.wcwhy_command.specs.Private.Execution.{AnswersStop};
-ghost use Rattle.wcwhy_command.specs.Usage.{fault_and_usage, fault_line, help_text};
+ghost use Rattle.wcwhy_command.specs.Usage.{fault_and_usage, fault_line, help_text, usage_text};
 
 use crate::arguments::{Command, NoCommand, parse};
 use crate::execution::print_reasons;
 use crate::fault::WhyFault;
-use crate::usage::{AND_USAGE, NO_TEXT, OPTIONS, USAGE, VERSION};
+use crate::usage::{NO_TEXT, VERSION, page};
 use std::alloc::{AllocError, Global};
 use std::io::{self, ErrorKind};
 use wc_maps::Seed;
+use wc_options::{Help, Usage, WrongCall};
 use wc_program::{
     FAILURE, FileProblem, FileStore, NoArguments, Output, Program, SUCCESS, Screen, Shell, Text,
     TextBetween, WRONG_ARGUMENTS, print, read_file,
@@ -37,8 +39,9 @@ use wc_texts::OUT_OF_MEMORY;
 /// | 1 | `out` or `err` failed | not known there |
 ///
 /// TEXT is the text of `run_command`'s fault (`WhyFault::text`) or of the wrong argument (`WrongArgument::text`), or
-/// `out of memory` where there was no memory for it; then the status is 1. All that is printed is flushed, but what was
-/// printed before memory ran out. Nothing is printed to the other output, unless `out` failed or memory ran out before.
+/// `out of memory` where there was no memory for it; then the status is 1. The texts of `Memory` and `Output` need none.
+/// All that is printed is flushed, but what was printed before memory ran out. Nothing is printed to the other output,
+/// unless `out` failed or memory ran out before.
 pub fn run<F: FileStore, O: Output, E: Screen>(
     arguments: &io::Result<Vec<String>>,
     shell: &mut Shell<F, O, E>,
@@ -79,7 +82,7 @@ impl<F: FileStore, O: Output, E: Screen> Program<F, O, E> for Wcwhy {
 
     fn run_without(&self, why: NoArguments, shell: &mut Shell<F, O, E>) -> u8 {
         match why {
-            NoArguments::Empty => print(&mut shell.out, &Text(USAGE), SUCCESS),
+            NoArguments::Empty => print_usage(&mut shell.out),
             NoArguments::NoMemory => print_fault(&mut shell.err, OUT_OF_MEMORY),
             NoArguments::NoText => print_usage_fault(&mut shell.err, NO_TEXT),
         }
@@ -138,7 +141,7 @@ fn run_and_report<F: FileStore, O: Output, E: Screen>(
 /// lines are flushed. A repeated export counts once. The path `-` of the adapter is that of `/dev/stdin`. `seed`: the seed
 /// of the maps that are made.
 ///
-/// It takes time and memory linear in the adapter, and time linear in what is printed.
+/// It takes time and memory linear in the adapter and in what is asked for, and time linear in what is printed.
 ///
 /// # Errors
 ///
@@ -183,22 +186,35 @@ fn input_path(path: &str) -> &str
 fn report<E: Screen>(alloc: Global, err: &mut E, fault: &WhyFault<'_>) -> u8
     ensures { IsReported fault.now (Becomes E.ends err.old err.new) result }
 {
+    match fault.fixed_text() {
+        Some(text) => print_fault(err, text),
+        None => report_made(alloc, err, fault),
+    }
+}
+
+/// Prints why the program failed, where memory is needed for this. The answer is the status of a failure.
+fn report_made<E: Screen>(alloc: Global, err: &mut E, fault: &WhyFault<'_>) -> u8
+    requires { NeedsText fault.now }
+    ensures { IsReported fault.now (Becomes E.ends err.old err.new) result }
+{
     match fault.text(alloc) {
         Ok(text) => print_fault(err, &text),
         Err(AllocError) => print_fault(err, OUT_OF_MEMORY),
     }
 }
 
+/// Prints the usage text. The answer is the exit status.
+fn print_usage<O: Screen>(out: &mut O) -> u8
+    ensures { Prints usage_text success (Becomes O.ends out.old out.new) result }
+{
+    print(out, &Usage(page()), SUCCESS)
+}
+
 /// Prints the help text. The answer is the exit status.
 fn print_help<O: Screen>(out: &mut O) -> u8
     ensures { Prints help_text success (Becomes O.ends out.old out.new) result }
 {
-    let text = TextBetween {
-        before: USAGE,
-        text: &Text(OPTIONS),
-        after: "",
-    };
-    print(out, &text, SUCCESS)
+    print(out, &Help(page()), SUCCESS)
 }
 
 /// Prints the text of a fault in a line. The answer is the status of a failure.
@@ -218,10 +234,10 @@ fn print_usage_fault<E: Screen>(err: &mut E, text: &str) -> u8
     ensures { Prints (fault_and_usage text.now) wrong_arguments
         (Becomes E.ends err.old err.new) result }
 {
-    let lines = TextBetween {
-        before: "wcwhy: ",
-        text: &Text(text),
-        after: AND_USAGE,
+    let lines = WrongCall {
+        start: "wcwhy: ",
+        text,
+        page: page(),
     };
     print(err, &lines, WRONG_ARGUMENTS)
 }

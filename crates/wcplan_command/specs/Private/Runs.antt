@@ -25,7 +25,8 @@ use Rattle.wc_program.specs.declared.files.FileProblem.{FileProblem}
 use Rattle.wc_world.specs.Options.{plain_options}
 use Rattle.wc_world.specs.Views.{ComponentWorldView}
 use Rattle.wc_world.specs.World.{IsWorldOf}
-use Rattle.wcplan_command.specs.Arguments.{CommandView, help, version, wrong, wrong_view}
+use Rattle.wc_options.specs.Wrong.{help, version, wrong, wrong_view}
+use Rattle.wcplan_command.specs.Arguments.{CommandView}
 use Rattle.wcplan_command.specs.Details.{IsExplanation}
 use Rattle.wcplan_command.specs.Program.{EndsWithoutMemory, IsDocumentOf, IsEncoderOf, IsTextCause, IsUnwrittenFile, StopEnds, WritesAll, file_view}
 use Rattle.wcplan_command.specs.ExplainedPart.{IsPartExplanation, part_name}
@@ -36,8 +37,8 @@ use Rattle.wcplan_command.specs.Listing.{world_listing}
 use Rattle.wcplan_command.specs.ModuleKeys.{IsMeant, IsNotMeant, IsSelectionCause}
 use Rattle.wc_program.specs.Screen.{Printing, nothing, failed}
 use Rattle.wcplan_command.specs.declared.explained_part.ExplainedPart.{ExplainedPart}
-use Rattle.wcplan_command.specs.declared.arguments.NoCommand.{NoCommand}
-use Rattle.wcplan_command.specs.declared.arguments.NoCommand.TheVariants.{Memory, Help, Version, Wrong}
+use Rattle.wc_options.specs.declared.wrong.NoCommand.{NoCommand}
+use Rattle.wc_options.specs.declared.wrong.NoCommand.TheVariants.{Memory, Help, Version, Wrong}
 use Rattle.wcplan_command.specs.declared.fault.ProgramFault.{ProgramFault}
 use Rattle.wcplan_command.specs.declared.fault.ProgramFault.TheVariants.{CannotMake, CannotWrite, Dedupe, NoWorld, Output, Plan, Resolve, Selection, Ways, World, Memory as no_memory}
 use Rattle.wc_gc.specs.declared.fault.GcFault.TheVariants.{Memory as gc_memory}

@@ -5,13 +5,14 @@ use Rattle.wc_read.specs.Imports.{ImportValue}
 use Rattle.wc_read.specs.Modules.{ModuleValue}
 use Rattle.wc_read.specs.Names.{GlobalNameValue}
 use Rattle.wc_program.specs.Screen.{Printing, nothing, printed, failed}
-use Rattle.wcwhy_command.specs.Arguments.{CommandView, pattern_view, help, version, wrong, wrong_view}
+use Rattle.wc_options.specs.Wrong.{help, version, wrong, wrong_view}
+use Rattle.wcwhy_command.specs.Arguments.{CommandView, pattern_view}
 use Rattle.wcwhy_command.specs.Patterns.{first_unknown}
 use Rattle.wcwhy_command.specs.Fault.{near_text}
 use Rattle.wcwhy_command.specs.Program.{EndsWithoutMemory, IsNoImport, IsTextFor, StopEnds}
 use Rattle.wcwhy_command.specs.declared.arguments.ImportPattern.{ImportPattern}
-use Rattle.wcwhy_command.specs.declared.arguments.NoCommand.{NoCommand}
-use Rattle.wcwhy_command.specs.declared.arguments.NoCommand.TheVariants.{Memory, Help, Version, Wrong}
+use Rattle.wc_options.specs.declared.wrong.NoCommand.{NoCommand}
+use Rattle.wc_options.specs.declared.wrong.NoCommand.TheVariants.{Memory, Help, Version, Wrong}
 use Rattle.wcwhy_command.specs.declared.fault.WhyFault.{WhyFault}
 use Rattle.wcwhy_command.specs.declared.fault.WhyFault.TheVariants.{Memory as why_memory, NoImport, Output}
 

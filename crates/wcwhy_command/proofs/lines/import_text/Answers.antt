@@ -1,10 +1,8 @@
-use Rattle.std.proofs.Common.{◌∙◌, Some, ap, map, not, sym}
+use Rattle.std.proofs.Common.{◌∙◌, Some, ap, sym}
 use Rattle.wc_read.specs.Imports.{import_value}
-use Rattle.wcwhy_command.specs.Arguments.{pattern_view}
 use Rattle.wcwhy_command.specs.Private.Reasons.{adapter_in, names_in, required_in}
 use Rattle.wcwhy_command.proofs.ItemLemmas.{import_at, index_read, index_there}
 use Rattle.wcwhy_command.proofs.LineLemmas.{reached_lines, unreached_lines}
-use Rattle.wcwhy_command.proofs.PatternLemmas.{asked_is}
 use Rattle.wcwhy_command.proofs.lines.import_text.Goals as goal
 
 pub reached_text-requires-clause-there : goal.reached_text-requires-clause-there
@@ -20,7 +18,7 @@ returns-in-Some c =
     let r = c.args.reasons.now in
     let at = import_at r c.args.position c.index-import.result.now c.requires.there c.index-import.ensures in
     let index = index_read r c.args.position c.index.result.now c.requires.chains c.requires.there c.index.ensures in
-    reached_lines (required_in r) (adapter_in r) (names_in r) (map pattern_view c.args.patterns.now) c.args.position (import_value c.index-import.result.now) at
+    reached_lines (required_in r) (adapter_in r) (names_in r) c.args.asked.now c.args.position (import_value c.index-import.result.now) at
     r.chains.now c.requires.chains (sym c.is_shown.ensures ∙ c.if-not-is_shown.false) c.reached_text.result c.in-Some.index (index ∙ ap Some c.in-Some.is)
     c.reached_text.ensures
 
@@ -29,6 +27,6 @@ returns-in-None c =
     let r = c.args.reasons.now in
     let at = import_at r c.args.position c.index-import.result.now c.requires.there c.index-import.ensures in
     let index = index_read r c.args.position c.index.result.now c.requires.chains c.requires.there c.index.ensures in
-    unreached_lines (required_in r) (adapter_in r) (names_in r) (map pattern_view c.args.patterns.now) c.args.position (import_value c.index-import.result.now) at
+    unreached_lines (required_in r) (adapter_in r) (names_in r) c.args.asked.now c.args.position (import_value c.index-import.result.now) at
     r.chains.now c.requires.chains (sym c.is_shown.ensures ∙ c.if-not-is_shown.false) c.unreached_text.result _ (index ∙ ap Some c.in-None.is)
-    (ap not c.is_empty.ensures ∙ sym (asked_is c.args.patterns.now)) c.unreached_text.ensures
+    c.are_there.ensures c.unreached_text.ensures

@@ -1,11 +1,10 @@
-use Rattle.std.proofs.Common.{◌≡◌, map}
-use Rattle.wcwhy_command.specs.Arguments.{pattern_view}
+use Rattle.std.proofs.Common.{◌≡◌}
 use Rattle.wcwhy_command.specs.Joined.{AreJoined}
 use Rattle.wcwhy_command.specs.Private.Reasons.{IsLineOf, PutsSome}
 use Rattle.wcwhy_command.proofs.lines.put_lines.Given as goal
 
 abbrev pub invariant-loop-position : goal.invariant-loop-position
 invariant-loop-position g l = record {
-  put : PutsSome (AreJoined l.position (IsLineOf l.reasons (map pattern_view l.patterns))) (g.S.Sink.written l.fn.out) (g.S.Sink.written l.out);
+  put : PutsSome (AreJoined l.position (IsLineOf l.reasons l.asked)) (g.S.Sink.written l.fn.out) (g.S.Sink.written l.out);
   works : g.S.Sink.is_failed l.out ≡ g.S.Sink.is_failed l.fn.out;
 }

@@ -1,5 +1,4 @@
-use Rattle.std.proofs.Common.{◌∙◌, map, sym, arith}
-use Rattle.wcwhy_command.specs.Arguments.{pattern_view}
+use Rattle.std.proofs.Common.{◌∙◌, sym, arith}
 use Rattle.wcwhy_command.specs.Private.Reasons.{adapter_in}
 use Rattle.wcwhy_command.proofs.MarkLemmas.{no_more_here, one_here}
 use Rattle.wcwhy_command.proofs.marks.with_imports.Goals as goal
@@ -8,7 +7,7 @@ use Rattle.wcwhy_command.proofs.marks.with_imports.Goals.{in-Some, in_default}
 pub loop-position-preserved : goal.loop-position-preserved
 loop-position-preserved c =
     let r = c.args.reasons.now in
-    let patterns = map pattern_view c.args.patterns.now in
+    let patterns = c.args.asked.now in
     let marks = c.loop-position.marks.items in
     elim c.match-shown_index.branch [
       | in-Some w ↦

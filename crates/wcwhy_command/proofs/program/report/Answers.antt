@@ -1,6 +1,5 @@
-use Rattle.std.proofs.Common.{inr, refl}
-use Rattle.wc_texts.specs.FaultTexts.{memory_text}
+use Rattle.std.proofs.Common.{inl}
 use Rattle.wcwhy_command.proofs.program.report.Goals as goal
 
-pub returns-in-Err : goal.returns-in-Err
-returns-in-Err g c = (memory_text, inr refl, c.print_fault-in-Err.ensures)
+pub returns-in-Some : goal.returns-in-Some
+returns-in-Some g c = (c.in-Some.text.now, inl c.in-Some.ensures.whole, c.print_fault.ensures)

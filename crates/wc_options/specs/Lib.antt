@@ -1,0 +1,4 @@
+pub mod Table
+pub mod Wrong
+pub mod Reading
+pub mod Usage

@@ -1,0 +1,14 @@
+//! Options of programs: a table of them, by which arguments are read, and of which the usage text and the help are made.
+#![tactic(auto)]
+
+mod given;
+mod reading;
+mod table;
+mod usage;
+mod wrong;
+
+pub use given::{is_given, text_count, texts, value, values};
+pub use reading::{check, pair};
+pub use table::{ProgramOption, Value};
+pub use usage::{Help, Page, Usage, WrongCall};
+pub use wrong::{NoCommand, WrongArgument};
