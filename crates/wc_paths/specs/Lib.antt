@@ -1,0 +1,10 @@
+pub mod Tree
+pub mod Search
+pub mod Chains
+pub mod Items
+pub mod Counts
+pub mod Numbers
+pub mod Graph
+pub mod Roots
+pub mod Paths
+pub mod Private

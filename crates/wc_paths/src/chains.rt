@@ -1,0 +1,63 @@
+//! The shortest chain to each item that roots reach.
+
+ghost use Rattle.std.specs.Prelude.{◌≡◌, ◌<◌, ℕ, All, IfErr, IfOk, IsOk, length, Some, true};
+ghost use Rattle.std.specs.List.{slice_get};
+ghost use Rattle.wc_gc.specs.Reached.{IsReachedFrom};
+ghost use Rattle.wc_paths.specs.Search.{IsSearchFault};
+
+use crate::search::{Graph, SearchFault, find_all};
+use crate::tree::Tree;
+use std::alloc::{AllocError, Global};
+
+/// What roots reach in a graph, and where each item is in it.
+#[derive(Drop)]
+pub struct Chains {
+    tree: Tree,
+    places: Vec<Option<usize>>,
+    ghost within: { (x k : ℕ) → slice_get places.items x ≡ Some (Some k)
+        → k < length tree.order.items },
+}
+
+impl Chains {
+    ghost use Rattle.wc_paths.specs.Chains.{AreChains, IsChainAnswer};
+
+    /// The shortest chain from a root to an item, and of several the first, by the order of the roots, and then by that in
+    /// which each item names others; `None` where none leads there. It takes time and memory for the items of this chain.
+    ///
+    /// # Errors
+    ///
+    /// `AllocError`: an allocation failed.
+    pub fn chain(&self, alloc: Global, item: usize) -> Result<Option<Vec<usize>>, AllocError>
+        requires { item < length self.now.places.items }
+        ensures { IfOk result (IsChainAnswer self.now item) }
+    {
+        match self.places[item] {
+            Some(position) => {
+                let chain = self.tree.chain(alloc, position)?;
+                Ok(Some(chain))
+            }
+            None => Ok(None),
+        }
+    }
+
+    /// Finds what roots reach, with the chains that lead there. It takes time and memory linear in what is reached, and memory
+    /// linear in the graph.
+    ///
+    /// # Errors
+    ///
+    /// - `NotClosed`: an item that is reached names items that are not there.
+    /// - `Memory`: an allocation failed.
+    pub fn find<G: Graph>(alloc: Global, graph: &G, roots: &[usize]) -> Result<Chains, SearchFault>
+        requires { All (λ x. x < G.size graph.now) roots.now }
+        ensures chains { IfOk result
+            (AreChains (G.names graph.now) roots.now (G.size graph.now)) }
+        ensures closed { IsOk result → (x : ℕ) → IsReachedFrom (G.names graph.now) roots.now x
+            → G.is_closed graph.now x ≡ true }
+        ensures fault { IfErr result
+            (IsSearchFault (G.names graph.now) (G.is_closed graph.now) roots.now) }
+    {
+        let tree = find_all(alloc, graph, roots)?;
+        let places = tree.places(alloc, graph.len())?;
+        Ok(Chains { tree, places })
+    }
+}

@@ -1,0 +1,21 @@
+//! Paths through a core WebAssembly module: the shortest path from a root to an item, and of several the first.
+#![tactic(auto)]
+
+mod chains;
+mod counts;
+mod graph;
+mod items;
+mod names;
+mod paths;
+mod roots;
+mod search;
+mod tree;
+
+pub use chains::Chains;
+pub use counts::{Counts, counts_of, has_item, item_at, item_count, number_of};
+pub use graph::ModuleGraph;
+pub use items::PathItem;
+pub use paths::{Path, PathFault, Paths};
+pub use roots::{export_item, first_roots, import_items, second_roots};
+pub use search::{Graph, SearchFault, find_all};
+pub use tree::{Tree, positions_of};

@@ -1,0 +1,5 @@
+pub mod Modes
+pub mod Elements
+pub mod Data
+pub mod Checks
+pub mod Segments
