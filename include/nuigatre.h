@@ -39,7 +39,22 @@ extern "C" {
 #endif
 
 /* What nuigatre_abi has to answer, for the library to be of this header's form of calls, messages and answers. */
-#define NUIGATRE_ABI 6
+#define NUIGATRE_ABI 7
+
+/* The library's symbols have that number, so that two forms can be parts of one program. A library as `rt lib` makes it,
+ * before rust/symbols.py, has the names alone: then define NUIGATRE_PLAIN_SYMBOLS. */
+#ifndef NUIGATRE_PLAIN_SYMBOLS
+#define nuigatre_dedupe nuigatre7_dedupe
+#define nuigatre_trim nuigatre7_trim
+#define nuigatre_why nuigatre7_why
+#define nuigatre_world nuigatre7_world
+#define nuigatre_plan nuigatre7_plan
+#define nuigatre_planned_world nuigatre7_planned_world
+#define nuigatre_validate nuigatre7_validate
+#define nuigatre_validated_module nuigatre7_validated_module
+#define nuigatre_fault_text nuigatre7_fault_text
+#define nuigatre_abi nuigatre7_abi
+#endif
 
 /* Bytes that are read. */
 typedef struct nuigatre_slice {
@@ -157,6 +172,22 @@ nuigatre_answer nuigatre_planned_world(uint64_t seed0, uint64_t seed1, const uin
 nuigatre_answer nuigatre_validate(uint64_t seed0, uint64_t seed1, const uint8_t *message, size_t message_length,
                                   const uint8_t *modules, size_t modules_length, bool has_adapter,
                                   const uint8_t *adapter, size_t adapter_length, uint8_t *out, size_t out_length);
+
+/* Validates one module of a component, and says what it imports and exports: the adapter or the library of the name
+ * `adapter`, where `has_adapter`; else the main module, and `adapter` and `required` are not looked at. The message and the
+ * modules are those of nuigatre_world. The main module of an adapter is not validated, so `required` has the functions that
+ * are imported from it: how many they are, and of each its name, with its length before it, and its type as a type section
+ * has it: the byte 0x60, how many parameters, their types, how many results, and theirs. Numbers are LEB128.
+ *
+ * NUIGATRE_DONE: it is valid. `out` has what is recorded of its imports and exports as JSON, an object as `info` of the
+ * world that nuigatre_world makes.
+ * NUIGATRE_BAD_ARGUMENT: no adapter has the name, or `required` is not such a list, or has a name twice.
+ * NUIGATRE_FAULT: as of nuigatre_world.
+ * NUIGATRE_TOO_SMALL, NUIGATRE_MEMORY. */
+nuigatre_answer nuigatre_validated_module(uint64_t seed0, uint64_t seed1, const uint8_t *message, size_t message_length,
+                                          const uint8_t *modules, size_t modules_length, bool has_adapter,
+                                          const uint8_t *adapter, size_t adapter_length, const uint8_t *required,
+                                          size_t required_length, uint8_t *out, size_t out_length);
 
 /* Gives the text of a fault of a call on bytes, by the number that it answers: `call` is one of nuigatre_call. The text of a
  * fault that is carried is there too, as in `Read: NotWasm`; the name of a missing export is not.

@@ -6,7 +6,7 @@ checkout: crates/nuigatre/out/libnuigatre.a, and nuigatre.pc for it.
 
 `rt ci` leaves the statements and the code of each library in its out/rlib, and proves the static library too, but does
 not build it. `rt lib` does, and proves all libraries below once more. This takes them as they are, and proves and builds
-the static library alone, in some minutes. Where one of them is missing, or has a source that is newer, the status is 3,
+the static library alone, in some minutes, and gives its symbols the number of its form (rust/symbols.py). Where one of them is missing, or has a source that is newer, the status is 3,
 and nothing is done. It is 1 where the static library is not proved, or there is no rt on PATH.
 """
 import argparse
@@ -16,6 +16,7 @@ import sys
 
 sys.path.append(os.path.join(os.path.dirname(os.path.dirname(os.path.abspath(__file__))), "tools"))
 import pkgconfig
+import symbols
 from repository import TOP, files_of, kit_command, kit_folder, rlib_of, used_by_crates
 
 CRATE = "nuigatre"
@@ -49,6 +50,7 @@ def main():
     command = kit_command("build", CRATE, [*flags, "-o", os.path.join("out", "lib%s.a" % CRATE)])
     if subprocess.run(command, cwd=folder, check=False).returncode:
         return 1
+    symbols.number(os.path.join(folder, "out", "lib%s.a" % CRATE))
     pkgconfig.write(os.path.join(folder, "out"))
     return 0
 

@@ -31,11 +31,14 @@ ghost use Rattle.wc_calls.specs.FaultTexts.{IsFaultText};
 ghost use Rattle.wc_calls.specs.ImportChains.{IsWhyFault, IsWhyText};
 ghost use Rattle.wc_calls.specs.PlannedWorlds.{IsPlannedWorldAnswer};
 ghost use Rattle.wc_calls.specs.Trimming.{AreArguments, IsTrimmingFault};
+ghost use Rattle.wc_calls.specs.ValidatedModules.{IsNoneAskedOf, IsRecordAnswer, IsRecordFaultOf};
 ghost use Rattle.wc_calls.specs.Validation.{IsNoModuleOf, IsValidOf, IsValidationFaultOf};
 ghost use Rattle.nuigatre.specs.Arguments.{optional_name, settings_of};
 
 use std::alloc::Global;
-use wc_calls::{Answer, dedupe, fault_text, plan, planned_world, trim, validate, why, world};
+use wc_calls::{
+    Answer, dedupe, fault_text, plan, planned_world, trim, validate, validated_module, why, world,
+};
 use wc_maps::Seed;
 
 /// Renames the imports of a module so that no two share a module and a name: `wc_calls::dedupe`.
@@ -230,6 +233,40 @@ pub extern "C" fn nuigatre_validate(
     validate(alloc, seed, message, modules, adapter, out)
 }
 
+/// Validates one module of a component, which the message describes in JSON, and answers what is recorded of it:
+/// `wc_calls::validated_module`. It is the adapter or the library of the name `adapter`, where `has_adapter`; else the main
+/// module, and `adapter` and `required` are not looked at.
+#[unsafe(no_mangle)]
+pub extern "C" fn nuigatre_validated_module(
+    alloc: Global,
+    seed0: u64,
+    seed1: u64,
+    message: &[u8],
+    modules: &[u8],
+    has_adapter: bool,
+    adapter: &[u8],
+    required: &[u8],
+    out: &mut [u8],
+) -> Answer
+    ensures done { result.status ≡ done → IsPut (IsRecordAnswer message.now modules.now
+        (optional_name has_adapter adapter.now) required.now) result.length out.old out.new }
+    ensures too_small { result.status ≡ too_small
+        → IsTooLong (IsRecordAnswer message.now modules.now
+        (optional_name has_adapter adapter.now) required.now) result.length out.old }
+    ensures bad_argument { result.status ≡ bad_argument → IsNoneAskedOf message.now modules.now
+        (optional_name has_adapter adapter.now) required.now }
+    ensures fault { result.status ≡ failed → IsRecordFaultOf message.now modules.now
+        (optional_name has_adapter adapter.now) required.now result out.old out.new }
+    ensures module_length { result.module_length ≡ 0 }
+    ensures unchanged { result.status ≢ done → result.status ≢ failed → out.new ≡ out.old }
+    ensures statuses { (result.status ≤ 5) × (result.status ≢ same) }
+    ensures others { AreOthersOfTextZero result }
+{
+    let seed = Seed::new(seed0, seed1);
+    let adapter = optional_name(has_adapter, adapter);
+    validated_module(alloc, seed, message, modules, adapter, required, out)
+}
+
 /// Writes the text of a fault of `nuigatre_dedupe` (`call` is 0), `nuigatre_trim` (1) or `nuigatre_why` (2), by the number that
 /// the call answers: `wc_calls::fault_text`.
 #[unsafe(no_mangle)]
@@ -255,12 +292,12 @@ pub extern "C" fn nuigatre_fault_text(
 }
 
 /// The form of the calls, messages and answers.
-const ABI: u32 = 6;
+const ABI: u32 = 7;
 
 /// The number of the form of these calls, their messages and answers. It goes up with each change that a caller can see.
 #[unsafe(no_mangle)]
 pub extern "C" fn nuigatre_abi() -> u32
-    ensures { result ≡ 6 }
+    ensures { result ≡ 7 }
 {
     ABI
 }

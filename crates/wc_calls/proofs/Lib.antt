@@ -12,3 +12,5 @@ mod ModuleLemmas
 mod OptionTableLemmas
 mod PlannedWorldLemmas
 mod RefusalLemmas
+mod RequiredFunctionLemmas
+mod ValidatedModuleLemmas

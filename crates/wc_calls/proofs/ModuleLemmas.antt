@@ -30,6 +30,7 @@ use Rattle.wc_calls.specs.MessageFault.{IsNoEncoderCause, of_world}
 use Rattle.wc_calls.specs.Places.{IsPlaceOf, world_place_text}
 use Rattle.wc_calls.specs.Private.EncoderAnswers.{IsPlaceFor}
 use Rattle.wc_calls.specs.Private.ModuleAnswers.{IsInputAt, IsInputCause, IsInputFault, IsInputPlace, IsInputPlaceFor, IsInputRefusal, IsInputValid, IsMainCause, IsModuleFault, IsModulePlaceFor, input_of}
+use Rattle.wc_calls.specs.Private.RecordAnswers.{IsInputRecord}
 use Rattle.wc_calls.specs.Private.Refusals.{IsNoEncoder, IsPlacedFor, IsRefusalOf, RefusedMessage, refusal_text}
 use Rattle.wc_calls.specs.Validation.{IsAdapterPlace, IsAdapterRefused, IsModuleRefused, IsModuleValid, IsUnder, IsValidationCause, IsValidationPlaceOf}
 use Rattle.wc_calls.specs.declared.answers.Answer.{Answer}
@@ -70,9 +71,9 @@ module _ (g : AdapterInput) (library : Option LibraryView) (own : library ≡ op
 
   pub input_recorded : (bytes : List ℕ) (r : ModuleRecord) → bytes ≡ g.adapter.now.wasm.items
       → IsRecordOf (adapter_input g.encoder.now library (map key_view g.adapter.now.required_exports.keys) (map required_entry g.required.now.entries)) bytes r
-      → IsInputValid g
+      → IsInputRecord g r
   unfolding passed
-  input_recorded bytes r is h = (r, subst (λ b. IsRecordOf (input_of g) b r) is (subst (λ j. IsRecordOf j bytes r) passed_input h))
+  input_recorded bytes r is h = subst (λ b. IsRecordOf (input_of g) b r) is (subst (λ j. IsRecordOf j bytes r) passed_input h)
 
   pub input_refused : (bytes : List ℕ) (m : RefusedModule) (r : RefusedWorld) (x : RefusedMessage) → bytes ≡ g.adapter.now.wasm.items
       → IsValidateCause (adapter_input g.encoder.now library (map key_view g.adapter.now.required_exports.keys) (map required_entry g.required.now.entries)) bytes m.fault
@@ -137,7 +138,7 @@ module _ (g : AdapterInput) (main : ModuleRecord) (recorded : IsMainRecord g.enc
 
 -- a refusal of the adapter or the library is answered
 
-refused_not_memory : (j : ValidationInput) (bytes : List ℕ) (f : ValidateFault) → validate_is_memory f ≡ false → IsValidateCause j bytes f → IsRefused j bytes f
+pub refused_not_memory : (j : ValidationInput) (bytes : List ℕ) (f : ValidateFault) → validate_is_memory f ≡ false → IsValidateCause j bytes f → IsRefused j bytes f
 refused_not_memory j bytes f other h = ((λ same. absurd (false≢true (sym other ∙ ap validate_is_memory same))), h)
 
 input_fault : (g : AdapterInput) (f : MessageFault) (p : Option MessagePlace) → is_memory f ≡ false → IsInputCause g f p → IsInputFault g f

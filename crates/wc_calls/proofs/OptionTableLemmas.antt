@@ -63,7 +63,7 @@ none_more xs ys x there same name =
     kept false found = or_none (lookup (bytes_eq name) ys)
 
 -- a name that is not there is put last
-put_last : {X : Type 0} (entries : List (String Global × X)) (name : String Global) (x : X)
+pub put_last : {X : Type 0} (entries : List (String Global × X)) (name : String Global) (x : X)
     → is_some (lookup (λ k. bytes_eq (string_bytes name) (string_bytes k)) entries) ≡ false → insert_entry string_eq entries name x ≡ entries ++ (name, x) ∷ []
 put_last [] name x fresh = refl
 put_last (e ∷ es) name x fresh = elim (cases_Bool (string_eq name e.0)) [

@@ -53,6 +53,10 @@ IsCheckStatus status = (status ≡ done) ⊎ (status ≡ failed) ⊎ (status ≡
 abbrev pub IsModuleStatus : ℕ → Type 0
 IsModuleStatus status = IsCheckStatus status ⊎ (status ≡ bad_argument)
 
+-- the status of a call that has bytes to answer, or a fault with a text, or no answer for such arguments
+abbrev pub IsAskedStatus : ℕ → Type 0
+IsAskedStatus status = IsTextStatus status ⊎ (status ≡ bad_argument)
+
 -- no fault, and no bytes, in the numbers of an answer
 abbrev pub HasNoFault : Answer → Type 0
 HasNoFault a = (a.fault ≡ 0) × (a.position ≡ 0)

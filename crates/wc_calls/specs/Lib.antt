@@ -15,5 +15,7 @@ pub mod PlannedWorlds
 pub mod Private
 pub mod Renames
 pub mod Renaming
+pub mod RequiredFunctions
 pub mod Trimming
+pub mod ValidatedModules
 pub mod Validation

@@ -4,5 +4,7 @@ pub mod AskedKeys
 pub mod ModuleAnswers
 pub mod OptionTables
 pub mod PlannedAnswers
+pub mod RecordAnswers
 pub mod Refusals
+pub mod RequiredFunctions
 pub mod TrimArguments

@@ -1,8 +1,9 @@
 //! The calls on modules as calls on slices, for a caller that shares no other types: `dedupe` renames the repeated
 //! imports of a module, `trim` cuts an adapter to what its exports reach, `why` says why it imports what it does, and `world`
-//! makes the world of a component, which is described in JSON; `plan` makes its plan, `planned_world` both, and `validate`
-//! validates one of its modules. `fault_text` gives the text of a fault of the first three by its number. Each writes its
-//! answer to the front of a buffer of the caller's, and returns an `Answer`, which is numbers alone.
+//! makes the world of a component, which is described in JSON; `plan` makes its plan, `planned_world` both, `validate`
+//! validates one of its modules, and `validated_module` says what is recorded of it. `fault_text` gives the text of a fault
+//! of the first three by its number. Each writes its answer to the front of a buffer of the caller's, and returns an
+//! `Answer`, which is numbers alone.
 //! No call requires anything of its arguments. The maps of all but `dedupe` hash under a seed that is passed: whoever
 //! chooses names shouldn't know it.
 //!
@@ -44,7 +45,9 @@ mod planned_worlds;
 mod refusals;
 mod renames;
 mod renaming;
+mod required_functions;
 mod trimming;
+mod validated_modules;
 mod validation;
 
 pub use answers::{Answer, BAD_ARGUMENT, DONE, FAULT, MEMORY, NO_SUCH_FAULT, SAME, TOO_SMALL};
@@ -56,4 +59,5 @@ pub use message_fault::MessageFault;
 pub use planned_worlds::planned_world;
 pub use renaming::dedupe;
 pub use trimming::trim;
+pub use validated_modules::validated_module;
 pub use validation::validate;

@@ -1,6 +1,6 @@
 //! The call that validates one module of a component.
 
-ghost use Rattle.std.specs.Prelude.{◌≡◌, ◌≢◌, ◌≤◌, IfErr, IfOk, OnOk, Some, map};
+ghost use Rattle.std.specs.Prelude.{◌≡◌, ◌≢◌, ◌≤◌, IfErr, IfOk, Some, map};
 ghost use Rattle.std.specs.Map.{lookup};
 ghost use Rattle.std.specs.Option.{option_map};
 ghost use Rattle.std.specs.Str.{bytes_eq};
@@ -11,6 +11,7 @@ ghost use Rattle.wc_world.specs.World.{IsMainRecord};
 ghost use Rattle.wc_calls.specs.Answers.{AreOthersOfFaultZero, IsCheckStatus, IsModuleStatus, bad_argument, done, failed, same, too_small};
 ghost use Rattle.wc_calls.specs.FaultAnswers.{IsFaultAnswered};
 ghost use Rattle.wc_calls.specs.Private.ModuleAnswers.{IsInputFault, IsInputPlaceFor, IsInputRefusal, IsInputValid, IsMainCause, IsModuleFault, IsModulePlaceFor};
+ghost use Rattle.wc_calls.specs.Private.RecordAnswers.{IsInputRecord};
 ghost use Rattle.wc_calls.specs.Private.Refusals.{IsPlacedFor};
 ghost use Rattle.wc_calls.specs.Validation.{IsModuleValid, IsNoModule, IsNoModuleOf, IsValidOf, IsValidationFaultOf};
 
@@ -26,13 +27,13 @@ use wc_read::FuncType;
 use wc_validate::{ValidatedModule, validate_adapter_module_explained, validate_module_explained};
 use wc_world::{adapter_refusal, main_refusal};
 
-/// An adapter or a library, and what the main module imports from it.
+/// An adapter or a library, and the functions that it has to export.
 #[derive(Clone, Copy)]
-struct AdapterInput<'a> {
-    encoder: &'a ComponentEncoder,
-    required: &'a Map<String, FuncType>,
-    name: &'a str,
-    adapter: &'a Adapter,
+pub(crate) struct AdapterInput<'a> {
+    pub encoder: &'a ComponentEncoder,
+    pub required: &'a Map<String, FuncType>,
+    pub name: &'a str,
+    pub adapter: &'a Adapter,
 }
 
 /// An encoder, and what is recorded of its main module, which is valid.
@@ -43,7 +44,10 @@ struct ValidMain<'a> {
 }
 
 /// What is recorded of the main module.
-fn main_record(alloc: Global, encoder: &ComponentEncoder) -> Result<ValidatedModule, RefusedMessage>
+pub(crate) fn main_record(
+    alloc: Global,
+    encoder: &ComponentEncoder,
+) -> Result<ValidatedModule, RefusedMessage>
     ensures recorded { IfOk result (λ v. IsMainRecord encoder.now (module_record v)) }
     ensures fault { IfErr result (λ x. IsMainCause encoder.now x.fault) }
     ensures place { IfErr result (λ x. IsPlacedFor encoder.now x.fault x.place) }
@@ -56,9 +60,12 @@ fn main_record(alloc: Global, encoder: &ComponentEncoder) -> Result<ValidatedMod
     }
 }
 
-/// Validates an adapter or a library.
-fn check_input(alloc: Global, input: AdapterInput<'_>) -> Result<(), RefusedMessage>
-    ensures valid { OnOk result (IsInputValid input.entry) }
+/// What is recorded of an adapter or a library.
+pub(crate) fn input_record(
+    alloc: Global,
+    input: AdapterInput<'_>,
+) -> Result<ValidatedModule, RefusedMessage>
+    ensures recorded { IfOk result (λ v. IsInputRecord input.entry (module_record v)) }
     ensures fault { IfErr result (IsInputRefusal input.entry) }
 {
     let adapter = input.adapter;
@@ -70,7 +77,7 @@ fn check_input(alloc: Global, input: AdapterInput<'_>) -> Result<(), RefusedMess
         &adapter.required_exports,
         adapter.library_info.as_ref(),
     ) {
-        Ok(_record) => Ok(()),
+        Ok(module) => Ok(module),
         Err(refused) => Err(world_refusal(adapter_refusal(alloc, input.name, refused))),
     }
 }
@@ -84,8 +91,8 @@ fn validate_input(alloc: Global, input: AdapterInput<'_>, out: &mut [u8]) -> Ans
     ensures statuses { IsCheckStatus result.status }
     ensures others { AreOthersOfFaultZero result }
 {
-    match check_input(alloc, input) {
-        Ok(()) => answer_without_bytes(DONE),
+    match input_record(alloc, input) {
+        Ok(_record) => answer_without_bytes(DONE),
         Err(refused) => answer_refused(alloc, &refused, out),
     }
 }

@@ -29,6 +29,7 @@ pub use message_places::{
     adapter_to_json, json_place_to_json, key_to_json, part_to_json, plan_place_to_json,
     trim_fault_to_json, worlds_to_json,
 };
+pub use modules::module_to_json;
 pub use places::{read_place_to_json, trim_place_to_json, world_place_to_json};
 pub use plans::plan_to_json;
 pub use worlds::{planned_world_to_json, world_to_json};

@@ -1,10 +1,15 @@
 //! The records of core modules.
 
+ghost use Rattle.std.specs.Prelude.{◌≡◌, IfOk};
+ghost use Rattle.std.specs.Str.{IsUtf8};
+ghost use Rattle.wc_validate.specs.Validate.{module_record};
+ghost use Rattle.wc_record.specs.Texts.{module_text};
+
 use crate::maps::EntryToJson;
 use crate::objects::{begin_object, end_object, put_kind_with, put_member};
 use crate::to_json::{ToJson, begin_array, end_array};
 use json::Writer;
-use std::alloc::AllocError;
+use std::alloc::{AllocError, Global};
 use wc_names::{Export, Import};
 use wc_validate::{ExportMap, ImportInstance, ImportMap, ValidatedModule};
 
@@ -143,4 +148,19 @@ impl ToJson for ValidatedModule {
         put_member(out, "exports", &self.exports)?;
         end_object(out)
     }
+}
+
+/// What is recorded of a module as JSON: an object with `imports` and `exports`, as a component's world has it of each of its
+/// modules (`info` of `world_to_json`).
+///
+/// # Errors
+///
+/// `AllocError`: an allocation failed.
+pub fn module_to_json(alloc: Global, module: &ValidatedModule) -> Result<Vec<u8>, AllocError>
+    ensures text { IfOk result (λ bytes. bytes.items ≡ module_text (module_record module.now)) }
+    ensures utf8 { IfOk result (λ bytes. IsUtf8 bytes.items) }
+{
+    let mut out = Writer::new(Vec::new(alloc));
+    module.write(&mut out)?;
+    Ok(out.into_inner())
 }

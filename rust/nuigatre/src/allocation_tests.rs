@@ -4,9 +4,9 @@
 use crate::error::Error;
 use crate::heap::counts::{add, fail_after, fail_once_after, has_failed, held, may_allocate};
 use crate::{
-    Adapter, ComponentEncoder, ComponentWorld, ExportKind, ImportOptions, Instance, Item,
-    LibraryInfo, MainOrAdapter, ModuleImportMap, Plan, RequiredOptions, Resolved, World, gc,
-    validate_adapter_module, validate_module,
+    Adapter, ComponentEncoder, ComponentWorld, ExportKind, FuncType, ImportOptions, Instance, Item,
+    LibraryInfo, MainOrAdapter, ModuleImportMap, OrderedMap, Plan, RequiredOptions, Resolved,
+    World, gc, validate_adapter_module, validate_module,
 };
 use std::alloc::{GlobalAlloc, Layout, System};
 use std::borrow::Cow;
@@ -60,6 +60,9 @@ const REALLOC: &[u8] = b"\0asm\x01\0\0\0\x01\x0c\x02\x60\x04\x7f\x7f\x7f\x7f\x01
 
 /// Imports the functions `f` and `g` of `env`; `b` calls a function that calls `f`.
 const IMPORTS: &[u8] = b"\0asm\x01\0\0\0\x01\x04\x01\x60\0\0\x02\x11\x02\x03env\x01f\0\0\x03env\x01g\0\0\x03\x03\x02\0\0\x07\x05\x01\x01b\0\x03\x0a\x0b\x02\x04\0\x10\0\x0b\x04\0\x10\x02\x0b";
+
+/// An adapter that imports a memory with pages of one byte.
+const PAGES: &[u8] = b"\0asm\x01\0\0\0\x02\x10\x01\x03env\x06memory\x02\x08\x01\0";
 
 /// Two modules, from each of which a name is imported three times.
 const REPEATS: &[u8] = b"\0asm\x01\0\0\0\x01\x04\x01\x60\0\0\x02\x25\x06\x01a\x01f\0\0\x01a\x01f\0\0\x01b\x01g\0\0\x01a\x01f\0\0\x01b\x01g\0\0\x01b\x01g\0\0";
@@ -267,10 +270,25 @@ fn tables() {
 #[test]
 fn validation() {
     let encoder = encoder();
-    assert!(failures(|| validate_module(&encoder)) > 50);
-    assert!(failures(|| validate_adapter_module(&encoder, "old")) > 50);
-    assert!(failures(|| validate_adapter_module(&encoder, "library")) > 50);
-    assert!(failures(|| validate_adapter_module(&encoder, "other")) > 50);
+    let (renamed, map) = ModuleImportMap::new(MAIN.into()).expect("a module");
+    assert!(failures(|| validate_module(&encoder, MAIN, None)) > 50);
+    assert!(failures(|| validate_module(&encoder, &renamed, map.as_ref())) > 50);
+    assert!(failures(|| validate_module(&encoder, LIBRARY, None)) > 50);
+    let none = &OrderedMap::<String, FuncType>::default();
+    let library = encoder.adapters[1].library_info.as_ref();
+    assert!(failures(|| validate_adapter_module(&encoder, THREE, none, &[], None)) > 50);
+    assert!(failures(|| validate_adapter_module(&encoder, LIBRARY, none, &[], library)) > 50);
+    let main = validate_module(&encoder, MAIN, None).expect("a module");
+    let required = main.imports.required_from_adapter("old");
+    assert!(failures(|| validate_adapter_module(&encoder, THREE, required, &[], None)) > 50);
+    // one whose fault has a name, and one of another page size
+    assert!(failures(|| validate_adapter_module(&encoder, STARTED, required, &[], None)) > 50);
+    assert!(failures(|| validate_adapter_module(&encoder, PAGES, none, &[], None)) > 50);
+    // keys of adapters
+    let mut encoder = ComponentEncoder::new(EXPORTS, "a:b/demo", THREE);
+    encoder.adapters.push(Adapter::new("old", THREE));
+    encoder.adapters[0].required_exports = vec!["a:b/run@1.0.0", "interface-2"];
+    assert!(failures(|| validate_module(&encoder, THREE, None)) > 100);
 }
 
 #[test]

@@ -186,7 +186,7 @@ fn transferred(import: &Import) -> Option<(&PayloadInfo, bool, bool)> {
 
 fn typed(info: &PayloadInfo) -> Option<TypeId> {
     match &info.ty {
-        PayloadType::Typed { id, .. } => Some(*id),
+        PayloadType::Type { id, .. } => Some(*id),
         PayloadType::UnitFuture | PayloadType::UnitStream => None,
     }
 }
@@ -273,7 +273,7 @@ impl Wanted<'_> {
 }
 
 /// Goes through the items of an array, each by a function, which is passed its position.
-fn each(
+pub(crate) fn each(
     reader: &mut Reader<'_>,
     mut item: impl FnMut(&mut Reader<'_>, usize) -> Result<(), Unread>,
 ) -> Result<(), Unread> {
@@ -282,7 +282,7 @@ fn each(
 }
 
 /// The position of the world that a name is of: the one of this full name or, if there is none, of this short name.
-fn world_named(json: &str, wanted: &str) -> Result<usize, Unread> {
+pub(crate) fn world_named(json: &str, wanted: &str) -> Result<usize, Unread> {
     let (worlds, packages) = read_names(json)?;
     let name_of = |package: Option<u32>| packages.get(package? as usize);
     let mut full = worlds.iter().map(|(world, package)| {
@@ -329,6 +329,6 @@ fn read_names(json: &str) -> Result<Names, Unread> {
 }
 
 /// The name of a package without its version, and `@` and its version, if it has one.
-fn id_and_version(name: &str) -> (&str, &str) {
+pub(crate) fn id_and_version(name: &str) -> (&str, &str) {
     name.split_at(name.find('@').unwrap_or(name.len()))
 }

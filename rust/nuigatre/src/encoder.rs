@@ -3,7 +3,7 @@
 use crate::core_types::ExportKind;
 use crate::error::Error;
 use crate::json::{Value, put_list, put_string};
-use crate::memory::{OutOfMemory, Text, concat};
+use crate::memory::{OutOfMemory, Text, collect, concat};
 use crate::read::{Read, Unread, list, member};
 use crate::required_options::RequiredOptions;
 use crate::resolved::Worlds;
@@ -178,9 +178,63 @@ impl<'a> ComponentEncoder<'a> {
         }
     }
 
+    /// What the archive is asked: the message, and the bytes of all modules.
+    pub(crate) fn question(&self) -> Result<(String, Cow<'_, [u8]>), Error> {
+        let adapters = collect(self.adapters.iter().map(AskedAdapter::of))?;
+        let asked = Asked {
+            encoder: self,
+            module: self.module,
+            exports: self.main_module_exports.as_deref(),
+            adapters: &adapters,
+        };
+        let adapters = self.adapters.iter().map(|adapter| adapter.wasm);
+        Ok((asked.message()?, modules_of(self.module, adapters)?))
+    }
+}
+
+/// An encoder with another main module, other keys that this has to export, and other adapters and libraries.
+#[derive(Clone, Copy)]
+pub(crate) struct Asked<'a> {
+    pub(crate) encoder: &'a ComponentEncoder<'a>,
+    pub(crate) module: &'a [u8],
+    pub(crate) exports: Option<&'a [&'a str]>,
+    pub(crate) adapters: &'a [AskedAdapter<'a>],
+}
+
+/// An adapter or a library.
+#[derive(Clone, Copy)]
+pub(crate) struct AskedAdapter<'a> {
+    pub(crate) name: &'a str,
+    pub(crate) wasm: &'a [u8],
+    pub(crate) exports: &'a [&'a str],
+    pub(crate) library: Option<&'a LibraryInfo>,
+}
+
+impl<'a> AskedAdapter<'a> {
+    pub(crate) fn of(adapter: &'a Adapter<'a>) -> Self {
+        AskedAdapter {
+            name: adapter.name,
+            wasm: adapter.wasm,
+            exports: &adapter.required_exports,
+            library: adapter.library_info.as_ref(),
+        }
+    }
+
+    /// An adapter of this name that is not looked at.
+    pub(crate) fn named(name: &'a str) -> Self {
+        AskedAdapter {
+            name,
+            wasm: b"",
+            exports: &[],
+            library: None,
+        }
+    }
+}
+
+impl<'a> Asked<'a> {
     /// The message for the archive.
     pub(crate) fn message(&self) -> Result<String, Error> {
-        let resolve = self.resolve.json()?;
+        let resolve = self.encoder.resolve.json()?;
         let mut out = Text::default();
         out.0
             .try_reserve(resolve.len() + 512)
@@ -190,44 +244,50 @@ impl<'a> ComponentEncoder<'a> {
     }
 
     fn put_message(&self, out: &mut Text, resolve: &str) -> Result<(), OutOfMemory> {
+        let encoder = self.encoder;
         out.put(BEFORE_WORLDS)?;
         out.put(resolve)?;
         out.put(",\"world\":")?;
-        match self.world {
+        match encoder.world {
             World::Index(index) => out.put_args(format_args!("{index}"))?,
             World::Name(name) => put_string(out, name)?,
         }
         out.put_args(format_args!(
             ",\"reject_legacy_names\":{},\"realloc_via_memory_grow\":{},\"task_hook\":",
-            self.reject_legacy_names, self.realloc_via_memory_grow
+            encoder.reject_legacy_names, encoder.realloc_via_memory_grow
         ))?;
-        match self.task_hook {
+        match encoder.task_hook {
             Some(name) => put_string(out, name)?,
             None => out.put("null")?,
         }
         put_length(out, self.module)?;
-        if let Some(keys) = &self.main_module_exports {
+        if let Some(keys) = self.exports {
             put_exports(out, keys)?;
         }
         out.put(",\"adapters\":")?;
-        put_list(out, &self.adapters, put_adapter)?;
-        if !self.import_options.is_empty() {
+        put_list(out, self.adapters, put_adapter)?;
+        if !encoder.import_options.is_empty() {
             out.put(",\"options\":")?;
-            put_list(out, &self.import_options, put_options)?;
+            put_list(out, &encoder.import_options, put_options)?;
         }
         out.put("}")
     }
 
     /// The bytes of all modules, one after another, the main module first. Where the others have none it is not copied.
     pub(crate) fn modules(&self) -> Result<Cow<'a, [u8]>, OutOfMemory> {
-        if self.adapters.iter().all(|adapter| adapter.wasm.is_empty()) {
-            return Ok(Cow::Borrowed(self.module));
-        }
         let adapters = self.adapters.iter().map(|adapter| adapter.wasm);
-        Ok(Cow::Owned(concat(
-            std::iter::once(self.module).chain(adapters),
-        )?))
+        modules_of(self.module, adapters)
     }
+}
+
+fn modules_of<'a>(
+    main: &'a [u8],
+    adapters: impl Iterator<Item = &'a [u8]> + Clone,
+) -> Result<Cow<'a, [u8]>, OutOfMemory> {
+    if adapters.clone().all(<[u8]>::is_empty) {
+        return Ok(Cow::Borrowed(main));
+    }
+    Ok(Cow::Owned(concat(std::iter::once(main).chain(adapters))?))
 }
 
 fn put_options(out: &mut Text, of: &ImportOptions<'_>) -> Result<(), OutOfMemory> {
@@ -252,12 +312,12 @@ fn put_exports(out: &mut Text, keys: &[&str]) -> Result<(), OutOfMemory> {
     put_list(out, keys, |out, key| put_string(out, key))
 }
 
-fn put_adapter(out: &mut Text, adapter: &Adapter<'_>) -> Result<(), OutOfMemory> {
+fn put_adapter(out: &mut Text, adapter: &AskedAdapter<'_>) -> Result<(), OutOfMemory> {
     out.put("{\"name\":")?;
     put_string(out, adapter.name)?;
     put_length(out, adapter.wasm)?;
-    put_exports(out, &adapter.required_exports)?;
-    if let Some(library) = &adapter.library_info {
+    put_exports(out, adapter.exports)?;
+    if let Some(library) = adapter.library {
         out.put(",\"library_info\":")?;
         put_library(out, library)?;
     }

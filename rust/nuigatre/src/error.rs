@@ -3,7 +3,7 @@
 use crate::faults::{DedupeError, TrimError};
 use crate::memory::OutOfMemory;
 use crate::place::Place;
-use crate::world_error::WorldError;
+use crate::world_error::{ValidateError, WorldError};
 use std::error;
 use std::fmt::{self, Display, Formatter};
 
@@ -33,8 +33,6 @@ pub enum Error {
     NothingRequired,
     /// The exponent of a page size is more than 16.
     LargePageSize,
-    /// No adapter of the encoder has the name.
-    UnknownAdapter,
     /// The library that is linked is of another version than this crate: its form has another number, or it answers what
     /// this crate does not know.
     OtherVersion,
@@ -42,6 +40,8 @@ pub enum Error {
     Dedupe(DedupeError),
     /// The adapter could not be trimmed.
     Trim(TrimError),
+    /// The module is refused, by itself.
+    Validate(ValidateError),
     /// There is no world of the component.
     World(WorldError),
 }
@@ -53,6 +53,7 @@ impl Error {
         match self {
             Error::Dedupe(error) => error.place(),
             Error::Trim(error) => error.place(),
+            Error::Validate(error) => error.place(),
             Error::World(error) => error.place(),
             _ => None,
         }
@@ -71,18 +72,24 @@ impl Display for Error {
             Error::Memory => f.write_str("out of memory"),
             Error::NothingRequired => f.write_str("no export is required"),
             Error::LargePageSize => f.write_str("a page has more than 2^16 bytes"),
-            Error::UnknownAdapter => f.write_str("no adapter has the name"),
             Error::OtherVersion => f.write_str("libnuigatre.a is of another version"),
             Error::Dedupe(error) => write!(f, "Dedupe: {error}"),
             Error::Trim(error) => write!(f, "Trim: {error}"),
+            Error::Validate(error) => write!(f, "Validate: {error}"),
             Error::World(error) => write!(f, "{error}"),
         }
     }
 }
 
 impl error::Error for Error {
-    /// [The place](Error::place).
+    /// [The place](Error::place); or an [`AdapterModuleDidNotExport`](crate::AdapterModuleDidNotExport), if the fault is that.
     fn source(&self) -> Option<&(dyn error::Error + 'static)> {
-        self.place().map(|place| place as _)
+        match self {
+            Error::Dedupe(error) => error.source(),
+            Error::Trim(error) => error.source(),
+            Error::Validate(error) => error.source(),
+            Error::World(error) => error.source(),
+            _ => None,
+        }
     }
 }

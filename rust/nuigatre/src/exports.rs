@@ -6,11 +6,11 @@ use crate::index::Index;
 use crate::json::Value;
 use crate::ordered_map::{Iter, OrderedMap};
 use crate::read::{Read, Unread, map, member};
+use std::iter::FusedIterator;
 
-/// What an export of a core module is, by its name.
+/// What an export of a core module is, by its name. These are all: another one is a new version of this crate.
 #[derive(Clone, Debug, PartialEq, Eq, Hash)]
 #[allow(missing_docs)]
-#[non_exhaustive]
 pub enum Export {
     WorldFunc(WorldKey, String, AbiVariant),
     WorldFuncPostReturn(WorldKey),
@@ -123,8 +123,10 @@ impl ExportMap {
     }
 
     /// All exports with their names, in order.
-    pub fn iter(&self) -> Iter<'_, String, Export> {
-        self.names.iter()
+    pub fn iter(&self) -> Exports<'_> {
+        Exports {
+            names: self.names.iter(),
+        }
     }
 
     /// What the export of this name is.
@@ -261,15 +263,45 @@ impl ExportMap {
                     | Export::GeneralPurposeImportRealloc
             )
         });
-        reallocs.map(|(name, _)| name.as_str())
+        reallocs.map(|(name, _)| name)
     }
 }
 
-impl<'a> IntoIterator for &'a ExportMap {
-    type Item = (&'a String, &'a Export);
-    type IntoIter = Iter<'a, String, Export>;
+/// The exports of an [`ExportMap`] with their names, in order.
+#[derive(Clone, Debug)]
+#[must_use = "iterators do nothing unless they are gone through"]
+pub struct Exports<'a> {
+    names: Iter<'a, String, Export>,
+}
 
-    fn into_iter(self) -> Iter<'a, String, Export> {
-        self.names.iter()
+impl<'a> Iterator for Exports<'a> {
+    type Item = (&'a str, &'a Export);
+
+    fn next(&mut self) -> Option<Self::Item> {
+        self.names.next().map(|(name, export)| (&**name, export))
+    }
+
+    fn size_hint(&self) -> (usize, Option<usize>) {
+        self.names.size_hint()
+    }
+}
+
+impl DoubleEndedIterator for Exports<'_> {
+    fn next_back(&mut self) -> Option<Self::Item> {
+        let (name, export) = self.names.next_back()?;
+        Some((name, export))
+    }
+}
+
+impl ExactSizeIterator for Exports<'_> {}
+
+impl FusedIterator for Exports<'_> {}
+
+impl<'a> IntoIterator for &'a ExportMap {
+    type Item = (&'a str, &'a Export);
+    type IntoIter = Exports<'a>;
+
+    fn into_iter(self) -> Exports<'a> {
+        self.iter()
     }
 }

@@ -39,12 +39,15 @@ const MEMORY: u32 = 5;
 #[cfg(test)]
 const NO_SUCH_FAULT: u32 = 6;
 
-/// The form of the calls, of messages and of answers that this crate knows: the archive's own number has to be this one.
-const ABI: u32 = 6;
+/// The form of the calls, of messages and of answers that this crate knows: the archive's own number has to be this one. Its
+/// symbols have it too, so that another version of this crate, over another form, can be part of the same program.
+const ABI: u32 = 7;
 
 unsafe extern "C" {
+    #[link_name = "nuigatre7_abi"]
     safe fn nuigatre_abi() -> u32;
 
+    #[link_name = "nuigatre7_dedupe"]
     fn nuigatre_dedupe(
         wasm: *const u8,
         wasm_length: usize,
@@ -52,6 +55,7 @@ unsafe extern "C" {
         out_length: usize,
     ) -> Answer;
 
+    #[link_name = "nuigatre7_trim"]
     fn nuigatre_trim(
         seed0: u64,
         seed1: u64,
@@ -67,6 +71,7 @@ unsafe extern "C" {
         out_length: usize,
     ) -> Answer;
 
+    #[link_name = "nuigatre7_why"]
     fn nuigatre_why(
         seed0: u64,
         seed1: u64,
@@ -78,6 +83,7 @@ unsafe extern "C" {
         out_length: usize,
     ) -> Answer;
 
+    #[link_name = "nuigatre7_world"]
     fn nuigatre_world(
         seed0: u64,
         seed1: u64,
@@ -89,6 +95,7 @@ unsafe extern "C" {
         out_length: usize,
     ) -> Answer;
 
+    #[link_name = "nuigatre7_plan"]
     fn nuigatre_plan(
         seed0: u64,
         seed1: u64,
@@ -100,6 +107,7 @@ unsafe extern "C" {
         out_length: usize,
     ) -> Answer;
 
+    #[link_name = "nuigatre7_planned_world"]
     fn nuigatre_planned_world(
         seed0: u64,
         seed1: u64,
@@ -111,6 +119,8 @@ unsafe extern "C" {
         out_length: usize,
     ) -> Answer;
 
+    #[cfg(test)]
+    #[link_name = "nuigatre7_validate"]
     fn nuigatre_validate(
         seed0: u64,
         seed1: u64,
@@ -125,7 +135,25 @@ unsafe extern "C" {
         out_length: usize,
     ) -> Answer;
 
+    #[link_name = "nuigatre7_validated_module"]
+    fn nuigatre_validated_module(
+        seed0: u64,
+        seed1: u64,
+        message: *const u8,
+        message_length: usize,
+        modules: *const u8,
+        modules_length: usize,
+        has_adapter: bool,
+        adapter: *const u8,
+        adapter_length: usize,
+        required: *const u8,
+        required_length: usize,
+        out: *mut u8,
+        out_length: usize,
+    ) -> Answer;
+
     #[cfg(test)]
+    #[link_name = "nuigatre7_fault_text"]
     fn nuigatre_fault_text(call: u32, number: u32, out: *mut u8, out_length: usize) -> Answer;
 }
 
@@ -138,8 +166,8 @@ pub(crate) fn is_proved() -> bool {
         // SAFETY: it reads the entry of a symbol in a table of the program, which the linker fills.
         unsafe {
             std::arch::asm!(
-                ".weak nuigatre_unproved",
-                "mov {}, qword ptr [rip + nuigatre_unproved@GOTPCREL]",
+                ".weak nuigatre7_unproved",
+                "mov {}, qword ptr [rip + nuigatre7_unproved@GOTPCREL]",
                 out(reg) address,
                 options(pure, readonly, nostack, preserves_flags),
             );
@@ -271,6 +299,13 @@ pub(crate) fn world(message: &[u8], modules: &[u8], room: usize) -> Result<Answe
     answer_to(nuigatre_world, message, modules, room)
 }
 
+/// How many bytes a first buffer has for the answer of `world` to a message, at most so many of them for the record of the
+/// modules' imports and exports. What is not written to costs nothing, and a second call all that the first did.
+pub(crate) fn room_for_world(message: &str, modules: &[u8]) -> usize {
+    const MORE: usize = 1 << 22;
+    modules.len() + 4 * message.len() + (8 * modules.len()).min(MORE) + 4096
+}
+
 /// Makes the plan of a component. The answer is its text, which is JSON.
 pub(crate) fn plan(message: &[u8], modules: &[u8], room: usize) -> Result<Answered, Error> {
     answer_to(nuigatre_plan, message, modules, room)
@@ -310,19 +345,30 @@ fn answer_to(
     })
 }
 
-/// Validates the main module of a message, and then the adapter of this name, if one is given. The answer has no bytes.
-pub(crate) fn validate(
+/// An adapter or a library of a message, and the functions that are required of it, each as its name and its type in the
+/// binary format of WebAssembly, after how many they are.
+#[derive(Clone, Copy)]
+pub(crate) struct Required<'a> {
+    pub(crate) adapter: &'a str,
+    pub(crate) functions: &'a [u8],
+}
+
+/// Validates the main module of a message, or this adapter or library. The answer is its record, which is JSON.
+pub(crate) fn validated_module(
     message: &[u8],
     modules: &[u8],
-    adapter: Option<&str>,
+    adapter: Option<Required<'_>>,
     room: usize,
 ) -> Result<Answered, Error> {
-    let name = adapter.unwrap_or_default();
+    let (name, functions) = match adapter {
+        Some(required) => (required.adapter, required.functions),
+        None => ("", &b""[..]),
+    };
     let (seed0, seed1) = seed();
     answered(room, |out| {
         // SAFETY: as above.
         unsafe {
-            nuigatre_validate(
+            nuigatre_validated_module(
                 seed0,
                 seed1,
                 message.as_ptr(),
@@ -332,6 +378,8 @@ pub(crate) fn validate(
                 adapter.is_some(),
                 name.as_ptr(),
                 name.len(),
+                functions.as_ptr(),
+                functions.len(),
                 start(out),
                 out.len(),
             )
@@ -404,6 +452,37 @@ impl Answer {
     }
 }
 
+/// Validates the main module of a message, and then the adapter of this name, if one is given. The answer has no bytes. This
+/// crate asks for records; its tests compare them.
+#[cfg(test)]
+pub(crate) fn validate(
+    message: &[u8],
+    modules: &[u8],
+    adapter: Option<&str>,
+    room: usize,
+) -> Result<Answered, Error> {
+    let name = adapter.unwrap_or_default();
+    let (seed0, seed1) = seed();
+    answered(room, |out| {
+        // SAFETY: as above.
+        unsafe {
+            nuigatre_validate(
+                seed0,
+                seed1,
+                message.as_ptr(),
+                message.len(),
+                modules.as_ptr(),
+                modules.len(),
+                adapter.is_some(),
+                name.as_ptr(),
+                name.len(),
+                start(out),
+                out.len(),
+            )
+        }
+    })
+}
+
 /// The texts of the faults of calls on bytes. This crate has them itself; its tests compare them.
 #[cfg(test)]
 pub(crate) mod fault_text {
@@ -438,7 +517,7 @@ pub(crate) mod fault_text {
 #[cfg(test)]
 mod tests {
     use super::{
-        Answer, Answered, DONE, FAULT, Fault, MEMORY, NO_SUCH_FAULT, SAME, TOO_SMALL, answered,
+        ABI, Answer, Answered, DONE, FAULT, Fault, MEMORY, NO_SUCH_FAULT, SAME, TOO_SMALL, answered,
     };
     use crate::error::Error;
     use crate::place::About;
@@ -490,6 +569,28 @@ mod tests {
                 _ => panic!("no fault"),
             }
         }
+    }
+
+    /// Each symbol has the number of the form.
+    #[test]
+    fn symbols() {
+        let source = include_str!("ffi.rs");
+        let (_, rest) = source
+            .split_once("\nunsafe extern \"C\" {")
+            .expect("the declarations");
+        let (declared, _) = rest.split_once("\n}\n").expect("their end");
+        let names: Vec<&str> = declared
+            .match_indices("fn nuigatre_")
+            .filter_map(|(at, head)| declared[at + head.len()..].split_once('('))
+            .map(|it| it.0)
+            .collect();
+        assert!(names.len() > 9);
+        for name in names {
+            let symbol = format!("#[link_name = \"nuigatre{ABI}_{name}\"]");
+            assert!(declared.contains(&symbol), "{symbol}");
+        }
+        assert!(source.contains(&format!(".weak nuigatre{ABI}_unproved")));
+        assert!(include_str!("../Cargo.toml").contains(&format!("\nlinks = \"nuigatre{ABI}\"\n")));
     }
 
     /// Statuses that nothing is read of, and those that no archive of this version answers.

@@ -13,19 +13,20 @@ use std::ffi::c_void;
 use std::ptr;
 
 // The names that the archive calls. They are hidden: a shared library that this crate is part of does not export them, as
-// it would functions that are `no_mangle`, so each calls its own.
+// it would functions that are `no_mangle`, so each calls its own. They are weak: of two versions of this crate in one program
+// one has the heap of both, which is the C library's.
 #[cfg(all(target_os = "linux", target_arch = "x86_64"))]
 std::arch::global_asm!(
     ".pushsection .text.rattle_heap, \"ax\", @progbits",
-    ".globl rattle_alloc",
+    ".weak rattle_alloc",
     ".hidden rattle_alloc",
     ".type rattle_alloc, @function",
     "rattle_alloc: jmp {alloc}",
-    ".globl rattle_realloc",
+    ".weak rattle_realloc",
     ".hidden rattle_realloc",
     ".type rattle_realloc, @function",
     "rattle_realloc: jmp {realloc}",
-    ".globl rattle_dealloc",
+    ".weak rattle_dealloc",
     ".hidden rattle_dealloc",
     ".type rattle_dealloc, @function",
     "rattle_dealloc: jmp {dealloc}",

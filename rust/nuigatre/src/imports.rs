@@ -15,7 +15,7 @@ use crate::wit_types::Type;
 #[derive(Clone, Debug, PartialEq, Eq, Hash)]
 pub enum PayloadType {
     /// A future or stream type, and the name of a function that has it in a parameter or in its result.
-    Typed {
+    Type {
         /// The type.
         id: TypeId,
         /// The function.
@@ -49,17 +49,16 @@ impl PayloadInfo {
     #[must_use]
     pub fn payload(&self, resolve: &Resolved) -> Option<Type> {
         match &self.ty {
-            PayloadType::Typed { id, .. } => resolve.payload(*id),
+            PayloadType::Type { id, .. } => resolve.payload(*id),
             PayloadType::UnitFuture | PayloadType::UnitStream => None,
         }
     }
 }
 
 /// What an import of a core module is, by its name. Fields are in the order of `wit-component`'s; the function of
-/// `ExportedTaskReturn` is there by its name.
+/// `ExportedTaskReturn` is there by its name. These are all: another one is a new version of this crate.
 #[derive(Clone, Debug, PartialEq, Eq, Hash)]
 #[allow(missing_docs)]
-#[non_exhaustive]
 pub enum Import {
     WorldFunc(WorldKey, String, AbiVariant),
     InterfaceFunc(WorldKey, InterfaceId, String, AbiVariant),
@@ -166,7 +165,7 @@ pub enum Import {
 impl Read for PayloadType {
     fn read(value: &Value<'_>) -> Result<Self, Unread> {
         Ok(match value.kind()? {
-            "typed" => PayloadType::Typed {
+            "typed" => PayloadType::Type {
                 id: member(value, "type")?,
                 function: member(value, "function")?,
             },

@@ -37,6 +37,7 @@
 #![deny(unsafe_code)]
 #![warn(missing_docs)]
 
+mod binary;
 mod built_ins;
 mod compact;
 mod core_types;
@@ -56,6 +57,8 @@ mod json;
 mod memory;
 mod module_import_map;
 mod ordered_map;
+mod ordered_set;
+mod originals;
 mod place;
 mod plan;
 mod read;
@@ -92,12 +95,13 @@ pub use encoder::{
     Adapter, ComponentEncoder, ImportOptions, Instance, Item, LibraryInfo, MainOrAdapter, World,
 };
 pub use error::Error;
-pub use exports::{Export, ExportMap};
+pub use exports::{Export, ExportMap, Exports};
 pub use faults::{DedupeError, DedupeFault, GcFault, ReadFault, TrimError};
 pub use ids::{AbiVariant, InterfaceId, StringEncoding, TypeId, WorldKey};
 pub use imports::{Import, ImportInstance, ImportMap, PayloadInfo, PayloadType};
 pub use module_import_map::{ModuleImportMap, Rename};
-pub use ordered_map::{Iter, Lookup, OrderedMap};
+pub use ordered_map::{Iter, Keys, Lookup, OrderedMap};
+pub use ordered_set::OrderedSet;
 pub use place::{Place, Subject, TypeDifference};
 pub use plan::{Plan, Use, UsedImport};
 pub use refused::Refused;
@@ -108,6 +112,6 @@ pub use validation::{validate_adapter_module, validate_module};
 pub use wit_types::Type;
 pub use world::{ComponentWorld, ImportedInterface, Lowering, ValidatedModule, WorldAdapter};
 pub use world_error::{
-    EncoderFault, JsonFault, PlanFault, Problem, ResolveFault, ValidateFault, WorldError,
-    WorldFault,
+    AdapterModuleDidNotExport, EncoderFault, JsonFault, PlanFault, Problem, ResolveFault,
+    ValidateError, ValidateFault, WorldError, WorldFault,
 };

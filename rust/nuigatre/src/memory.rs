@@ -86,6 +86,10 @@ impl<T> Held<T> {
     pub(crate) fn get(&self) -> Option<&T> {
         self.0.first()
     }
+
+    pub(crate) fn into_option(mut self) -> Option<T> {
+        self.0.pop()
+    }
 }
 
 /// A text that is written piece by piece. All that fails is an allocation.

@@ -1,6 +1,6 @@
 //! Maps that keep their order.
 
-use crate::ids::{AbiVariant, InterfaceId, WorldKey};
+use crate::ids::{AbiVariant, InterfaceId, TypeId, WorldKey};
 use crate::index::Index;
 use crate::memory::OutOfMemory;
 use std::fmt::{self, Debug, Formatter};
@@ -29,6 +29,7 @@ impl Sealed<Option<String>> for Option<String> {}
 impl Sealed<(String, AbiVariant)> for (&str, AbiVariant) {}
 impl Sealed<(String, AbiVariant)> for (String, AbiVariant) {}
 impl Sealed<InterfaceId> for InterfaceId {}
+impl Sealed<TypeId> for TypeId {}
 impl Sealed<WorldKey> for WorldKey {}
 
 impl Lookup<String> for str {
@@ -79,6 +80,12 @@ impl Lookup<InterfaceId> for InterfaceId {
     }
 }
 
+impl Lookup<TypeId> for TypeId {
+    fn is(&self, key: &TypeId) -> bool {
+        self == key
+    }
+}
+
 /// A map that keeps its entries in order. A look-up takes as long in a long map as in a short one.
 ///
 /// A map is asked by a borrowed key: by `"name"` where keys are texts, by `&Some("name")` or `&None` where they are
@@ -104,9 +111,10 @@ impl<K, V> OrderedMap<K, V> {
     }
 
     /// The keys in order.
-    #[must_use]
-    pub fn keys(&self) -> impl ExactSizeIterator<Item = &K> + DoubleEndedIterator {
-        self.entries.iter().map(|(key, _)| key)
+    pub fn keys(&self) -> Keys<'_, K, V> {
+        Keys {
+            entries: self.entries.iter(),
+        }
     }
 
     /// The values in the order of their keys.
@@ -133,11 +141,31 @@ impl<K, V> OrderedMap<K, V> {
         self.entries.get(position).map(|(key, value)| (key, value))
     }
 
+    /// The first key and its value.
+    #[must_use]
+    pub fn first(&self) -> Option<(&K, &V)> {
+        self.get_index(0)
+    }
+
+    /// The last key and its value.
+    #[must_use]
+    pub fn last(&self) -> Option<(&K, &V)> {
+        self.entries.last().map(|(key, value)| (key, value))
+    }
+
     /// The position of a key.
     #[must_use]
     pub fn get_index_of<Q: Lookup<K> + ?Sized>(&self, key: &Q) -> Option<usize> {
         let is_at = |position: usize| key.is(&self.entries[position].0);
         self.index.find(key, self.entries.len(), is_at)
+    }
+
+    /// The position of a key, the key and its value.
+    #[must_use]
+    pub fn get_full<Q: Lookup<K> + ?Sized>(&self, key: &Q) -> Option<(usize, &K, &V)> {
+        let position = self.get_index_of(key)?;
+        let (key, value) = &self.entries[position];
+        Some((position, key, value))
     }
 
     /// The value under a key.
@@ -231,6 +259,43 @@ impl<K, V> ExactSizeIterator for Iter<'_, K, V> {}
 
 impl<K, V> FusedIterator for Iter<'_, K, V> {}
 
+/// The keys of an [`OrderedMap`], or the members of an [`OrderedSet`](crate::OrderedSet), in order.
+#[derive(Debug)]
+#[must_use = "iterators do nothing unless they are gone through"]
+pub struct Keys<'a, K, V> {
+    entries: slice::Iter<'a, (K, V)>,
+}
+
+impl<K, V> Clone for Keys<'_, K, V> {
+    fn clone(&self) -> Self {
+        Keys {
+            entries: self.entries.clone(),
+        }
+    }
+}
+
+impl<'a, K, V> Iterator for Keys<'a, K, V> {
+    type Item = &'a K;
+
+    fn next(&mut self) -> Option<&'a K> {
+        self.entries.next().map(|(key, _)| key)
+    }
+
+    fn size_hint(&self) -> (usize, Option<usize>) {
+        self.entries.size_hint()
+    }
+}
+
+impl<K, V> DoubleEndedIterator for Keys<'_, K, V> {
+    fn next_back(&mut self) -> Option<Self::Item> {
+        self.entries.next_back().map(|(key, _)| key)
+    }
+}
+
+impl<K, V> ExactSizeIterator for Keys<'_, K, V> {}
+
+impl<K, V> FusedIterator for Keys<'_, K, V> {}
+
 impl<'a, K, V> IntoIterator for &'a OrderedMap<K, V> {
     type Item = (&'a K, &'a V);
     type IntoIter = Iter<'a, K, V>;
@@ -284,6 +349,13 @@ mod tests {
         let map = OrderedMap::of(entries.clone()).expect("memory");
         assert_eq!(map.keys().collect::<Vec<_>>(), ["b", "a"]);
         assert_eq!(map.values().rev().collect::<Vec<_>>(), [&2, &1]);
+        let (b, a) = (&entries[0], &entries[1]);
+        assert_eq!(map.first(), Some((&b.0, &b.1)));
+        assert_eq!(map.last(), Some((&a.0, &a.1)));
+        assert_eq!(map.get_full("a"), Some((1, &a.0, &a.1)));
+        assert_eq!(map.get_full("c"), None);
+        let empty = OrderedMap::<String, i32>::default();
+        assert_eq!((empty.first(), empty.last()), (None, None));
         assert_eq!(format!("{map:?}"), "{\"b\": 1, \"a\": 2}");
         let mut borrowed = Vec::new();
         for (name, number) in &map {

@@ -65,8 +65,7 @@ impl Plan {
     /// - `Memory`: an allocation failed.
     /// - `OtherVersion`: the library is of another version than this crate.
     pub fn new(encoder: &ComponentEncoder<'_>) -> Result<Self, Error> {
-        let message = encoder.message()?;
-        let modules = encoder.modules()?;
+        let (message, modules) = encoder.question()?;
         let room = PER_BYTE * message.len() + 4096;
         match ffi::plan(message.as_bytes(), &modules, room)? {
             Answered::Bytes { bytes, .. } => Ok(read_plan(&bytes)?),

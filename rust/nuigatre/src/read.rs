@@ -4,6 +4,7 @@ use crate::error::Error;
 use crate::json::Value;
 use crate::memory::{OutOfMemory, string};
 use crate::ordered_map::OrderedMap;
+use crate::ordered_set::OrderedSet;
 use std::fmt::{self, Display, Formatter};
 use std::hash::Hash;
 
@@ -168,4 +169,9 @@ pub(crate) fn map<K: Hash, V>(
     read: impl Fn(&Value<'_>) -> Result<(K, V), Unread>,
 ) -> Result<OrderedMap<K, V>, Unread> {
     Ok(OrderedMap::of(list(object, name, read)?)?)
+}
+
+/// The set of the list that is the member of this name of an object.
+pub(crate) fn set<T: Read + Hash>(object: &Value<'_>, name: &str) -> Result<OrderedSet<T>, Unread> {
+    Ok(OrderedSet::of(member(object, name)?)?)
 }

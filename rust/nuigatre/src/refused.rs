@@ -5,7 +5,8 @@ use crate::place::{Place, Shown};
 use std::error;
 use std::fmt::{self, Debug, Display, Formatter};
 
-/// Why something is refused. Its text is that of the fault, and its source [the place](Refused::place).
+/// Why something is refused. Its text is that of the fault. Its source is [the place](Refused::place), or an
+/// [`AdapterModuleDidNotExport`](crate::AdapterModuleDidNotExport) if the fault is that.
 #[derive(Clone, PartialEq, Eq)]
 pub struct Refused<F> {
     fault: F,
@@ -18,6 +19,11 @@ impl<F> Refused<F> {
             fault,
             place: Held::of(place)?,
         })
+    }
+
+    /// The fault, and the place if there is one.
+    pub(crate) fn into_parts(self) -> (F, Option<Place>) {
+        (self.fault, self.place.into_option())
     }
 
     /// What is wrong.
@@ -45,6 +51,8 @@ impl<F> Refused<F> {
     /// - of [`Resolve`](crate::WorldFault::Resolve) a world, an interface, a type or a package;
     /// - of [`UnknownWorld`](crate::WorldFault::UnknownWorld) and [`SeveralWorlds`](crate::WorldFault::SeveralWorlds) the
     ///   worlds that there are.
+    ///
+    /// Of the validation of one module as of [`Main`](crate::WorldFault::Main), without the name of an adapter.
     #[must_use]
     pub fn place(&self) -> Option<&Place> {
         self.place.get()
@@ -67,9 +75,11 @@ impl<F: Debug> Debug for Refused<F> {
     }
 }
 
-impl<F: Debug + Display> error::Error for Refused<F> {
-    /// [The place](Refused::place).
+impl<F: error::Error> error::Error for Refused<F> {
+    /// The source of the fault, which only [`AdapterModuleDidNotExport`](crate::AdapterModuleDidNotExport) is; else
+    /// [the place](Refused::place).
     fn source(&self) -> Option<&(dyn error::Error + 'static)> {
-        self.place().map(|place| place as _)
+        let place = || self.place().map(|place| place as _);
+        self.fault.source().or_else(place)
     }
 }

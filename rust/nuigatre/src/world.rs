@@ -12,13 +12,11 @@ use crate::json::Value;
 use crate::memory::{concat, fitted, push};
 use crate::module_import_map::{ModuleImportMap, Rename};
 use crate::ordered_map::OrderedMap;
+use crate::ordered_set::OrderedSet;
 use crate::plan::Plan;
-use crate::read::{Read, Unread, list, map, member, optional_member};
+use crate::read::{Read, Unread, list, map, member, optional_member, set};
 use crate::required_options::RequiredOptions;
 use crate::world_error::world_error;
-
-/// How many bytes of a first buffer are for the record of the modules' imports and exports, at most.
-const MORE: usize = 1 << 22;
 
 /// What a core module imports and exports.
 #[derive(Clone, Debug, Default, PartialEq, Eq)]
@@ -42,9 +40,8 @@ pub struct WorldAdapter {
     pub library_info: Option<LibraryInfo>,
 }
 
-/// How an import of a core module is met.
+/// How an import of a core module is met. These are all: another one is a new version of this crate.
 #[derive(Clone, Debug, PartialEq, Eq)]
-#[non_exhaustive]
 pub enum Lowering {
     /// The function is lowered before the core module is instantiated.
     Direct {
@@ -92,9 +89,9 @@ pub struct ComponentWorld {
     /// the functions and types that the world itself imports.
     pub import_map: OrderedMap<Option<String>, ImportedInterface>,
     /// The live types of imports, by the interfaces that own them.
-    pub live_type_imports: OrderedMap<InterfaceId, Vec<TypeId>>,
+    pub live_type_imports: OrderedMap<InterfaceId, OrderedSet<TypeId>>,
     /// For each interface that the world exports, the exported interfaces that it uses, in the order of its exports.
-    pub exports_used: OrderedMap<InterfaceId, Vec<InterfaceId>>,
+    pub exports_used: OrderedMap<InterfaceId, OrderedSet<InterfaceId>>,
     /// The positions in `import_map` of the interfaces that are imported under their own ids.
     own_ids: OrderedMap<InterfaceId, usize>,
     /// Of the keys of what modules export, which exports it: 0 for the main module, and then each adapter.
@@ -172,6 +169,22 @@ impl ComponentWorld {
         }
     }
 
+    /// The names of the exports for which the adapter of this name was trimmed: of the functions that the main module imports
+    /// from it, and then of the exports that it has for the component; each name once. Of a library, which is not trimmed, the
+    /// same. With these names [`gc::why`](crate::gc::why) says, of the bytes that the encoder has, why the adapter needs its
+    /// imports. `None` where the component has no such adapter.
+    pub fn required_exports(&self, adapter: &str) -> Option<impl Iterator<Item = &str>> {
+        let imported = self.info.imports.required_from_adapter(adapter);
+        let exports = self.adapters.get(adapter)?.info.exports.iter();
+        let others = exports.filter(move |it| !imported.contains_key(it.0));
+        Some(
+            imported
+                .keys()
+                .map(String::as_str)
+                .chain(others.map(|it| it.0)),
+        )
+    }
+
     /// How an import of a core module is met; `None` where it is met by nothing that the world imports.
     #[must_use]
     pub fn lowering(&self, import: &Import) -> Option<&Lowering> {
@@ -222,11 +235,8 @@ fn made<T>(
     call: Call,
     more: impl FnOnce(&Value<'_>) -> Result<T, Unread>,
 ) -> Result<(ComponentWorld, T), Error> {
-    let message = encoder.message()?;
-    let modules = encoder.modules()?;
-    // what is not written to costs nothing, and a second call all that the first did
-    let record = 4 * message.len() + (8 * modules.len()).min(MORE) + 4096;
-    let room = modules.len() + record;
+    let (message, modules) = encoder.question()?;
+    let room = ffi::room_for_world(&message, &modules);
     match call(message.as_bytes(), &modules, room)? {
         Answered::Bytes {
             bytes,
@@ -284,10 +294,10 @@ fn read_world<T>(
         info,
         adapters,
         live_type_imports: map(&value, "live_type_imports", |entry| {
-            Ok((member(entry, "interface")?, member(entry, "types")?))
+            Ok((member(entry, "interface")?, set(entry, "types")?))
         })?,
         exports_used: map(&value, "exports_used", |entry| {
-            Ok((member(entry, "interface")?, member(entry, "uses")?))
+            Ok((member(entry, "interface")?, set(entry, "uses")?))
         })?,
     };
     let more = more(&value)?;

@@ -220,8 +220,8 @@ pub enum ValidateFault {
     MissingInterfaceExport,
     /// A function of the world that has to be exported is not.
     MissingWorldExport,
-    /// An adapter doesn't export the function of this name, which is imported from it.
-    AdapterModuleDidNotExport(String),
+    /// An adapter doesn't export a function that is imported from it.
+    AdapterModuleDidNotExport(AdapterModuleDidNotExport),
     /// An adapter exports what is imported from it with another type.
     AdapterExportType,
     /// A function's type names a type of its module by an index, which means nothing in another module: that of a
@@ -229,6 +229,25 @@ pub enum ValidateFault {
     /// function of `env` reads or writes.
     TypedReference,
 }
+
+/// An adapter doesn't export the function of this name, which is imported from it. It is in the chain of sources of each
+/// error that is about this, and can be asked for there:
+///
+/// ```
+/// use nuigatre::AdapterModuleDidNotExport;
+/// use std::error::Error;
+///
+/// fn missing<'a>(error: &'a (dyn Error + 'static)) -> Option<&'a AdapterModuleDidNotExport> {
+///     let mut chain = std::iter::successors(Some(error), |&error| error.source());
+///     chain.find_map(|error| error.downcast_ref())
+/// }
+/// # assert_eq!(missing(&nuigatre::Error::Memory), None);
+/// ```
+#[derive(Clone, Debug, PartialEq, Eq, Hash)]
+pub struct AdapterModuleDidNotExport(pub String);
+
+/// Why a core module is refused by itself, and where.
+pub type ValidateError = Refused<ValidateFault>;
 
 /// What a message begins with, before the worlds.
 pub(crate) const BEFORE_WORLDS: &str = "{\"resolve\":";
@@ -287,7 +306,8 @@ impl ValidateFault {
             (20, 0) => ValidateFault::MissingWorldExport,
             (21, 0) => {
                 let name = about.and_then(About::missing_export);
-                ValidateFault::AdapterModuleDidNotExport(string(name.ok_or(Unread::Unknown)?)?)
+                let name = string(name.ok_or(Unread::Unknown)?)?;
+                ValidateFault::AdapterModuleDidNotExport(AdapterModuleDidNotExport(name))
             }
             (22, 0) => ValidateFault::AdapterExportType,
             (23, 0) => ValidateFault::TypedReference,
@@ -419,14 +439,40 @@ impl Display for ValidateFault {
     fn fmt(&self, f: &mut Formatter<'_>) -> fmt::Result {
         match self {
             ValidateFault::Read(fault) => write!(f, "Read: {fault}"),
-            ValidateFault::AdapterModuleDidNotExport(name) => {
-                write!(f, "adapter module did not export {}", Backquoted(name))
-            }
+            ValidateFault::AdapterModuleDidNotExport(fault) => write!(f, "{fault}"),
             fault => write!(f, "{fault:?}"),
         }
     }
 }
 
-impl error::Error for WorldFault {}
+impl Display for AdapterModuleDidNotExport {
+    fn fmt(&self, f: &mut Formatter<'_>) -> fmt::Result {
+        write!(f, "adapter module did not export {}", Backquoted(&self.0))
+    }
+}
+
+impl error::Error for WorldFault {
+    /// An [`AdapterModuleDidNotExport`], if the fault is that.
+    fn source(&self) -> Option<&(dyn error::Error + 'static)> {
+        match self {
+            WorldFault::Main(fault)
+            | WorldFault::Adapter(_, fault)
+            | WorldFault::Minimized(_, fault) => fault.source(),
+            _ => None,
+        }
+    }
+}
+
 impl error::Error for JsonFault {}
-impl error::Error for ValidateFault {}
+
+impl error::Error for ValidateFault {
+    /// An [`AdapterModuleDidNotExport`], if the fault is that.
+    fn source(&self) -> Option<&(dyn error::Error + 'static)> {
+        match self {
+            ValidateFault::AdapterModuleDidNotExport(fault) => Some(fault),
+            _ => None,
+        }
+    }
+}
+
+impl error::Error for AdapterModuleDidNotExport {}

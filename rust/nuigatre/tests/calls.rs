@@ -143,7 +143,7 @@ fn which_library() {
         return;
     };
     let library = fs::read(Path::new(&folder).join("libnuigatre.a")).expect("the library");
-    let symbol = b"nuigatre_unproved";
+    let symbol = b"nuigatre7_unproved";
     let is_unproved = library.windows(symbol.len()).any(|at| at == symbol);
     assert_eq!(nuigatre::is_proved(), !is_unproved);
 }

@@ -1,9 +1,9 @@
 //! What faults are about: ten ordinary mistakes, and the parts of an adapter and of worlds.
 
 use nuigatre::{
-    Adapter, ComponentEncoder, ComponentWorld, Error, GcFault, ModuleImportMap, Plan, PlanFault,
-    ResolveFault, Resolved, Subject, ValidateFault, WorldFault, gc, validate_adapter_module,
-    validate_module,
+    Adapter, AdapterModuleDidNotExport, ComponentEncoder, ComponentWorld, Error, FuncType, GcFault,
+    ModuleImportMap, OrderedMap, Plan, PlanFault, ResolveFault, Resolved, Subject, ValidateFault,
+    WorldFault, gc, validate_adapter_module, validate_module,
 };
 use std::error::Error as _;
 
@@ -129,8 +129,11 @@ fn mistake(main: &[u8], adapters: &[Adapter<'_>]) -> (Error, String) {
         _ => assert_eq!(ComponentWorld::new(&encoder), Err(error.clone())),
     }
     let place = error.place().map(ToString::to_string);
-    // the source says the same, and so does what is printed where `main` ends with the error
-    assert_eq!(error.source().map(ToString::to_string), place);
+    // the source says the same, unless it is an error of its own; and so does what is printed where `main` ends with the error
+    match error.source() {
+        Some(source) if source.is::<AdapterModuleDidNotExport>() => {}
+        source => assert_eq!(source.map(ToString::to_string), place),
+    }
     let debugged = format!("{error:?}");
     assert!(
         place.iter().all(|place| debugged.contains(place)),
@@ -154,8 +157,34 @@ fn assert_main(main: &[u8], fault: ValidateFault, wanted: &str) {
     assert_eq!(*world_fault(&error), WorldFault::Main(fault));
     assert_eq!(place, wanted);
     // validation alone finds the same
-    let encoder = ComponentEncoder::new(WORLDS, "w", main);
-    assert_eq!(validate_module(&encoder), Err(error));
+    let encoder = ComponentEncoder::new(WORLDS, "w", b"");
+    let WorldFault::Main(fault) = world_fault(&error) else {
+        panic!("no fault of the main module: {error:?}");
+    };
+    let alone = validate_module(&encoder, main, None).expect_err("a mistake");
+    assert_eq!(validate_fault(&alone), fault);
+    assert_eq!(alone.place(), error.place());
+    assert_eq!(alone.to_string(), format!("Validate: {fault}"));
+}
+
+fn validate_fault(error: &Error) -> &ValidateFault {
+    match error {
+        Error::Validate(error) => error.fault(),
+        other => panic!("no fault of one module: {other:?}"),
+    }
+}
+
+/// The functions that a main module imports from `old`.
+fn required(main: &[u8], old: &[u8]) -> OrderedMap<String, FuncType> {
+    let mut encoder = ComponentEncoder::new(WORLDS, "w", b"");
+    encoder.adapters.push(Adapter::new("old", old));
+    let main = validate_module(&encoder, main, None).expect("a module");
+    main.imports.required_from_adapter("old").clone()
+}
+
+/// No functions.
+fn none() -> OrderedMap<String, FuncType> {
+    OrderedMap::default()
 }
 
 #[test]
@@ -273,14 +302,18 @@ fn an_adapter_for_the_wrong_world() {
         error.place().and_then(|it| it.adapter.as_deref()),
         Some(name)
     );
-    // validation alone finds the same
+    // validation alone finds the same, but for the name
     let mut encoder = ComponentEncoder::new(WORLDS, "w", &main);
     encoder.adapters = adapters.to_vec();
-    assert_eq!(validate_module(&encoder), Ok(()));
-    assert_eq!(validate_adapter_module(&encoder, name), Err(error));
+    let required = validate_module(&encoder, &main, None).expect("a module");
+    let required = required.imports.required_from_adapter(name);
+    let alone = validate_adapter_module(&encoder, &wasm, required, &[], None);
+    let alone = alone.expect_err("an import of nothing");
+    assert_eq!(*validate_fault(&alone), ValidateFault::UnknownInterface);
+    let wanted = r#"import "wasi:cli/stdout@0.2.6" "get-stdout""#;
     assert_eq!(
-        validate_adapter_module(&encoder, "other"),
-        Err(Error::UnknownAdapter)
+        alone.place().map(ToString::to_string).as_deref(),
+        Some(wanted)
     );
 }
 
@@ -316,6 +349,18 @@ fn cut_modules() {
     assert_eq!(place, format!("{wanted}, in adapter \"old\""));
 }
 
+/// What callers look for among the sources of an error.
+fn source_of(error: &Error) -> Option<&AdapterModuleDidNotExport> {
+    let world = match error {
+        Error::World(error) => error.fault().source(),
+        Error::Validate(error) => error.fault().source(),
+        _ => None,
+    };
+    let source = error.source().and_then(|it| it.downcast_ref());
+    assert_eq!(source, world.and_then(|it| it.downcast_ref()));
+    source
+}
+
 /// Names of adapters, and of what they lack, that are like texts of faults.
 #[test]
 fn names_like_texts() {
@@ -331,7 +376,9 @@ fn names_like_texts() {
         let lacking = module(&[], &[("g", ("i", "i"))], false);
         let adapters = names.map(|other| Adapter::new(other, &lacking));
         let (error, place) = mistake(&main, &adapters);
-        let lacks = ValidateFault::AdapterModuleDidNotExport("f".into());
+        let lacks = AdapterModuleDidNotExport("f".into());
+        assert_eq!(source_of(&error), Some(&lacks));
+        let lacks = ValidateFault::AdapterModuleDidNotExport(lacks);
         assert_eq!(
             *world_fault(&error),
             WorldFault::Adapter(name.into(), lacks)
@@ -340,7 +387,9 @@ fn names_like_texts() {
         // the export that is missing has the name
         let main = main_module(&[("a", name, ("i", "i"))]);
         let (error, _) = mistake(&main, &adapters);
-        let lacks = ValidateFault::AdapterModuleDidNotExport(name.into());
+        let lacks = AdapterModuleDidNotExport(name.into());
+        assert_eq!(source_of(&error), Some(&lacks));
+        let lacks = ValidateFault::AdapterModuleDidNotExport(lacks);
         assert_eq!(*world_fault(&error), WorldFault::Adapter("a".into(), lacks));
         // two memories are reached: a fault without a place in the adapter
         let memories = b"\0asm\x01\0\0\0\x01\x04\x01\x60\0\0\x02\x24\x02\x03env\x06memory\x02\0\x01\x0f__main_module__\x01m\x02\0\x01\
@@ -381,17 +430,35 @@ fn adapters_alone() {
     let mut encoder = ComponentEncoder::new(WORLDS, "w", &main);
     encoder.adapters = vec![Adapter::new("bad", &bad), Adapter::new("good", &good)];
     assert!(ComponentWorld::new(&encoder).is_ok());
-    assert_eq!(validate_module(&encoder), Ok(()));
-    assert_eq!(validate_adapter_module(&encoder, "good"), Ok(()));
-    let error = validate_adapter_module(&encoder, "bad").expect_err("an import of nothing");
-    assert_eq!(error.to_string(), "World: Adapter `bad`: UnknownInterface");
-    let place = error.place().expect("a place").to_string();
-    assert_eq!(place, r#"import "nowhere" "f", in adapter "bad""#);
-    // the main module is validated before
-    let wrong = main_module(&[("nowhere", "g", ("", ""))]);
-    encoder.module = &wrong;
-    let error = validate_adapter_module(&encoder, "good").expect_err("an import of nothing");
-    assert_eq!(error.to_string(), "World: Main: UnknownInterface");
+    validate_module(&encoder, &main, None).expect("a module");
+    validate_adapter_module(&encoder, &good, &none(), &[], None).expect("an adapter");
+    let alone = |wasm: &[u8], required: &OrderedMap<String, FuncType>| {
+        let refused = validate_adapter_module(&encoder, wasm, required, &[], None);
+        let error = refused.expect_err("a mistake");
+        (error.to_string(), error.place().map(ToString::to_string))
+    };
+    let (text, place) = alone(&bad, &none());
+    assert_eq!(text, "Validate: UnknownInterface");
+    assert_eq!(place.as_deref(), Some(r#"import "nowhere" "f""#));
+    // what is required of it, and is not there or has another type
+    let required = required(&main_module(&[("old", "g", ("i", "i"))]), &good);
+    let (text, place) = alone(&good, &required);
+    assert_eq!(text, "Validate: adapter module did not export `g`");
+    assert_eq!(place.as_deref(), Some(r#"missing export "g""#));
+    let other = module(&[], &[("g", ("", "i"))], false);
+    let (text, place) = alone(&other, &required);
+    assert_eq!(text, "Validate: AdapterExportType");
+    let wanted = r#"export "g", wanted (i32) -> i32, found () -> i32"#;
+    assert_eq!(place.as_deref(), Some(wanted));
+    let (text, place) = alone(b"(module)", &required);
+    assert_eq!(
+        (text.as_str(), place.as_deref()),
+        ("Validate: Read: NotWasm", Some("byte 0"))
+    );
+    // the encoder's own module is not looked at
+    assert_eq!(encoder.module, &main[..]);
+    encoder.module = b"";
+    validate_adapter_module(&encoder, &other, &none(), &[], None).expect("an adapter");
 }
 
 /// Names of any characters. The place is longer than the first buffer that validation alone has.
@@ -415,7 +482,7 @@ fn long_names() {
 fn no_encoder() {
     let main = main_module(&[]);
     let encoder = ComponentEncoder::new(WORLDS, "other", &main);
-    let error = validate_module(&encoder).expect_err("no such world");
+    let error = validate_module(&encoder, &main, None).expect_err("no such world");
     assert_eq!(
         *world_fault(&error),
         WorldFault::UnknownWorld("other".into())
@@ -423,7 +490,7 @@ fn no_encoder() {
     assert_eq!(error.to_string(), "UnknownWorld `other`");
     let worlds = error.place().map(ToString::to_string);
     assert_eq!(worlds.as_deref(), Some(r#"worlds "my:demo/w@0.2.0""#));
-    let adapter = validate_adapter_module(&encoder, "old");
+    let adapter = validate_adapter_module(&encoder, b"", &none(), &[], None);
     assert_eq!(adapter, Err(error));
 }
 

@@ -1,10 +1,11 @@
 //! The world of a small component, and why there is none.
 
 use nuigatre::{
-    AbiVariant, Adapter, ComponentEncoder, ComponentWorld, DedupeFault, Error, ExportMap, FuncType,
-    Import, ImportInstance, ImportOptions, InterfaceId, JsonFault, Lowering, MainOrAdapter,
-    ModuleImportMap, Plan, PlanFault, Problem, ReadFault, RequiredOptions, ResolveFault,
-    ValidateFault, World, WorldFault, WorldKey, validate_adapter_module, validate_module,
+    AbiVariant, Adapter, AdapterModuleDidNotExport, ComponentEncoder, ComponentWorld, DedupeFault,
+    Error, ExportMap, FuncType, Import, ImportInstance, ImportOptions, InterfaceId, JsonFault,
+    Lowering, MainOrAdapter, ModuleImportMap, OrderedMap, Plan, PlanFault, Problem, ReadFault,
+    RequiredOptions, ResolveFault, ValidateFault, World, WorldFault, WorldKey,
+    validate_adapter_module, validate_module,
 };
 use std::collections::HashSet;
 use std::thread;
@@ -271,7 +272,8 @@ fn modules_that_are_refused() {
     let wasm: Vec<u8> = wasm.collect();
     lacking.adapters[0].wasm = &wasm;
     let (fault, text) = fault_of(&lacking);
-    let missing = ValidateFault::AdapterModuleDidNotExport("b".into());
+    let missing = AdapterModuleDidNotExport("b".into());
+    let missing = ValidateFault::AdapterModuleDidNotExport(missing);
     assert_eq!(fault, WorldFault::Adapter("old".into(), missing), "{text}");
 }
 
@@ -293,8 +295,10 @@ fn on_a_stack_of_its_size() {
                 encoder.resolve = (&worlds).into();
                 let is_made = ComponentWorld::new(&encoder).is_ok();
                 assert_eq!(Plan::new(&encoder).is_ok(), is_made);
-                assert_eq!(validate_module(&encoder).is_ok(), is_made);
-                assert_eq!(validate_adapter_module(&encoder, "old").is_ok(), is_made);
+                assert_eq!(validate_module(&encoder, MAIN, None).is_ok(), is_made);
+                let none = &OrderedMap::<String, FuncType>::default();
+                let old = validate_adapter_module(&encoder, OLD, none, &[], None);
+                assert_eq!(old.is_ok(), is_made);
                 is_made
             };
             let thread = thread::Builder::new().stack_size(256 << 10);
@@ -386,7 +390,7 @@ fn plan_by_import_options() {
         }
         answer => panic!("no fault: {answer:?}"),
     }
-    validate_module(&encoder).expect("a valid module");
+    validate_module(&encoder, MAIN, None).expect("a valid module");
     let worlds = WORLDS.replace("u32", "string");
     let main =
         b"\0asm\x01\0\0\0\x01\x06\x01\x60\x02\x7f\x7f\0\x02\x16\x01\x0cmy:demo/host\x05hello\0\0";
@@ -450,7 +454,8 @@ fn names_in_texts() {
     encoder.adapters[0].wasm = b"\0asm\x01\0\0\0";
     let other = "old`: adapter module did not export `b";
     encoder.adapters.push(Adapter::new(other, OLD));
-    let missing = ValidateFault::AdapterModuleDidNotExport("b".into());
+    let missing = AdapterModuleDidNotExport("b".into());
+    let missing = ValidateFault::AdapterModuleDidNotExport(missing);
     let (fault, text) = fault_of(&encoder);
     assert_eq!(fault, WorldFault::Adapter("old".into(), missing));
     assert_eq!(text, format!("World: Adapter `{other}`"));

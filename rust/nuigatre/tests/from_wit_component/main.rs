@@ -1,0 +1,192 @@
+//! The code of docs/FROM-WIT-COMPONENT.md, over a small stand-in of the crates that an encoder is made of.
+
+mod replacement;
+mod wit_component;
+mod wit_parser;
+
+use nuigatre::{
+    Adapter, AdapterModuleDidNotExport, ComponentEncoder, ComponentWorld, InterfaceId, WorldKey,
+};
+use replacement::{
+    Ids, alone, asked_key, component_world, is_of_exports, lacking, live_types, lowered, resolved,
+};
+use wit_component::Metadata;
+use wit_parser::Resolve;
+
+const PAGE: &str = include_str!("../../../../docs/FROM-WIT-COMPONENT.md");
+const CODE: &str = include_str!("replacement.rs");
+const EXAMPLE: &str = include_str!("../../examples/encoder.rs");
+
+/// A world that imports `a:b/host`, which has `hello: func(x: thing)` and `say: func(x: string)` and the record `thing`; and
+/// exports `a:b/run`, whose `go: func(x: thing)` takes it too, and `a:b/more`, which uses that of `a:b/run`.
+const SERIALIZED: &str = r#"{
+    "worlds": [{"name": "none", "imports": {}, "exports": {}, "package": null}, {"name": "app", "package": 0,
+        "imports": {"interface-0": {"interface": {"id": 0}}},
+        "exports": {"interface-1": {"interface": {"id": 1}}, "interface-2": {"interface": {"id": 2}}}}],
+    "interfaces": [
+        {"name": "host", "types": {"thing": 0}, "package": 0, "functions": {
+            "hello": {"name": "hello", "kind": "freestanding", "params": [{"name": "x", "type": 0}]},
+            "say": {"name": "say", "kind": "freestanding", "params": [{"name": "x", "type": "string"}]}}},
+        {"name": "run", "types": {"own": 1}, "package": 0, "functions": {
+            "go": {"name": "go", "kind": "freestanding", "params": [{"name": "x", "type": 1}]}}},
+        {"name": "more", "types": {"other": 2}, "package": 0, "functions": {
+            "stop": {"name": "stop", "kind": "freestanding", "params": [{"name": "x", "type": 2}]}}}],
+    "types": [
+        {"name": "thing", "kind": {"record": {"fields": [{"name": "x", "type": "u32"}]}}, "owner": {"interface": 0}},
+        {"name": "own", "kind": {"record": {"fields": [{"name": "x", "type": "u32"}]}}, "owner": {"interface": 1}},
+        {"name": "other", "kind": {"type": 1}, "owner": {"interface": 2}}],
+    "packages": [{"name": "a:b", "interfaces": {"host": 0, "run": 1, "more": 2}, "worlds": {"app": 1}}]
+}"#;
+
+/// Imports `hello` and `say` of `a:b/host` and `f` of `old`, and exports `go` and a memory; the adapter `old` exports `f` and
+/// `stop`.
+const MAIN: &[u8] = b"\0asm\x01\0\0\0\x01\x0d\x03\x60\0\0\x60\x01\x7f\0\x60\x02\x7f\x7f\0\
+    \x02\x29\x03\x08a:b/host\x05hello\0\x01\x08a:b/host\x03say\0\x02\x03old\x01f\0\0\x03\x02\x01\x01\x05\x03\x01\0\x01\
+    \x07\x17\x02\x0aa:b/run#go\0\x03\x06memory\x02\0\x0a\x04\x01\x02\0\x0b";
+const OLD: &[u8] = b"\0asm\x01\0\0\0\x01\x08\x02\x60\0\0\x60\x01\x7f\0\x03\x03\x02\0\x01\
+    \x07\x15\x02\x01f\0\0\x0da:b/more#stop\0\x01\x0a\x07\x02\x02\0\x0b\x02\0\x0b";
+
+fn resolve() -> Resolve {
+    let interfaces = ["host", "run", "more"];
+    Resolve::of(
+        &["none", "app"],
+        &interfaces,
+        &["thing", "own", "other"],
+        SERIALIZED,
+    )
+}
+
+fn encoder(adapter: &[u8]) -> wit_component::ComponentEncoder {
+    let resolve = resolve();
+    let interface = |name: &str| {
+        let mut interfaces = resolve.interfaces.iter();
+        let found = interfaces.find(|it| it.1.name.as_deref() == Some(name));
+        vec![wit_parser::WorldKey::Interface(
+            found.expect("an interface").0,
+        )]
+    };
+    let adapter = wit_component::Adapter {
+        wasm: adapter.to_vec(),
+        required_exports: interface("more"),
+        library_info: None,
+    };
+    wit_component::ComponentEncoder {
+        module: MAIN.to_vec(),
+        main_module_exports: interface("run"),
+        adapters: vec![("old".to_owned(), adapter)],
+        reject_legacy_names: false,
+        realloc_via_memory_grow: false,
+        metadata: Metadata {
+            world: resolve.worlds.iter().last().expect("a world").0,
+            resolve,
+        },
+    }
+}
+
+#[test]
+fn an_encoder_is_made_of_it() {
+    let encoder = encoder(OLD);
+    let resolve = &encoder.metadata.resolve;
+    let (worlds, ids) = (resolved(resolve).expect("worlds"), Ids::of(resolve));
+    assert_eq!(resolve.worlds[encoder.metadata.world].name, "app");
+    let world = component_world(&encoder, &worlds).expect("a world");
+    let imports: Vec<_> = world
+        .info
+        .imports
+        .imports()
+        .map(|it| lowered(&world, &ids, it.2))
+        .collect();
+    let name = |id| resolve.interfaces[id].name.as_deref();
+    let imports: Vec<_> = imports
+        .iter()
+        .map(|it| it.map(|(id, is_indirect)| (name(id), is_indirect)))
+        .collect();
+    assert_eq!(
+        imports,
+        [
+            Some((Some("host"), false)),
+            Some((Some("host"), true)),
+            None
+        ]
+    );
+    let [host, run, more] = [0, 1, 2].map(InterfaceId);
+    assert!(is_of_exports(&world, more, run) && is_of_exports(&world, run, run));
+    assert!(!is_of_exports(&world, run, more) && !is_of_exports(&world, more, host));
+    let types = live_types(&world, &ids, host);
+    let types: Vec<_> = types
+        .iter()
+        .map(|id| resolve.types[*id].name.as_deref())
+        .collect();
+    assert_eq!(types, [Some("thing")]);
+    assert!(live_types(&world, &ids, run).is_empty());
+    for key in [WorldKey::Name("run".to_owned()), WorldKey::Interface(more)] {
+        assert_eq!(asked_key(&ids.key(&key)), key.to_string());
+    }
+}
+
+#[test]
+fn modules_alone() {
+    let encoder = encoder(OLD);
+    let worlds = resolved(&encoder.metadata.resolve).expect("worlds");
+    let world = component_world(&encoder, &worlds).expect("a world");
+    let mut parts = ComponentEncoder::new(&worlds, "app", MAIN);
+    let mut adapter = Adapter::new("old", OLD);
+    adapter.required_exports.push("a:b/more");
+    parts.adapters.push(adapter);
+    let (main, adapted) = alone(&parts, &parts.adapters[0]).expect("two modules");
+    assert_eq!(
+        (&main, &adapted),
+        (&world.info, &world.adapters["old"].info)
+    );
+}
+
+#[test]
+fn an_export_that_is_missing() {
+    let encoder = encoder(
+        &OLD.iter()
+            .map(|it| if *it == b'f' { b'g' } else { *it })
+            .collect::<Vec<_>>(),
+    );
+    let worlds = resolved(&encoder.metadata.resolve).expect("worlds");
+    let error = component_world(&encoder, &worlds).expect_err("no `f`");
+    assert_eq!(
+        lacking(&error),
+        Some(&AdapterModuleDidNotExport("f".to_owned()))
+    );
+    let other = ComponentWorld::new(&ComponentEncoder::new("{}", 0, b"")).expect_err("no worlds");
+    assert_eq!(lacking(&other), None);
+}
+
+/// The blocks of code of the page are in the code that is compiled here, as they are.
+#[test]
+fn the_code_of_the_page() {
+    let blocks: Vec<&str> = PAGE
+        .split("```rust\n")
+        .skip(1)
+        .map(|it| it.split("```").next().expect("a block"))
+        .collect();
+    assert!(blocks.len() >= 5);
+    for block in blocks {
+        assert!(CODE.contains(block), "not compiled:\n{block}");
+    }
+}
+
+/// What the example `encoder` uses of the crate is on the page.
+#[test]
+fn what_the_example_uses() {
+    let (_, used) = EXAMPLE.split_once("use nuigatre::{").expect("what it uses");
+    let (used, _) = used.split_once('}').expect("its end");
+    let words: Vec<&str> = used
+        .split([',', '\n', ' '])
+        .filter(|word| !word.is_empty())
+        .collect();
+    assert!(words.len() > 5);
+    let mut of_page = PAGE.split(|letter: char| !letter.is_alphanumeric() && letter != '_');
+    for word in words {
+        assert!(
+            of_page.clone().any(|it| it == word),
+            "not on the page: {word}"
+        );
+    }
+    assert!(of_page.next().is_some());
+}
