@@ -1,0 +1,274 @@
+#!/usr/bin/env python3
+"""Checks what JavaScript, Python and the page make of the library.
+
+    checks/web.py [--quick | --only NAME ..] [--fuzz N] [--wctrim PROGRAM] [--pictures FOLDER]
+
+Its parts, each of which is a line:
+
+    calls       web/calls.mjs and python/nuigatre/_calls.py are what include/nuigatre.h says, and no language lacks a call
+    files       the page loads nothing from elsewhere, and names only files that there are
+    module      web/nuigatre.wasm is what web/nuigatre.wasm.json says; it is said whether it is made of these sources
+    heap        web/heap.c, the memory of nuigatre.wasm, over refused growth (checks/c/web_heap.c): needs cc
+    node        the calls of JavaScript (web/test): needs node, 20 or newer, and web/nuigatre.wasm
+    wctrim      the bytes of web/nuigatre.wasm are those of the program that --wctrim names, for the adapters of examples
+    python      the calls of Python (python/tests): needs pytest, and the library that tools/targets.py makes
+    chromium    the page, used as a person would (web/test/driver.mjs), at 320, 880 and 2000 pixels, and N damaged files
+    firefox     the same in firefox-esr
+
+What is not there is said, and is no fault, unless --only names the part. With --quick the first five are run. With --pictures a picture of each width goes to the
+folder. The status is 1 where something is not as wanted.
+"""
+import argparse
+import http.server
+import json
+import os
+import pathlib
+import re
+import shutil
+import subprocess
+import sys
+import tempfile
+import threading
+
+sys.path.append(str(pathlib.Path(__file__).resolve().parent.parent / "tools"))
+from repository import TOP
+
+WEB = TOP / "web"
+WIDTHS = 320, 880, 2000
+SECONDS = 3600
+
+
+class Wrong(Exception):
+    """What is not as wanted."""
+
+
+class Missing(Exception):
+    """What a part needs, and is not there."""
+
+
+def run(words, **how):
+    ran = subprocess.run([str(it) for it in words], capture_output=True, text=True, errors="replace", check=False, cwd=TOP, **how)
+    if ran.returncode:
+        raise Wrong((ran.stdout + ran.stderr).strip()[-4000:])
+    return ran.stdout
+
+
+def need(*programs):
+    """The first of these programs that there is."""
+    found = next(filter(None, map(shutil.which, programs)), None)
+    if not found:
+        raise Missing("there is no " + " or ".join(programs))
+    return found
+
+
+def calls(_):
+    return run([sys.executable, TOP / "tools" / "c_calls.py"]).strip()
+
+
+def files(_):
+    """The page's policy, and the addresses in its files."""
+    sources = {path.name: path.read_text(encoding="utf-8") for path in sorted(WEB.iterdir()) if path.suffix in (".mjs", ".html", ".css")}
+    for name, text in sources.items():
+        for address in re.findall(r"\b(?:https?|wss?)://[^\s\"'`)]*", text):
+            if address != "http://www.w3.org/2000/svg":
+                raise Wrong(f"web/{name} names {address}")
+        for other in re.findall(r'(?:from|src=|href=|new URL\()\s*"(\./)?([\w.-]+\.(?:mjs|css|wasm))"', text):
+            if not (WEB / other[1]).exists():
+                raise Wrong(f"web/{name} names {other[1]}, which is not there")
+    policy = re.search(r'Content-Security-Policy" content="([^"]*)"', sources["index.html"])[1]
+    for part in "default-src 'none'", "connect-src 'self'", "script-src 'self'":
+        if part not in policy:
+            raise Wrong(f"the page's policy lacks {part}")
+    return f"{len(sources)} files name no other address"
+
+
+def module(_):
+    """Of which sources the module is: that these are others is said, and is no fault, for it is made once for a version."""
+    if not (WEB / "nuigatre.wasm").is_file():
+        raise Missing("there is no web/nuigatre.wasm: web/build.py makes it")
+    ran = subprocess.run([WEB / "build.py", "--state"], capture_output=True, text=True, check=False)
+    if "is made of" not in ran.stdout:
+        raise Wrong(ran.stdout + ran.stderr)
+    return ran.stdout.strip()
+
+
+def heap(_):
+    compiler = need("cc")
+    with tempfile.TemporaryDirectory() as folder:
+        program = os.path.join(folder, "web_heap")
+        run([compiler, "-std=gnu11", "-Wall", "-Wextra", "-Werror", "-O2", TOP / "checks" / "c" / "web_heap.c", "-o", program])
+        return run([program, "300", "1"]).strip()
+
+
+def node(_):
+    program = need("node")
+    if not (WEB / "nuigatre.wasm").is_file():
+        raise Missing("there is no web/nuigatre.wasm: web/build.py makes it")
+    said = run([program, "--test", "--test-reporter=tap", *sorted((WEB / "test").glob("*.test.mjs"))])
+    return " ".join(re.findall(r"^# ((?:pass|fail) \d+)$", said, re.M))
+
+
+def wctrim(arguments):
+    if not arguments.wctrim:
+        raise Missing("no program is named by --wctrim")
+    return run([need("node"), WEB / "test" / "beside-wctrim.mjs", os.path.abspath(arguments.wctrim)]).strip()
+
+
+def python(_):
+    pythons = [it for it in (sys.executable, "/usr/bin/python3") if os.path.exists(it)]
+    has = lambda it: subprocess.run([it, "-c", "import pytest"], capture_output=True, check=False).returncode == 0
+    found = next(filter(has, pythons), None)
+    if not found:
+        raise Missing("there is no pytest: apt-get install python3-pytest")
+    made = TOP / "crates" / "nuigatre" / "out" / os.uname().machine / "libnuigatre.so"
+    if not any(map(os.path.isfile, (os.environ.get("NUIGATRE_LIBRARY", ""), made, TOP / "python" / "nuigatre" / "libnuigatre.so"))):
+        raise Missing("there is no libnuigatre.so: tools/targets.py makes it")
+    said = run([found, "-m", "pytest", "-q", "-p", "no:cacheprovider", TOP / "python" / "tests"])
+    return said.strip().splitlines()[-1]
+
+
+class Page:
+    """Serves the page with the driver in it, and takes what that has seen. A script that arrives at the end keeps the page
+    loading until then, since a browser takes its picture once all is loaded."""
+
+    def __init__(self):
+        page, self.results, self.done = self, None, threading.Event()
+
+        class Handler(http.server.SimpleHTTPRequestHandler):
+            extensions_map = {**http.server.SimpleHTTPRequestHandler.extensions_map, ".mjs": "text/javascript", ".wasm": "application/wasm"}
+
+            def __init__(self, *given):
+                super().__init__(*given, directory=str(WEB))
+
+            def log_message(self, *_):
+                pass
+
+            def answer(self, body, kind):
+                self.send_response(200)
+                self.send_header("content-type", kind)
+                self.end_headers()
+                self.wfile.write(body)
+
+            def do_POST(self):
+                page.results = json.loads(self.rfile.read(int(self.headers["content-length"])))
+                self.answer(b"", "text/plain")
+                page.done.set()
+
+            def do_GET(self):
+                head, _, query = self.path.partition("?")
+                if head == "/hold.mjs":
+                    page.done.wait(SECONDS)
+                    self.answer(b"", "text/javascript")
+                elif head == "/frame":
+                    width = int(re.search(r"width=(\d+)", query)[1])
+                    text = '<!doctype html><style>body{margin:0}iframe{border:0;display:block}</style>'
+                    text += f'<iframe src="/?{query}" width="{width}" height="{height_of(width)}"></iframe><script async src="/hold.mjs"></script>'
+                    self.answer(text.encode(), "text/html")
+                elif head == "/":
+                    driver = '<script type="module" src="test/driver.mjs"></script></html>'
+                    self.answer((WEB / "index.html").read_text(encoding="utf-8").replace("</html>", driver).encode(), "text/html")
+                else:
+                    super().do_GET()
+
+        self.server = http.server.ThreadingHTTPServer(("127.0.0.1", 0), Handler)
+        threading.Thread(target=self.server.serve_forever, daemon=True).start()
+
+    def address(self, query):
+        return f"http://127.0.0.1:{self.server.server_port}/frame?{query}"
+
+
+def height_of(width):
+    return 3200 if width < 600 else 1700
+
+
+def judged(results):
+    """The lines on what was seen; what is not as wanted is raised."""
+    if results is None:
+        raise Wrong("the page sent no results")
+    wrong = [it["what"] for it in results if not it["is"]]
+    if wrong:
+        raise Wrong("\n".join(wrong))
+    return results
+
+
+def opened(words, page):
+    """Opens the page in a browser, and ends that once there are results."""
+    process = subprocess.Popen(words, stdout=subprocess.DEVNULL, stderr=subprocess.DEVNULL, start_new_session=True)
+    try:
+        if not page.done.wait(SECONDS):
+            raise Wrong(f"nothing after {SECONDS} seconds")
+        if "--screenshot" in " ".join(words):
+            process.wait(120)
+    finally:
+        process.kill()
+        process.wait()
+    return judged(page.results)
+
+
+def browser(words_of, arguments):
+    """The page at each width; at the middle one all is used, and damaged files are tried."""
+    said, runs = [], [("look", width) for width in WIDTHS] + [("all", 880)]
+    for what, width in runs:
+        picture = None
+        if arguments.pictures and what == "look":
+            os.makedirs(arguments.pictures, exist_ok=True)
+            picture = os.path.join(os.path.abspath(arguments.pictures), words_of.__name__.replace("_words", "-%d.png" % width))
+        page = Page()
+        with tempfile.TemporaryDirectory(ignore_cleanup_errors=True) as folder:
+            results = opened(words_of(folder, page.address(f"width={width}&fuzz={arguments.fuzz}&{what}"), width, picture), page)
+        said += [it["what"] for it in results if "slowest" in it["what"]]
+        said.append(f"{what} at {width} pixels: {len(results)} as wanted")
+    return "; ".join(said)
+
+
+def chromium_words(folder, address, width, picture):
+    words = [need("chromium", "chromium-browser", "google-chrome"), "--headless", "--no-sandbox", "--disable-gpu", "--hide-scrollbars"]
+    words += ["--user-data-dir=" + folder, f"--window-size={max(width, 500)},{height_of(width)}"]
+    # without a picture or a dump it would stay open; it is ended from here
+    words += ["--screenshot=" + picture] if picture else ["--remote-debugging-port=0"]
+    return [*words, address]
+
+
+def firefox_words(folder, address, width, picture):
+    words = [need("firefox-esr", "firefox"), "--headless", "--no-remote", "--profile", folder]
+    words += [f"--window-size={max(width, 500)},{height_of(width)}"]
+    return [*words, *(["--screenshot", picture] if picture else []), address]
+
+
+PARTS = {
+    "calls": calls, "files": files, "module": module, "heap": heap, "node": node, "wctrim": wctrim, "python": python,
+    "chromium": lambda arguments: browser(chromium_words, arguments), "firefox": lambda arguments: browser(firefox_words, arguments),
+}
+
+
+# those that need no browser and no library but web/nuigatre.wasm
+QUICK = "calls", "files", "module", "heap", "node"
+
+
+def main():
+    parser = argparse.ArgumentParser(description=__doc__, formatter_class=argparse.RawDescriptionHelpFormatter)
+    parser.add_argument("--fuzz", type=int, default=2000, metavar="N")
+    parser.add_argument("--pictures", metavar="FOLDER")
+    parser.add_argument("--wctrim", metavar="PROGRAM")
+    parser.add_argument("--quick", action="store_true")
+    parser.add_argument("--only", nargs="*", default=[], metavar="NAME")
+    arguments = parser.parse_args()
+    unknown = [name for name in arguments.only if name not in PARTS]
+    if unknown:
+        parser.error("no part is called " + unknown[0])
+    wrong = 0
+    for name in arguments.only or (QUICK if arguments.quick else PARTS):
+        try:
+            line = "as wanted: " + PARTS[name](arguments)
+        except Missing as why:
+            wrong += bool(arguments.only)
+            line = "left out: " + str(why)
+        except Wrong as why:
+            wrong += 1
+            line = "NOT as wanted: " + str(why)
+        print(f"{name}: {line}", flush=True)
+    return 1 if wrong else 0
+
+
+if __name__ == "__main__":
+    sys.exit(main())

@@ -1,0 +1,341 @@
+"""Core WebAssembly modules made ready to be parts of a component, and why a component imports what it imports.
+
+The functions are calls of a library that is proved to meet its contracts for all inputs. They take modules as bytes, and
+give bytes and plain objects:
+
+    >>> import nuigatre
+    >>> trimmed = nuigatre.trim(adapter, ["fd_write"], realloc="cabi_realloc")
+
+Where there is no result they raise an exception: :class:`Fault` with the fault's number, its text and its place,
+:class:`BadArgument`, or :class:`OutOfMemory`. They keep nothing between calls, and may be called by several threads at once;
+other threads of Python run meanwhile.
+"""
+
+from __future__ import annotations
+
+import json
+from collections.abc import Iterable, Mapping, Sequence
+from dataclasses import dataclass, field
+from typing import Any, Union
+
+from ._calls import FAULTS, NUMBERS, STATUSES
+from ._library import ROOM, Answer, NoLibrary, asked, is_proved
+
+__all__ = ["Adapter", "BadArgument", "Chains", "Error", "Fault", "Function", "Item", "NoLibrary", "OutOfMemory", "Rename", "World",
+           "dedupe", "fault_text", "is_proved", "plan", "planned_world", "trim", "validate", "validated_module", "why", "world"]
+
+# what a message begins with: the worlds come next
+HEAD = b'{"resolve":'
+
+# the types of values, by their bytes
+TYPES = {"i32": 0x7F, "i64": 0x7E, "f32": 0x7D, "f64": 0x7C, "v128": 0x7B, "funcref": 0x70, "externref": 0x6F}
+
+#: Bytes of a module.
+Bytes = Union[bytes, bytearray, memoryview]
+#: Resolved worlds as JSON: a text, its bytes, or the object that it is of.
+Worlds = Union[str, Bytes, Mapping[str, Any]]
+
+
+class Error(Exception):
+    """What the functions of this module raise."""
+
+
+class Fault(Error):
+    """There is no result, because of a fault in what was passed.
+
+    :ivar call: the call, as ``trim``
+    :ivar number: the fault's number, as the header ``nuigatre.h`` says: 256 times the number of a fault that it carries is
+        added
+    :ivar text: the fault's text, as ``World: Main: MissingWorldExport``
+    :ivar place: what the fault is about, as the import or the byte, an object whose ``kind`` says what it is; or None
+    :ivar missing: of ``trim`` and ``why``, the name of the export that the adapter lacks; else None
+    """
+
+    def __init__(self, call: str, number: int, text: str, place: dict[str, Any] | None, missing: str | None) -> None:
+        super().__init__(text if missing is None else f"{text} `{missing}`")
+        self.call, self.number, self.text, self.place, self.missing = call, number, text, place, missing
+
+
+class BadArgument(Error, ValueError):
+    """The call has no result for such arguments: no name, a name that is not Unicode, or a page size that is too large."""
+
+
+class OutOfMemory(Error, MemoryError):
+    """An allocation failed."""
+
+
+@dataclass(frozen=True)
+class Rename:
+    """A renamed import: its module, its original name, and its new one."""
+
+    module: str
+    original: str
+    name: str
+
+
+@dataclass(frozen=True)
+class Item:
+    """An item of a module: ``space`` is ``type``, ``func``, ``table``, ``memory`` or ``global``."""
+
+    space: str
+    index: int
+
+
+@dataclass(frozen=True)
+class Chains:
+    """The shortest chains from required exports to imports, as a tree.
+
+    :ivar items: the items that are reached
+    :ivar finders: of each item the position of the one that first names it; its own position if an export does
+    :ivar exports: the names of the exports that the first items have
+    :ivar imports: of each import of the adapter the position of its item; None if it is not reached
+    """
+
+    items: list[Item]
+    finders: list[int]
+    exports: list[str]
+    imports: list[int | None]
+
+    def to_import(self, number: int) -> tuple[str, list[Item]] | None:
+        """The chain to an import by its number: the export, and the items from that export's to the import's."""
+        at = self.imports[number]
+        if at is None:
+            return None
+        chain = [at]
+        while self.finders[chain[-1]] != chain[-1]:
+            chain.append(self.finders[chain[-1]])
+        return self.exports[chain[-1]], [self.items[it] for it in reversed(chain)]
+
+
+@dataclass(frozen=True)
+class Adapter:
+    """An adapter of a component.
+
+    :ivar name: the name under which the main module imports it
+    :ivar wasm: its bytes
+    :ivar exports: the keys of the world's exports that it has to export, as ``wasi:cli/run@0.2.6``
+    :ivar library_info: of a library, how it is instantiated
+    """
+
+    name: str
+    wasm: Bytes
+    exports: Sequence[str] = ()
+    library_info: Any = None
+
+
+@dataclass(frozen=True)
+class Function:
+    """A function that is required of an adapter: its name, and the types of its parameters and results, which are ``i32``,
+    ``i64``, ``f32``, ``f64``, ``v128``, ``funcref`` or ``externref``."""
+
+    name: str
+    params: Sequence[str] = ()
+    results: Sequence[str] = ()
+
+    def text(self) -> bytes:
+        """The name and the type, as the binary format has them."""
+        name, kinds = _name(self.name), (self.params, self.results)
+        return _vector([bytes([it]) for it in name]) + b"\x60" + b"".join(_vector([bytes([TYPES.get(it, 0)]) for it in kind]) for kind in kinds)
+
+
+@dataclass(frozen=True)
+class World:
+    """A component's world.
+
+    :ivar record: the record, whose members crates/wc_record/README.md of the repository lists
+    :ivar main: the main module, with its repeated imports renamed
+    :ivar adapters: the trimmed adapters and the libraries that are needed, by their names
+    """
+
+    record: dict[str, Any]
+    main: bytes
+    adapters: dict[str, bytes] = field(default_factory=dict)
+
+
+def dedupe(wasm: Bytes) -> tuple[bytes, list[Rename]]:
+    """Renames imports, so that no two have one module and one name; the first keeps its name.
+
+    :return: the module, and the renames. Where no import repeats, the module is the one that was passed.
+    """
+    content = bytes(wasm)
+    answer = call("dedupe", {"wasm": content}, len(content) + ROOM)
+    if answer.status == STATUSES["SAME"]:
+        return content, []
+    return answer.content[: answer.module_length], list(_renames(answer.content, answer.module_length))
+
+
+def trim(adapter: Bytes, required: Iterable[str], *, realloc: str | None = None, page_size_log2: int = 16) -> bytes:
+    """Trims an adapter to what its exports of these names reach.
+
+    :param required: the names, at least one
+    :param realloc: under which name the main module exports a realloc, if it does
+    :param page_size_log2: of the main module's memory; a page has two to this power bytes
+    """
+    content = bytes(adapter)
+    given = {"wasm": content, "required": _names(required), "has_realloc": realloc is not None,
+             "realloc": _name(realloc or ""), "page_size_log2": _within(page_size_log2, 32)}
+    return call("trim", given, len(content) + ROOM).content
+
+
+def why(adapter: Bytes, required: Iterable[str]) -> Chains:
+    """Says why an adapter imports what it does, where its exports of these names are required."""
+    found = json.loads(call("why", {"wasm": bytes(adapter), "required": _names(required)}).content)
+    items = [Item(it["space"], it["index"]) for it in found["items"]]
+    return Chains(items, found["finders"], found["exports"], found["imports"])
+
+
+def world(worlds: Worlds, world: str | int, main: Bytes, adapters: Iterable[Adapter] = (), **options: Any) -> World:
+    """Makes the world of a component.
+
+    :param worlds: the resolved worlds as JSON, as ``wasm-tools component wit --json`` prints them
+    :param world: the world, by its name or its index
+    :param main: the main module
+    :param adapters: the adapters and the libraries
+    :param options: other members of the message: ``exports``, ``options``, ``reject_legacy_names``,
+        ``realloc_via_memory_grow`` and ``task_hook``, as crates/wc_json/MODEL.md of the repository says
+    """
+    given = _message(worlds, world, main, adapters, options)
+    return _world(call("world", given, len(given["modules"]) + 4 * ROOM))
+
+
+def plan(worlds: Worlds, world: str | int, main: Bytes, adapters: Iterable[Adapter] = (), **options: Any) -> list[dict[str, Any]]:
+    """Makes the plan of a component: what each function that its core modules import needs. The parameters are those of
+    :func:`world`."""
+    found: list[dict[str, Any]] = json.loads(call("plan", _message(worlds, world, main, adapters, options)).content)
+    return found
+
+
+def planned_world(worlds: Worlds, world: str | int, main: Bytes, adapters: Iterable[Adapter] = (), **options: Any) -> World:
+    """Makes both at once: the record has the plan as its member ``plan``. The parameters are those of :func:`world`."""
+    given = _message(worlds, world, main, adapters, options)
+    return _world(call("planned_world", given, len(given["modules"]) + 4 * ROOM))
+
+
+def validate(worlds: Worlds, world: str | int, main: Bytes, adapters: Iterable[Adapter] = (), *, adapter: str | None = None,
+             **options: Any) -> None:
+    """Validates the main module of a component, or the adapter of a name, and returns if it is valid. The other parameters
+    are those of :func:`world`."""
+    given = _message(worlds, world, main, adapters, options)
+    call("validate", {**given, "has_adapter": adapter is not None, "adapter": _name(adapter or "")})
+
+
+def validated_module(worlds: Worlds, world: str | int, main: Bytes, adapters: Iterable[Adapter] = (), *, adapter: str | None = None,
+                     required: Iterable[Function] = (), **options: Any) -> dict[str, Any]:
+    """Validates the main module of a component, or the adapter of a name for the functions that are required of it.
+
+    :return: what it imports and exports, as the record of a world has it of a module. The other parameters are those of
+        :func:`world`.
+    """
+    given = {**_message(worlds, world, main, adapters, options), "has_adapter": adapter is not None,
+             "adapter": _name(adapter or ""), "required": _vector([it.text() for it in required])}
+    found: dict[str, Any] = json.loads(call("validated_module", given).content)
+    return found
+
+
+def fault_text(call: str, number: int) -> str | None:
+    """The text of a fault of ``dedupe``, ``trim`` or ``why`` by its number; None if there is none."""
+    answer = asked("fault_text", {"call": NUMBERS[call], "number": _within(number, 32)})
+    if answer.status == STATUSES["MEMORY"]:
+        raise OutOfMemory("out of memory")
+    return answer.content.decode() if answer.status == STATUSES["DONE"] else None
+
+
+def call(name: str, given: dict[str, Any], room: int = ROOM) -> Answer:
+    """One call of the library by its name; what has no result is raised."""
+    answer = asked(name, given, room)
+    if answer.status == STATUSES["FAULT"]:
+        raise _fault(name, given, answer)
+    if answer.status == STATUSES["MEMORY"]:
+        raise OutOfMemory("out of memory")
+    if answer.status > STATUSES["SAME"]:
+        raise BadArgument(f"{name} has no result for these arguments")
+    return answer
+
+
+def _fault(name: str, given: dict[str, Any], answer: Answer) -> Fault:
+    split = 0 if name in NUMBERS else answer.position
+    text = fault_text(name, answer.fault) if name in NUMBERS else answer.content[:split].decode()
+    place = json.loads(answer.content[split:]) if answer.length > split else None
+    if place and place["kind"] == "json-byte":
+        # a byte of the message is one of the worlds, which are its first member
+        place["byte"] -= len(HEAD)
+    # of an export that is missing the answer has the position among the required ones
+    is_missing = name in NUMBERS and "required" in given and answer.fault == FAULTS["gc"]["MISSING_EXPORT"]
+    return Fault(name, answer.fault, text or "", place, given["required"][answer.position].decode() if is_missing else None)
+
+
+def _within(number: int, bits: int) -> int:
+    """A number, unless the library has no such one: ctypes would cut it."""
+    if not 0 <= number < 1 << bits:
+        raise BadArgument(f"{number} has more than {bits} bits")
+    return number
+
+
+def _name(text: str) -> bytes:
+    # a text with half of a surrogate pair is passed as what the library refuses
+    return text.encode("utf-8", "surrogatepass")
+
+
+def _names(texts: Iterable[str]) -> list[bytes]:
+    if isinstance(texts, str):
+        raise TypeError("a list of names is wanted, and not one name")
+    return [_name(it) for it in texts]
+
+
+def _vector(items: Sequence[bytes]) -> bytes:
+    """How many they are, in LEB128, and then these."""
+    count, text = len(items), b""
+    while count >= 128:
+        text += bytes([count & 127 | 128])
+        count >>= 7
+    return text + bytes([count]) + b"".join(items)
+
+
+def _renames(content: bytes, at: int) -> Iterable[Rename]:
+    """The renames after the module."""
+
+    def number() -> int:
+        nonlocal at
+        value = shift = 0
+        while True:
+            byte = content[at]
+            at += 1
+            value |= (byte & 127) << shift
+            shift += 7
+            if byte < 128:
+                return value
+
+    def name() -> str:
+        nonlocal at
+        length = number()
+        at += length
+        return content[at - length : at].decode()
+
+    for _ in range(number()):
+        yield Rename(name(), name(), name())
+
+
+def _message(worlds: Worlds, world: str | int, main: Bytes, adapters: Iterable[Adapter], options: dict[str, Any]) -> dict[str, bytes]:
+    """The message of a component, and the bytes of all of its modules."""
+    listed = list(adapters)
+    parts = [{"name": it.name, "length": len(bytes(it.wasm)), "exports": list(it.exports), "library_info": it.library_info}
+             for it in listed]
+    rest = json.dumps({**options, "world": world, "length": len(bytes(main)), "adapters": parts})
+    if isinstance(worlds, Mapping):
+        text = json.dumps(worlds).encode()
+    else:
+        # the text goes in as it is: reading it here would lose members that are there twice, which is a fault
+        text = _name(worlds) if isinstance(worlds, str) else bytes(worlds)
+    message = HEAD + text + b"," + rest[1:].encode()
+    return {"message": message, "modules": b"".join([bytes(main), *(bytes(it.wasm) for it in listed)])}
+
+
+def _world(answer: Answer) -> World:
+    """The main module comes first, and then the adapters in the record's order."""
+    record = json.loads(answer.content[answer.module_length :])
+    at = answer.module_length - sum(it["length"] for it in record["adapters"])
+    made = World(record, answer.content[:at])
+    for it in record["adapters"]:
+        made.adapters[it["name"]] = answer.content[at : at + it["length"]]
+        at += it["length"]
+    return made

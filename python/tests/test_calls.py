@@ -1,0 +1,167 @@
+"""The calls give what the examples have, and end whatever is passed."""
+
+import json
+import random
+import threading
+
+import pytest
+
+import nuigatre
+from nuigatre import Adapter, BadArgument, Chains, Fault, Function, Item, Rename
+from nuigatre._calls import CALLS
+
+CHOICES = ["size_of", "write", "is-ready", "read_text", "cabi_import_realloc"]
+
+
+@pytest.fixture
+def notes(examples):
+    """The component of examples/wcplan, with others in the place of its parts."""
+
+    def made(worlds=None, main=None, adapter=None, exports=("is-ready",)):
+        adapters = [Adapter("old-notes", adapter or examples("wcplan/adapter.wasm"), exports)]
+        return worlds or examples("wcplan/notes.json"), "app", main or examples("wcplan/main.wasm"), adapters
+
+    return made
+
+
+def test_trim_gives_the_trimmed_adapter_of_the_examples(examples):
+    trimmed = nuigatre.trim(examples("adapter.wasm"), ["size_of"], realloc="cabi_realloc")
+    assert trimmed == examples("trimmed.wasm")
+    assert nuigatre.trim(memoryview(examples("adapter.wasm")), {"size_of": 1}, realloc="cabi_realloc") == trimmed
+
+
+def test_dedupe_renames_the_second_of_two_imports(examples):
+    module, renames = nuigatre.dedupe(examples("duplicate-imports.wasm"))
+    assert renames == [Rename("env", "log", "log [v2]")]
+    assert b"log [v2]" in module
+    assert nuigatre.dedupe(examples("adapter.wasm")) == (examples("adapter.wasm"), [])
+
+
+def test_why_gives_the_chain_to_an_import(examples):
+    chains = nuigatre.why(examples("adapter.wasm"), ["size_of"])
+    found = [chains.to_import(number) for number in range(len(chains.imports))]
+    assert [it is None for it in found] == [it is None for it in chains.imports]
+    assert {it[0] for it in found if it} == {"size_of"}
+    chain = Chains([Item("func", 3), Item("type", 0), Item("func", 2), Item("func", 0)], [0, 0, 0, 2], ["b"], [3, None])
+    assert chain.to_import(0) == ("b", [Item("func", 3), Item("func", 2), Item("func", 0)])
+    assert chain.to_import(1) is None
+
+
+def test_a_world_and_its_plan_are_those_of_the_examples(examples, notes):
+    made = nuigatre.planned_world(*notes())
+    assert made.main == examples("wcplan/main.wasm")
+    assert made.adapters == {"old-notes": examples("wcplan/trimmed.wasm")}
+    assert [(it["name"], it["slot"], it["realloc"]) for it in made.record["plan"]] == [
+        ("[constructor]note", 0, None), ("[method]note.text", 1, "cabi_realloc"), ("[constructor]note", 2, None),
+        ("summarize", 3, "cabi_import_realloc")]
+    assert nuigatre.plan(*notes()) == made.record["plan"]
+    assert nuigatre.world(*notes()).record == {key: it for key, it in made.record.items() if key != "plan"}
+    nuigatre.validate(*notes())
+    nuigatre.validate(*notes(), adapter="old-notes")
+    with pytest.raises(BadArgument):
+        nuigatre.validate(*notes(), adapter="other")
+
+
+@pytest.mark.skipif("validated_module" not in CALLS, reason="the header has no such call")
+def test_a_valid_module_has_the_record_that_the_world_has_of_it(notes):
+    record = nuigatre.world(*notes()).record
+    assert nuigatre.validated_module(*notes()) == record["info"]
+    names = next(it for it in record["info"]["imports"] if it["module"] == "old-notes")["instance"]["names"]
+    used = names[0]["import"]
+    required = [Function(used["func"], used["type"]["params"], used["type"]["results"])]
+    found = nuigatre.validated_module(*notes(), adapter="old-notes", required=required)
+    assert {it["name"] for it in found["exports"]} == {it["name"] for it in record["adapters"][0]["info"]["exports"]}
+    with pytest.raises(Fault):
+        nuigatre.validated_module(*notes(), adapter="old-notes", required=[Function("other", ["f64"])])
+    with pytest.raises(BadArgument):
+        nuigatre.validated_module(*notes(), adapter="old-notes", required=[Function("other", ["x"])])
+
+
+def test_worlds_are_passed_as_a_text_as_bytes_or_as_an_object(examples, notes):
+    content, plan = examples("wcplan/notes.json"), nuigatre.plan(*notes())
+    for worlds in content.decode(), bytearray(content), json.loads(content):
+        assert nuigatre.plan(*notes(worlds)) == plan
+
+
+def test_a_fault_has_its_number_its_text_and_its_place(examples, notes):
+    with pytest.raises(Fault, match="^World: Main: MissingWorldExport$") as missing:
+        nuigatre.world(*notes(exports=()))
+    assert (missing.value.place["kind"], missing.value.place["name"]) == ("missing-export", "is-ready")
+    with pytest.raises(Fault) as cut:
+        nuigatre.trim(examples("adapter.wasm")[:100], ["size_of"])
+    assert (cut.value.call, cut.value.text, cut.value.number) == ("trim", "Read: Truncated", 1 + 256 * 3)
+    assert cut.value.place["kind"] == "bytes"
+    with pytest.raises(Fault, match="^adapter module does not have export `other`$") as name:
+        nuigatre.why(examples("adapter.wasm"), ["size_of", "other"])
+    assert name.value.missing == "other"
+    assert nuigatre.fault_text("trim", 99999) is None
+    with pytest.raises(Fault, match="^Json: repeated member$"):
+        nuigatre.world(*notes('{"worlds":[],"worlds":[]}'))
+    with pytest.raises(Fault, match="^Json: not JSON$") as wrong:
+        nuigatre.world(*notes('{"worlds":!}'))
+    assert wrong.value.place == {"kind": "json-byte", "byte": 10}
+
+
+def test_arguments_that_have_no_result(examples):
+    adapter = examples("adapter.wasm")
+    for required, others in ([], {}), (["\ud800"], {}), (["size_of"], {"page_size_log2": 17}):
+        with pytest.raises(BadArgument):
+            nuigatre.trim(adapter, required, **others)
+    with pytest.raises(BadArgument):
+        nuigatre.trim(adapter, ["size_of"], page_size_log2=1 << 32)
+    with pytest.raises(TypeError):
+        nuigatre.trim(adapter, "size_of")
+
+
+def damaged(content, drawn):
+    """Bytes of which some are replaced, taken out, put in or there twice, or whose end is cut."""
+    it = bytearray(content)
+    for _ in range(drawn.randint(1, 3)):
+        at, few, kind = drawn.randint(0, len(it)), drawn.randint(1, 8), drawn.randint(0, 4)
+        if kind == 0 and at < len(it):
+            it[at] = drawn.choice([0, 1, 0x7F, 0x80, 0xFF, drawn.randint(0, 255)])
+        elif kind == 1:
+            del it[at : at + few]
+        elif kind == 2:
+            it[at:at] = drawn.randbytes(few)
+        elif kind == 3:
+            it[at:at] = it[at : at + few]
+        elif drawn.randint(0, 3) == 0:
+            del it[at:]
+    return bytes(it)
+
+
+def test_damaged_modules_and_messages_end_each_call(examples, notes):
+    drawn, refused = random.Random(1), 0
+    modules = [examples(f"{it}.wasm") for it in ("adapter", "main", "duplicate-imports", "wcplan/adapter", "wcplan/main")]
+    for _ in range(2000):
+        wasm, required = damaged(drawn.choice(modules), drawn), [drawn.choice(CHOICES)]
+        worlds = damaged(examples("wcplan/notes.json"), drawn) if drawn.random() < 0.5 else None
+        calls = [lambda: nuigatre.dedupe(wasm),
+                 lambda: nuigatre.trim(wasm, required, realloc=drawn.choice([None, "cabi_realloc"]), page_size_log2=drawn.randint(0, 17)),
+                 lambda: nuigatre.why(wasm, required),
+                 lambda: nuigatre.planned_world(*notes(worlds, wasm if drawn.random() < 0.3 else None))]
+        for call in calls:
+            try:
+                call()
+            except (Fault, BadArgument) as why:
+                refused += 1
+                assert str(why)
+    assert refused > 2000
+    assert nuigatre.trim(examples("adapter.wasm"), ["size_of"], realloc="cabi_realloc") == examples("trimmed.wasm")
+
+
+def test_threads_call_at_once(examples, notes):
+    plan, wrong = nuigatre.plan(*notes()), []
+
+    def work():
+        for _ in range(20):
+            if nuigatre.plan(*notes()) != plan:
+                wrong.append(1)
+
+    threads = [threading.Thread(target=work) for _ in range(4)]
+    for it in threads:
+        it.start()
+    for it in threads:
+        it.join()
+    assert not wrong

@@ -1,0 +1,175 @@
+/** What bytes are passed as. */
+export type Bytes = Uint8Array | ArrayBuffer;
+
+/** An error of this module. */
+export class NuigatreError extends Error {}
+
+/** There is no result, because of a fault in what was passed. */
+export class Fault extends NuigatreError {
+  /** The call, as `trim`. */
+  call: string;
+  /** The fault's number: one of `FAULTS` in calls.mjs, plus 256 times the number of the fault that it carries. */
+  number: number;
+  /** The fault's text, as `World: Main: MissingWorldExport`. */
+  text: string;
+  /** What the fault is about, as the import or the byte; `kind` says what it is. null where nothing is known. */
+  place: Place | null;
+  /** Of `trim` and `why` where an export of the adapter is missing: its name; else null. */
+  missing: string | null;
+}
+
+/** What a fault is about: crates/wc_calls/MODEL.md lists the kinds, and the members of each. */
+export interface Place {
+  kind: string;
+  [member: string]: unknown;
+}
+
+/** The call has no result for such arguments: no name, or one that is not Unicode. */
+export class BadArgument extends NuigatreError {
+  call: string;
+}
+
+/** An allocation failed: memory is bounded by `memoryLimit`, and by 4 GB. */
+export class OutOfMemory extends NuigatreError {}
+
+/** The call was stopped in its middle, by a trap. The next call begins anew, with fresh memory. */
+export class Stopped extends NuigatreError {
+  call: string;
+}
+
+/** A renamed import. */
+export interface Rename {
+  module: string;
+  original: string;
+  name: string;
+}
+
+/** An item of a module. */
+export interface Item {
+  space: "type" | "func" | "table" | "memory" | "global";
+  index: number;
+}
+
+/** The shortest chains from required exports to imports, as a tree. */
+export interface Chains {
+  /** All items that are reached. */
+  items: Item[];
+  /** Of each item the position of the one that first names it; its own position if an export does. */
+  finders: number[];
+  /** The names of the exports that the first items have. */
+  exports: string[];
+  /** Of each import of the adapter the position of its item; null if it is not reached. */
+  imports: (number | null)[];
+}
+
+/** An adapter of a component. */
+export interface Adapter {
+  /** The name under which the main module imports it. */
+  name: string;
+  wasm: Bytes;
+  /** The keys of the world's exports that it has to export, as `wasi:cli/run@0.2.6`. */
+  exports?: string[];
+  /** Of a library how it is instantiated. */
+  library_info?: unknown;
+}
+
+/** A component: its worlds and its modules. */
+export interface Component {
+  /** The resolved worlds as JSON: what `wasm-tools component wit --json` prints, as a text, its bytes or an object. */
+  worlds: string | Uint8Array | object;
+  /** The world, by its index or its name. */
+  world: number | string;
+  main: Bytes;
+  adapters?: Adapter[];
+  /** The keys of the world's exports that the main module has to export; if missing, all that no adapter has to. */
+  exports?: string[] | null;
+  /** The canonical options of functions by their names. */
+  options?: { name: string; memory?: boolean; realloc?: boolean; string_encoding?: boolean; async?: boolean }[];
+  reject_legacy_names?: boolean;
+  realloc_via_memory_grow?: boolean;
+  task_hook?: string | null;
+}
+
+/** What a function that a core module imports needs. */
+export interface Use {
+  module: { kind: "main" } | { kind: "adapter"; name: string };
+  interface: string | null;
+  name: string;
+  abi: string;
+  slot: number | null;
+  realloc: string | null;
+}
+
+/** The record of a component's world: crates/wc_record/README.md lists its members. */
+export interface WorldRecord {
+  info: ModuleRecord;
+  renames: Rename[];
+  adapters: { name: string; length: number; info: ModuleRecord; library_info: unknown }[];
+  import_map: { name: string | null; interface: number | null; lowerings: { name: string; abi: string; lowering: { kind: string } }[] }[];
+  live_type_imports: { interface: number; types: number[] }[];
+  exports_used: { interface: number; uses: number[] }[];
+  /** Of `plannedWorld` alone. */
+  plan?: Use[];
+}
+
+/** What a module imports and exports, and what that means. */
+export interface ModuleRecord {
+  imports: { module: string; instance: { kind: string; names?: { name: string; import: { kind: string } }[] } }[];
+  exports: { name: string; export: { kind: string } }[];
+}
+
+/** A component's world, and its modules: the main one with its repeated imports renamed, the adapters trimmed. */
+export interface World {
+  record: WorldRecord;
+  main: Uint8Array;
+  adapters: { name: string; wasm: Uint8Array }[];
+}
+
+/** A function that is required of an adapter: types are `i32`, `i64`, `f32`, `f64`, `v128`, `funcref` or `externref`. */
+export interface RequiredFunction {
+  name: string;
+  params: string[];
+  results: string[];
+}
+
+/** How the library is loaded. */
+export interface Settings {
+  /** How many bytes of memory it takes at most: 2 GB unless it is said, and never more than 4 GB. */
+  memoryLimit?: number;
+  /** The seed of its maps, which no result depends on: random unless it is said. */
+  seed?: BigUint64Array | [bigint, bigint];
+}
+
+/** The library. A call that has no result throws one of the errors above. */
+export class Nuigatre {
+  private constructor();
+  /** Loads the library: of a module, its bytes or a Response; or else nuigatre.wasm beside this file. */
+  static load(source?: WebAssembly.Module | Bytes | Response | PromiseLike<Response>, settings?: Settings): Promise<Nuigatre>;
+  /** Whether the code in it was proved. */
+  readonly isProved: boolean;
+  /** The compiled module: workers can be given it. */
+  readonly module: WebAssembly.Module;
+  /** How many bytes its memory has. */
+  readonly memory: number;
+  /** Gives all memory back: the next call begins anew. */
+  reset(): void;
+  /** Renames imports, so that no two have one module and one name. */
+  dedupe(wasm: Bytes): { module: Uint8Array; renames: Rename[] };
+  /** Trims an adapter to what its exports of these names reach. `realloc` is the main module's export, if it has one. */
+  trim(adapter: Bytes, required: Iterable<string>, settings?: { realloc?: string | null; pageSizeLog2?: number }): Uint8Array;
+  /** Says why an adapter imports what it does, where its exports of these names are required. */
+  why(adapter: Bytes, required: Iterable<string>): Chains;
+  /** Makes the world of a component. */
+  world(component: Component): World;
+  /** Makes the plan of a component: what each function that its core modules import needs. */
+  plan(component: Component): Use[];
+  /** Makes both at once: the record has the plan. */
+  plannedWorld(component: Component): World;
+  /** Validates the main module of a component, or the adapter of a name. It returns if that is valid. */
+  validate(component: Component, adapter?: string | null): void;
+  /** Validates the main module of a component, or the adapter of a name for the functions that are required of it, and
+   *  returns what it imports and exports. */
+  validatedModule(component: Component, adapter?: string | null, required?: Iterable<RequiredFunction>): ModuleRecord;
+  /** The text of a fault of a call on bytes by its number; null if there is none. */
+  faultText(call: "dedupe" | "trim" | "why", number: number): string | null;
+}

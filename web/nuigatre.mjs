@@ -1,0 +1,286 @@
+// The calls of nuigatre.wasm, in browsers and in node: bytes in, bytes and objects out. Their types are in nuigatre.d.mts.
+import { ABI, CALLS, FAULTS, NUMBERS, STATUSES } from "./calls.mjs";
+
+const encoder = new TextEncoder(), decoder = new TextDecoder();
+const ANSWER_LENGTH = 32;
+/** What is first offered to an answer: the library says where it is too little, and is called again. */
+const ROOM = 1 << 16;
+
+/** An error of this module. */
+export class NuigatreError extends Error {
+  constructor(message, members = {}) {
+    super(message);
+    this.name = this.constructor.name;
+    Object.assign(this, members);
+  }
+}
+
+/** There is no result, because of a fault in what was passed. */
+export class Fault extends NuigatreError {}
+
+/** The call has no result for such arguments. */
+export class BadArgument extends NuigatreError {}
+
+/** An allocation failed: the memory is bounded by the limit of `load`, and by 4 GB. */
+export class OutOfMemory extends NuigatreError {}
+
+/** The call was stopped in its middle, by a trap. What it had in memory is gone; the next call begins anew. */
+export class Stopped extends NuigatreError {}
+
+const bytesOf = (it) => (typeof it === "string" ? encoder.encode(it) : it instanceof Uint8Array ? it : new Uint8Array(it));
+
+/** The memory of one call. Pointers are BigInts, also where addresses have 32 bits. */
+class Frame {
+  #blocks = [];
+
+  constructor(exports) {
+    this.exports = exports;
+  }
+
+  /** So many bytes: the address. */
+  room(length) {
+    const at = this.exports.nuigatre_alloc(BigInt(length));
+    if (at === 0n) throw new OutOfMemory("out of memory");
+    this.#blocks.push(at);
+    return Number(at);
+  }
+
+  // made anew for each use: a memory that grows ends the views of it
+  get bytes() {
+    return new Uint8Array(this.exports.memory.buffer);
+  }
+
+  get numbers() {
+    return new DataView(this.exports.memory.buffer);
+  }
+
+  slice(it) {
+    const bytes = bytesOf(it), at = this.room(bytes.length);
+    this.bytes.set(bytes, at);
+    return [BigInt(at), BigInt(bytes.length)];
+  }
+
+  slices(list) {
+    const pairs = Array.from(list, (it) => this.slice(it)), at = this.room(16 * pairs.length), numbers = this.numbers;
+    pairs.flat().forEach((number, n) => numbers.setBigUint64(at + 8 * n, number, true));
+    return [BigInt(at), BigInt(pairs.length)];
+  }
+
+  /** The words that are passed for a parameter. */
+  words(kind, it) {
+    if (kind === "bytes") return this.slice(it);
+    if (kind === "slices") return this.slices(it);
+    return [kind === "u64" ? it : Number(it)];
+  }
+
+  answer(at) {
+    const numbers = this.numbers, wide = (offset) => Number(numbers.getBigUint64(at + offset, true));
+    const status = numbers.getUint32(at, true), fault = numbers.getUint32(at + 4, true);
+    return { status, fault, length: wide(8), moduleLength: wide(16), position: wide(24) };
+  }
+
+  release() {
+    for (const at of this.#blocks.splice(0)) this.exports.nuigatre_free(at);
+  }
+}
+
+/** The names and numbers of the renames after a module. */
+class Reader {
+  constructor(bytes, at) {
+    Object.assign(this, { bytes, at });
+  }
+
+  number() {
+    for (let value = 0, scale = 1; ; scale *= 128) {
+      const byte = this.bytes[this.at++];
+      value += (byte & 127) * scale;
+      if (byte < 128) return value;
+    }
+  }
+
+  name() {
+    const length = this.number();
+    return decoder.decode(this.bytes.subarray(this.at, (this.at += length)));
+  }
+}
+
+/** What a message begins with: the worlds come next. */
+const HEAD = '{"resolve":';
+
+/** A component as the calls on messages take it: the message, and the bytes of all modules. */
+function messageOf({ worlds, world, main, adapters = [], ...options }) {
+  const text = typeof worlds === "string" ? worlds : worlds instanceof Uint8Array ? decoder.decode(worlds) : JSON.stringify(worlds);
+  const modules = [main, ...adapters.map((it) => it.wasm)].map(bytesOf);
+  const parts = adapters.map(({ wasm, exports = [], ...it }, n) => ({ exports, ...it, length: modules[n + 1].length }));
+  const whole = new Uint8Array(modules.reduce((sum, it) => sum + it.length, 0));
+  modules.reduce((at, it) => (whole.set(it, at), at + it.length), 0);
+  // the text goes in as it is: JSON.parse would lose members that are there twice, which is a fault
+  const rest = JSON.stringify({ ...options, world, length: modules[0].length, adapters: parts });
+  return { message: `${HEAD}${text},${rest.slice(1)}`, modules: whole };
+}
+
+const TYPES = { i32: 0x7f, i64: 0x7e, f32: 0x7d, f64: 0x7c, v128: 0x7b, funcref: 0x70, externref: 0x6f };
+const leb128 = (it) => (it < 128 ? [it] : [(it & 127) | 128, ...leb128(it >>> 7)]);
+const vector = (list) => [...leb128(list.length), ...list.flat()];
+
+/** Functions that are required of an adapter, with their types, as the binary format has them. */
+function functionsOf(list) {
+  const types = (names) => vector(names.map((it) => TYPES[it] ?? 0));
+  return Uint8Array.from(vector(Array.from(list, ({ name, params, results }) => [...vector([...encoder.encode(name)]), 0x60, ...types(params), ...types(results)])));
+}
+
+const parsed = (bytes) => JSON.parse(decoder.decode(bytes));
+
+/** The library. */
+export class Nuigatre {
+  #module;
+  #exports = null;
+  #limit;
+  #seed;
+
+  constructor(module, limit, seed) {
+    this.#module = module;
+    this.#limit = limit;
+    this.#seed = seed;
+    this.isProved = this.#started().nuigatre_proved() === 1;
+  }
+
+  /** Loads the library: of `source`, which is a module, its bytes or a Response; or else nuigatre.wasm beside this file. */
+  static async load(source = undefined, { memoryLimit = 2 ** 31, seed = crypto.getRandomValues(new BigUint64Array(2)) } = {}) {
+    let given = await source;
+    if (given === undefined) {
+      const url = new URL("nuigatre.wasm", import.meta.url);
+      given = url.protocol === "file:" ? await (await import("node:fs/promises")).readFile(url) : await fetch(url);
+    }
+    if (typeof Response !== "undefined" && given instanceof Response) {
+      if (!given.ok) throw new NuigatreError(`${given.url}: ${given.status} ${given.statusText}`);
+      given = await given.arrayBuffer();
+    }
+    const module = given instanceof WebAssembly.Module ? given : await WebAssembly.compile(given);
+    return new Nuigatre(module, memoryLimit, seed);
+  }
+
+  /** The compiled module: workers can be given it. */
+  get module() {
+    return this.#module;
+  }
+
+  /** How many bytes the memory has that the calls have taken up to now. */
+  get memory() {
+    return this.#exports === null ? 0 : this.#exports.memory.buffer.byteLength;
+  }
+
+  /** Gives all memory back: the next call begins anew. */
+  reset() {
+    this.#exports = null;
+  }
+
+  #started() {
+    if (this.#exports === null) {
+      const exports = new WebAssembly.Instance(this.#module).exports, abi = exports.nuigatre_abi();
+      if (abi !== ABI) throw new NuigatreError(`nuigatre.wasm has the calls of form ${abi}, and not ${ABI}`);
+      exports.nuigatre_limit(BigInt(this.#limit));
+      this.#exports = exports;
+    }
+    return this.#exports;
+  }
+
+  /** One call, with so much room for its answer. */
+  #once(name, given, room) {
+    const { parameters } = CALLS[name], frame = new Frame(this.#started());
+    try {
+      const at = frame.room(ANSWER_LENGTH), out = frame.room(room);
+      const words = parameters.flatMap(([of, kind]) => (kind === "out" ? [BigInt(out), BigInt(room)] : frame.words(kind, given[of])));
+      frame.exports[`nuigatre_${name}`](BigInt(at), ...words);
+      const answer = frame.answer(at);
+      const isWritten = answer.length <= room && answer.status <= STATUSES.FAULT;
+      return { ...answer, bytes: isWritten ? frame.bytes.slice(out, out + answer.length) : null };
+    } catch (why) {
+      // a trap, or no stack for a call: the memory is as it was in the middle of it
+      if (!(why instanceof WebAssembly.RuntimeError || why instanceof RangeError)) throw why;
+      this.reset();
+      throw new Stopped(`${name} was stopped: ${why.message}`, { call: name, cause: why });
+    } finally {
+      if (this.#exports !== null) frame.release();
+    }
+  }
+
+  /** A call; again where there was too little room. */
+  #call(name, given = {}, room = ROOM) {
+    const all = { seed0: this.#seed[0], seed1: this.#seed[1], ...given };
+    let answer = this.#once(name, all, room);
+    if (answer.length > room) answer = this.#once(name, all, answer.length);
+    if (answer.status === STATUSES.FAULT) throw this.#fault(name, all, answer);
+    if (answer.status === STATUSES.MEMORY) throw new OutOfMemory("out of memory", { call: name });
+    if (answer.status > STATUSES.SAME) throw new BadArgument(`${name} has no result for these arguments`, { call: name });
+    return answer;
+  }
+
+  #fault(name, given, { fault: number, bytes, position }) {
+    const isOnBytes = name in NUMBERS, split = isOnBytes ? 0 : position;
+    const text = isOnBytes ? this.faultText(name, number) : decoder.decode(bytes.subarray(0, split));
+    const place = bytes.length > split ? parsed(bytes.subarray(split)) : null;
+    // a byte of the message is one of the worlds, which are its first member
+    if (place?.kind === "json-byte") place.byte -= HEAD.length;
+    // of an export that is missing the answer has the position among the required ones
+    const isMissing = isOnBytes && "required" in given && number === FAULTS.gc.MISSING_EXPORT;
+    const missing = isMissing ? given.required[position] : null;
+    return new Fault(isMissing ? `${text} \`${missing}\`` : text, { call: name, number, text, place, missing });
+  }
+
+  dedupe(given) {
+    const wasm = bytesOf(given), { status, bytes, moduleLength } = this.#call("dedupe", { wasm }, wasm.length + ROOM);
+    if (status === STATUSES.SAME) return { module: wasm, renames: [] };
+    const reader = new Reader(bytes, moduleLength), count = reader.number();
+    const renames = Array.from({ length: count }, () => ({ module: reader.name(), original: reader.name(), name: reader.name() }));
+    return { module: bytes.slice(0, moduleLength), renames };
+  }
+
+  trim(adapter, names, { realloc = null, pageSizeLog2 = 16 } = {}) {
+    const wasm = bytesOf(adapter), required = [...names], has_realloc = realloc !== null;
+    const given = { wasm, required, has_realloc, realloc: realloc ?? "", page_size_log2: pageSizeLog2 };
+    return this.#call("trim", given, wasm.length + ROOM).bytes;
+  }
+
+  why(adapter, names) {
+    return parsed(this.#call("why", { wasm: bytesOf(adapter), required: [...names] }).bytes);
+  }
+
+  world(component) {
+    const given = messageOf(component);
+    return this.#modules(this.#call("world", given, given.modules.length + 4 * ROOM));
+  }
+
+  plan(component) {
+    return parsed(this.#call("plan", messageOf(component), ROOM).bytes);
+  }
+
+  plannedWorld(component) {
+    const given = messageOf(component);
+    return this.#modules(this.#call("planned_world", given, given.modules.length + 4 * ROOM));
+  }
+
+  /** The record and the modules of an answer: the main module comes first, and then the adapters in the record's order. */
+  #modules({ bytes, moduleLength }) {
+    const record = parsed(bytes.subarray(moduleLength));
+    let at = moduleLength - record.adapters.reduce((sum, it) => sum + it.length, 0);
+    const main = bytes.slice(0, at);
+    const adapters = record.adapters.map(({ name, length }) => ({ name, wasm: bytes.slice(at, (at += length)) }));
+    return { record, main, adapters };
+  }
+
+  validate(component, adapter = null) {
+    this.#call("validate", { ...messageOf(component), has_adapter: adapter !== null, adapter: adapter ?? "" });
+  }
+
+  validatedModule(component, adapter = null, required = []) {
+    const given = { ...messageOf(component), has_adapter: adapter !== null, adapter: adapter ?? "", required: functionsOf(required) };
+    return parsed(this.#call("validated_module", given).bytes);
+  }
+
+  faultText(call, number) {
+    const answer = this.#once("fault_text", { call: NUMBERS[call], number }, ROOM);
+    if (answer.status === STATUSES.MEMORY) throw new OutOfMemory("out of memory", { call: "fault_text" });
+    return answer.status === STATUSES.DONE ? decoder.decode(answer.bytes) : null;
+  }
+}

@@ -1,0 +1,186 @@
+// node --test web/test/*.test.mjs: the calls of nuigatre.wasm give what the examples have, and end whatever is passed.
+import assert from "node:assert/strict";
+import { readFileSync } from "node:fs";
+import test from "node:test";
+import { CALLS } from "../calls.mjs";
+import { BadArgument, Fault, Nuigatre, NuigatreError, OutOfMemory, Stopped } from "../nuigatre.mjs";
+import { damaged, numbers } from "./damage.mjs";
+import { stub } from "./stub.mjs";
+
+const example = (name) => readFileSync(new URL("../../examples/" + name, import.meta.url));
+const library = await Nuigatre.load();
+const adapter = example("adapter.wasm"), trimmed = example("trimmed.wasm");
+const same = (found, wanted) => assert.equal(Buffer.compare(Buffer.from(found), Buffer.from(wanted)), 0, "other bytes");
+
+/** The component of examples/wcplan. */
+const notes = (others = {}) => ({
+  worlds: example("wcplan/notes.json").toString(),
+  world: "app",
+  main: example("wcplan/main.wasm"),
+  adapters: [{ name: "old-notes", wasm: example("wcplan/adapter.wasm"), exports: ["is-ready"] }],
+  ...others,
+});
+
+/** What a call throws. */
+function thrown(call) {
+  try {
+    call();
+  } catch (why) {
+    if (why instanceof NuigatreError) return why;
+    throw why;
+  }
+  return assert.fail("it has a result");
+}
+
+test("the module imports nothing, and exports the calls of the header and its memory", () => {
+  assert.deepEqual(WebAssembly.Module.imports(library.module), []);
+  const found = WebAssembly.Module.exports(library.module).map((it) => it.name).sort();
+  const wanted = ["alloc", "free", "limit", "proved", ...Object.keys(CALLS)].map((it) => "nuigatre_" + it);
+  assert.deepEqual(found, ["memory", ...wanted].sort());
+});
+
+test("trim gives the trimmed adapter of the examples", () => {
+  same(library.trim(adapter, ["size_of"], { realloc: "cabi_realloc" }), trimmed);
+});
+
+test("dedupe renames the second of two imports", () => {
+  const { module, renames } = library.dedupe(example("duplicate-imports.wasm"));
+  assert.deepEqual(renames, [{ module: "env", original: "log", name: "log [v2]" }]);
+  const names = WebAssembly.Module.imports(new WebAssembly.Module(module)).map((it) => it.name);
+  assert.deepEqual(names.filter((it) => it.startsWith("log")), ["log", "log [v2]"]);
+  same(library.dedupe(adapter).module, adapter);
+});
+
+test("why gives the chain to an import", () => {
+  const { items, finders, exports, imports } = library.why(adapter, ["size_of"]);
+  assert.equal(imports.length, WebAssembly.Module.imports(new WebAssembly.Module(adapter)).length);
+  assert.deepEqual(exports, ["size_of"]);
+  const [end] = imports.filter((it) => it !== null), chain = [];
+  for (let at = end; ; at = finders[at]) {
+    chain.unshift(items[at].space);
+    if (finders[at] === at) break;
+  }
+  assert.equal(chain[0], "func");
+});
+
+test("a component's world and plan are those of the examples", () => {
+  const { record, main, adapters } = library.plannedWorld(notes());
+  same(main, example("wcplan/main.wasm"));
+  assert.deepEqual(adapters.map((it) => it.name), ["old-notes"]);
+  same(adapters[0].wasm, example("wcplan/trimmed.wasm"));
+  assert.deepEqual(record.plan.map(({ name, slot, realloc }) => [name, slot, realloc]), [
+    ["[constructor]note", 0, null],
+    ["[method]note.text", 1, "cabi_realloc"],
+    ["[constructor]note", 2, null],
+    ["summarize", 3, "cabi_import_realloc"],
+  ]);
+  assert.deepEqual(library.plan(notes()), record.plan);
+  const { plan, ...world } = record;
+  assert.deepEqual(library.world(notes()).record, world);
+  library.validate(notes());
+  library.validate(notes(), "old-notes");
+  assert.equal(thrown(() => library.validate(notes(), "other")).constructor, BadArgument);
+});
+
+test("a valid module has the record that the world has of it", { skip: !("validated_module" in CALLS) }, () => {
+  const { record } = library.world(notes());
+  assert.deepEqual(library.validatedModule(notes()), record.info);
+  const [{ import: used }] = record.info.imports.find((it) => it.module === "old-notes").instance.names;
+  const adapter = library.validatedModule(notes(), "old-notes", [{ name: used.func, ...used.type }]);
+  assert.deepEqual(adapter.exports.map((it) => it.name).sort(), record.adapters[0].info.exports.map((it) => it.name).sort());
+  const other = thrown(() => library.validatedModule(notes(), "old-notes", [{ name: "other", params: ["f64"], results: [] }]));
+  assert.match(other.text, /AdapterModuleDidNotExport|adapter module did not export/);
+  assert.equal(thrown(() => library.validatedModule(notes(), "old-notes", [{ name: "other", params: ["x"], results: [] }])).constructor, BadArgument);
+});
+
+test("worlds are passed as a text, as bytes or as an object", () => {
+  const text = notes().worlds, plan = library.plan(notes());
+  assert.deepEqual(library.plan(notes({ worlds: new TextEncoder().encode(text) })), plan);
+  assert.deepEqual(library.plan(notes({ worlds: JSON.parse(text) })), plan);
+});
+
+test("a fault has its number, its text and its place", () => {
+  const without = notes();
+  without.adapters[0].exports = [];
+  const missing = thrown(() => library.world(without));
+  assert.ok(missing instanceof Fault);
+  assert.equal(missing.text, "World: Main: MissingWorldExport");
+  assert.deepEqual([missing.place.kind, missing.place.name], ["missing-export", "is-ready"]);
+  const cut = thrown(() => library.trim(adapter.subarray(0, 100), ["size_of"]));
+  assert.deepEqual([cut.call, cut.text, cut.number, cut.place.kind], ["trim", "Read: Truncated", 1 + 256 * 3, "bytes"]);
+  const name = thrown(() => library.why(adapter, ["size_of", "other"]));
+  assert.deepEqual([name.message, name.missing], ["adapter module does not have export `other`", "other"]);
+  assert.equal(thrown(() => library.trim(adapter, [])).constructor, BadArgument);
+  assert.equal(library.faultText("trim", 99999), null);
+  const twice = thrown(() => library.world(notes({ worlds: '{"worlds":[],"worlds":[]}' })));
+  assert.equal(twice.text, "Json: repeated member");
+  const wrong = thrown(() => library.world(notes({ worlds: '{"worlds":!}' })));
+  assert.deepEqual([wrong.text, wrong.place], ["Json: not JSON", { kind: "json-byte", byte: 10 }]);
+});
+
+test("damaged modules and messages end each call, and change no later one", () => {
+  const drawn = numbers(1), names = ["adapter", "main", "duplicate-imports", "wcplan/adapter", "wcplan/main"];
+  const modules = names.map((it) => example(it + ".wasm")), text = example("wcplan/notes.json");
+  const required = ["size_of", "write", "is-ready", "read_text", "cabi_import_realloc"];
+  let refused = 0, memory = 0;
+  const tried = (call) => {
+    try {
+      call();
+    } catch (why) {
+      if (!(why instanceof Fault || why instanceof BadArgument)) throw why;
+      assert.ok(why instanceof BadArgument || why.text.length > 0);
+      refused++;
+    }
+  };
+  for (let count = 0; count < 2000; count++) {
+    const wasm = damaged(modules[drawn(modules.length)], drawn), wanted = [required[drawn(required.length)]];
+    tried(() => library.dedupe(wasm));
+    tried(() => library.trim(wasm, wanted, { realloc: drawn(2) ? "cabi_realloc" : null, pageSizeLog2: drawn(18) }));
+    tried(() => library.why(wasm, wanted));
+    const message = drawn(2) ? { worlds: new TextDecoder().decode(damaged(text, drawn)) } : drawn(2) ? { main: wasm } : {};
+    const component = notes(message);
+    if (drawn(2)) component.adapters[0].wasm = damaged(component.adapters[0].wasm, drawn);
+    tried(() => library.plannedWorld(component));
+    if (count === 1000) memory = library.memory;
+  }
+  assert.ok(refused > 2000, `${refused} are refused`);
+  assert.ok(library.memory <= 2 * memory, `memory goes from ${memory} to ${library.memory}`);
+  same(library.trim(adapter, ["size_of"], { realloc: "cabi_realloc" }), trimmed);
+});
+
+test("where memory is refused, the call says so, and the next one is as before", async () => {
+  const wanted = JSON.stringify(library.plannedWorld(notes()).record), PAGE = 65536;
+  const begun = (await Nuigatre.load(library.module)).memory;
+  let refused = 0, isRefused = true;
+  for (let limit = begun; isRefused; limit += PAGE) {
+    assert.ok(limit < begun + 64 * PAGE, "it is refused with 4 MB");
+    const small = await Nuigatre.load(library.module, { memoryLimit: limit });
+    for (let again = 0; again < 3; again++) {
+      try {
+        const large = "x".repeat(300000);
+        assert.equal(JSON.stringify(small.plannedWorld(notes({ options: [{ name: large }] })).record), wanted);
+        isRefused = false;
+      } catch (why) {
+        assert.ok(why instanceof OutOfMemory, why);
+        assert.ok(isRefused, "an earlier call with the same limit was not refused");
+        refused++;
+      }
+      assert.ok(small.memory <= limit, "the memory is larger than the limit");
+    }
+  }
+  assert.ok(refused > 2, `${refused} are refused`);
+});
+
+test("no choice of a seed changes a result", async () => {
+  const other = await Nuigatre.load(library.module, { seed: [1n, 2n] });
+  assert.deepEqual(other.plannedWorld(notes()), library.plannedWorld(notes()));
+  assert.deepEqual(other.why(adapter, ["size_of"]), library.why(adapter, ["size_of"]));
+});
+
+test("after a trap the next call begins anew", async () => {
+  const trapping = await Nuigatre.load(stub());
+  for (let again = 0; again < 2; again++) assert.ok(thrown(() => trapping.dedupe(adapter)) instanceof Stopped);
+  assert.equal(trapping.memory, 0);
+  assert.equal(thrown(() => trapping.why(adapter, [])).constructor, OutOfMemory);
+  await assert.rejects(Nuigatre.load(stub({ abi: 1 })), /form 1/);
+});
