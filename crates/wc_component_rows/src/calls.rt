@@ -1,6 +1,6 @@
 //! The calls of `wc_world`.
 
-use crate::shown::put_named_part;
+use crate::shown::put_part;
 use bitflags::Flags;
 use std::alloc::{AllocError, Global};
 use wc_encoder::ComponentEncoder;
@@ -10,11 +10,10 @@ use wc_fixtures::functions::complete_function;
 use wc_fixtures::resolve_calls::{argument_words, resolve_of};
 use wc_fixtures::signature_calls::abi_variant;
 use wc_fixtures::stop::{Stop, put_answered};
-use wc_fixtures::words::Words;
 use wc_gc::GcFault;
 use wc_lines::lines::Lines;
+use wc_lines::put_last::{PutAbout, put_last_about, put_last_fault};
 use wc_lines::rows::Row;
-use wc_module_rows::validation::answers::{PutAbout, put_last_about, put_last_fault};
 use wc_module_rows::validation::described_modules::described_of;
 use wc_resolve::Resolve;
 use wc_texts::Refused;
@@ -35,7 +34,7 @@ fn put_fault(fault: &WorldFault, out: &mut Lines) {
 /// The parts that are asked for of a component's world.
 fn put_parts(alloc: Global, world: &ComponentWorld<'_>, parts: &[&str], out: &mut Lines) {
     for part in parts {
-        put_named_part(alloc, world, part, out);
+        put_part(alloc, world, part, out);
     }
 }
 
@@ -52,62 +51,24 @@ fn put_world_place(place: &WorldPlace, out: &mut Lines) {
     }
 }
 
-/// Puts why a world is refused, and what that is about.
-fn put_refusal(refused: &Refused<WorldFault, WorldPlace>, out: &mut Lines) {
-    put_fault(&refused.fault, out);
-    match &refused.place {
-        Some(place) => put_world_place(place, out),
-        None => out.push_str("none\n"),
-    }
-}
-
-/// The lines of the fault that another call answered.
+/// That it is asked why there is no world.
 #[derive(Clone, Copy)]
-struct OtherFault<'a> {
-    lines: &'a Lines,
-}
+struct WhyRefused;
 
-impl<'a, 'b> PutAbout<OtherFault<'a>>
-    for Result<ComponentWorld<'b>, Refused<WorldFault, WorldPlace>> {
-    /// Puts why a world is refused, and what that is about; before it the fault of another call, where that is another one.
-    fn put_about(&self, alloc: Global, other: &OtherFault<'a>, out: &mut Lines) {
+impl<'b> PutAbout<WhyRefused> for Result<ComponentWorld<'b>, Refused<WorldFault, WorldPlace>> {
+    /// Puts why a world is refused, and what that is about, or `ok`.
+    fn put_about(&self, _alloc: Global, _about: &WhyRefused, out: &mut Lines) {
         match self {
-            Ok(_) => {
-                out.push_lines(other.lines);
-                out.push_str("ok\n");
-            }
+            Ok(_) => out.push_str("ok\n"),
             Err(refused) => {
-                let mut fault = Lines::new(alloc);
-                put_fault(&refused.fault, &mut fault);
-                if fault.text() != other.lines.text() {
-                    out.push_lines(other.lines);
+                put_fault(&refused.fault, out);
+                match &refused.place {
+                    Some(place) => put_world_place(place, out),
+                    None => out.push_str("none\n"),
                 }
-                put_refusal(refused, out);
             }
         }
     }
-}
-
-/// That the fault of a world is put, if it has one.
-#[derive(Clone, Copy)]
-struct FaultAlone;
-
-impl<'b> PutAbout<FaultAlone> for Result<ComponentWorld<'b>, WorldFault> {
-    fn put_about(&self, _alloc: Global, _about: &FaultAlone, out: &mut Lines) {
-        match self {
-            Ok(_) => {}
-            Err(fault) => put_fault(fault, out),
-        }
-    }
-}
-
-/// `component_world explain`: why there is no world, and what that is about; `ok` where there is one.
-fn explain_world(alloc: Global, encoder: &ComponentEncoder, out: &mut Lines) {
-    let mut lines = Lines::new(alloc);
-    let world = ComponentWorld::new(alloc, encoder, &PlainOptions);
-    put_last_about(alloc, &FaultAlone, world, &mut lines);
-    let explained = ComponentWorld::new_explained(alloc, encoder, &PlainOptions);
-    put_last_about(alloc, &OtherFault { lines: &lines }, explained, out);
 }
 
 /// The parts that are asked for of a world.
@@ -126,10 +87,11 @@ impl<'a, 'b> PutAbout<AskedParts<'a>> for Result<ComponentWorld<'b>, WorldFault>
     }
 }
 
-/// `component_world PART..`, by plain options, or `component_world explain`.
+/// `component_world PART..`, by plain options; or `component_world explain`: why there is no world, and what that is about.
 fn component_world(alloc: Global, encoder: &ComponentEncoder, parts: &[&str], out: &mut Lines) {
     if parts.first() == Some(&"explain") {
-        return explain_world(alloc, encoder, out);
+        let explained = ComponentWorld::new_explained(alloc, encoder, &PlainOptions);
+        return put_last_about(alloc, &WhyRefused, explained, out);
     }
     let world = ComponentWorld::new(alloc, encoder, &PlainOptions);
     put_last_about(alloc, &AskedParts { parts }, world, out);
@@ -153,24 +115,6 @@ pub(crate) fn described_encoder<'a>(
     encoder_of(alloc, fixture)
 }
 
-/// `plain_options ABI func NAME: FUNCTION`: the bits of the options that the function needs.
-fn plain_options<'a>(
-    resolve: &Resolve,
-    words: &mut Words,
-    out: &mut Lines,
-) -> Result<(), Stop<'a>> {
-    let abi = abi_variant(words)?;
-    let function = complete_function(words)?;
-    words.end()?;
-    if !resolve.has_function(&function) {
-        return Err(Stop::Missing("a function that is not usable"));
-    }
-    let required = PlainOptions.for_import(words.alloc, resolve, &function, abi)?;
-    let bits = required.bits();
-    writeln!(out, "{bits}");
-    Ok(())
-}
-
 /// A fault that carries an adapter's name, for rows of texts.
 fn adapter_fault(alloc: Global, number: u32) -> Result<WorldFault, AllocError> {
     let name = String::from_str(alloc, "old")?;
@@ -183,7 +127,7 @@ fn adapter_fault(alloc: Global, number: u32) -> Result<WorldFault, AllocError> {
 }
 
 /// The text of each fault, in the order of `WorldFault`.
-fn put_faults(alloc: Global, out: &mut Lines) -> Result<(), AllocError> {
+fn put_faults<'a>(alloc: Global, out: &mut Lines) -> Result<(), Stop<'a>> {
     put_last_fault(alloc, WorldFault::Memory, out);
     put_last_fault(alloc, WorldFault::Main(ValidateFault::NotAModule), out);
     for number in 0..4 {
@@ -204,50 +148,40 @@ fn answer_world<'a>(alloc: Global, row: &'a Row<'a>, out: &mut Lines) -> Result<
 
 fn answer_options<'a>(alloc: Global, row: &'a Row<'a>, out: &mut Lines) -> Result<(), Stop<'a>> {
     match resolve_of(alloc, &row.input) {
-        Ok(resolve) => options_in(alloc, &resolve, row, out),
+        Ok(resolve) => plain_options(alloc, &resolve, row, out),
         Err(stop) => Err(stop),
     }
 }
 
-fn options_in<'a>(
+/// `plain_options ABI func NAME: FUNCTION`: the bits of the options that the function needs.
+fn plain_options<'a>(
     alloc: Global,
     resolve: &Resolve,
     row: &'a Row<'a>,
     out: &mut Lines,
 ) -> Result<(), Stop<'a>> {
     let mut words = argument_words(alloc, row)?;
-    plain_options(resolve, &mut words, out)
-}
-
-fn answer_faults<'a>(alloc: Global, out: &mut Lines) -> Result<(), Stop<'a>> {
-    put_faults(alloc, out)?;
+    let abi = abi_variant(&mut words)?;
+    let function = complete_function(&mut words)?;
+    words.end()?;
+    if !resolve.has_function(&function) {
+        return Err(Stop::Missing("a function that is not usable"));
+    }
+    let required = PlainOptions.for_import(alloc, resolve, &function, abi)?;
+    let bits = required.bits();
+    writeln!(out, "{bits}");
     Ok(())
 }
 
-/// The calls of `wc_world`.
-#[derive(Clone, Copy)]
-pub enum Call {
-    World,
-    PlainOptions,
-    Faults,
-}
-
-fn answered<'a>(
-    alloc: Global,
-    call: Call,
-    row: &'a Row<'a>,
-    out: &mut Lines,
-) -> Result<(), Stop<'a>> {
-    match call {
-        Call::World => answer_world(alloc, row, out),
-        Call::PlainOptions => answer_options(alloc, row, out),
-        Call::Faults => answer_faults(alloc, out),
-    }
-}
-
-/// Appends the answer of a call of `wc_world`.
-pub fn answer(alloc: Global, call: Call, row: &Row<'_>, out: &mut Lines) {
+/// Appends the answer of a call of `wc_world`. False where a row has another call.
+pub(crate) fn answer(alloc: Global, row: &Row<'_>, out: &mut Lines) -> bool {
     let mut lines = Lines::new(alloc);
-    let answered = answered(alloc, call, row, &mut lines);
+    let answered = match row.call {
+        "component_world" => answer_world(alloc, row, &mut lines),
+        "plain_options" => answer_options(alloc, row, &mut lines),
+        "world_faults" => put_faults(alloc, &mut lines),
+        _ => return false,
+    };
     put_answered(out, answered, &lines);
+    true
 }

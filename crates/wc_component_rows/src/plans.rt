@@ -7,10 +7,10 @@ use wc_encoder::ComponentEncoder;
 use wc_fixtures::resolve_calls::argument_words;
 use wc_fixtures::stop::{Stop, put_answered};
 use wc_lines::lines::Lines;
+use wc_lines::put_last::{PutAbout, put_last_about, put_last_fault};
 use wc_lines::rows::Row;
 use wc_lines::seeds::row_seed;
 use wc_maps::Map;
-use wc_module_rows::validation::answers::{PutAbout, put_last_about, put_last_fault};
 use wc_plan::laws::worlds_nameable;
 use wc_plan::{Plan, PlanFault, PlanPlace, plan, plan_encoder, plan_explained, write_plan};
 use wc_record::plan_to_json;
@@ -83,25 +83,23 @@ fn put_plan_place(place: &PlanPlace, out: &mut Lines) {
     writeln!(out, " {interface} {name} {abi}");
 }
 
-/// Why there is no plan, and the function that this is about; `ok` where there is one.
-fn put_plan_refusal(refused: &Refused<PlanFault, PlanPlace>, out: &mut Lines) {
-    let fault = &refused.fault;
-    writeln!(out, "fault {fault}");
-    match &refused.place {
-        Some(place) => put_plan_place(place, out),
-        None => out.push_str("none\n"),
-    }
-}
-
 /// That it is asked why there is no plan.
 #[derive(Clone, Copy)]
 struct WhyRefused;
 
 impl PutAbout<WhyRefused> for Result<Plan, Refused<PlanFault, PlanPlace>> {
+    /// Puts why there is no plan, and the function that this is about, or `ok`.
     fn put_about(&self, _alloc: Global, _about: &WhyRefused, out: &mut Lines) {
         match self {
             Ok(_) => out.push_str("ok\n"),
-            Err(refused) => put_plan_refusal(refused, out),
+            Err(refused) => {
+                let fault = &refused.fault;
+                writeln!(out, "fault {fault}");
+                match &refused.place {
+                    Some(place) => put_plan_place(place, out),
+                    None => out.push_str("none\n"),
+                }
+            }
         }
     }
 }
@@ -120,14 +118,7 @@ fn explained_plan(
     }
 }
 
-/// The lines of a plan, over a sink that fails after so many puts; or why there is no plan.
-fn put_plan(alloc: Global, plan: &Result<Plan, PlanFault>, puts: u32, out: &mut Lines) {
-    match plan {
-        Ok(plan) => put_lines(alloc, plan, puts, out),
-        Err(fault) => put_fault(fault, out),
-    }
-}
-
+/// The lines of a plan, over a sink that fails after so many puts.
 fn put_lines(alloc: Global, plan: &Plan, puts: u32, out: &mut Lines) {
     let mut printed = Printed {
         lines: Lines::new(alloc),
@@ -148,24 +139,15 @@ impl PutAbout<Printed> for Result<(), PlanFault> {
     }
 }
 
-/// A plan as JSON; or why there is none.
-fn put_record(alloc: Global, plan: &Result<Plan, PlanFault>, out: &mut Lines) {
-    match plan {
-        Ok(plan) => put_json(alloc, plan, out),
-        Err(fault) => put_fault(fault, out),
-    }
-}
-
+/// A plan as JSON.
 fn put_json(alloc: Global, plan: &Plan, out: &mut Lines) {
     match plan_to_json(alloc, plan) {
-        Ok(bytes) => put_text(&bytes, out),
+        Ok(bytes) => {
+            if let Ok(text) = str::from_utf8(&bytes) {
+                writeln!(out, "{text}");
+            }
+        }
         Err(_) => out.lack_memory(),
-    }
-}
-
-fn put_text(bytes: &[u8], out: &mut Lines) {
-    if let Ok(text) = str::from_utf8(bytes) {
-        writeln!(out, "{text}");
     }
 }
 
@@ -189,7 +171,7 @@ fn function_fault(alloc: Global, number: u32) -> Result<PlanFault, AllocError> {
 }
 
 /// The text of each fault, in the order of `PlanFault`.
-fn put_faults(alloc: Global, out: &mut Lines) -> Result<(), AllocError> {
+fn put_faults<'a>(alloc: Global, out: &mut Lines) -> Result<(), Stop<'a>> {
     put_last_fault(alloc, PlanFault::Memory, out);
     for number in 0..3 {
         put_last_fault(alloc, function_fault(alloc, number)?, out);
@@ -200,100 +182,74 @@ fn put_faults(alloc: Global, out: &mut Lines) -> Result<(), AllocError> {
     Ok(())
 }
 
-/// The calls of `wc_plan`.
-#[derive(Clone, Copy)]
-pub enum Call {
-    Plan,
-    /// The plan as JSON.
-    Json,
-    /// Why there is no plan, and the function that this is about.
-    Explain,
-    /// `plan_failing PUTS`: the lines, over a sink that fails after so many puts.
-    Failing,
-    /// The plan of the world, all of whose lowerings are taken away.
-    WithoutLowerings,
-    Faults,
-}
-
-fn answer_faults<'a>(alloc: Global, out: &mut Lines) -> Result<(), Stop<'a>> {
-    put_faults(alloc, out)?;
-    Ok(())
-}
-
 /// The calls on the encoder that the input describes.
-fn answer_planned<'a>(
-    alloc: Global,
-    call: Call,
-    row: &'a Row<'a>,
-    out: &mut Lines,
-) -> Result<(), Stop<'a>> {
-    let puts = puts_of(alloc, call, row)?;
+fn answer_planned<'a>(alloc: Global, row: &'a Row<'a>, out: &mut Lines) -> Result<(), Stop<'a>> {
+    let asked = asked_of(alloc, row)?;
     match described_encoder(alloc, &row.input) {
         Ok(encoder) => {
-            put_planned(alloc, call, &encoder, puts, out);
+            put_planned(alloc, &asked, &encoder, out);
             Ok(())
         }
         Err(stop) => Err(stop),
     }
 }
 
-/// After how many puts the sink fails: as the argument of `plan_failing` says.
-fn puts_of<'a>(alloc: Global, call: Call, row: &'a Row<'a>) -> Result<u32, Stop<'a>> {
+/// A call on a plan, and after how many puts the sink fails that its lines are printed to.
+#[derive(Clone, Copy)]
+struct Asked<'a> {
+    call: &'a str,
+    puts: u32,
+}
+
+/// The call of a row; the sink fails after as many puts as the argument of `plan_failing` says.
+fn asked_of<'a>(alloc: Global, row: &'a Row<'a>) -> Result<Asked<'a>, Stop<'a>> {
     let mut words = argument_words(alloc, row)?;
-    let puts = if matches!(call, Call::Failing) {
+    let puts = if row.call == "plan_failing" {
         words.number()?
     } else {
         u32::MAX
     };
     words.end()?;
-    Ok(puts)
+    Ok(Asked {
+        call: row.call,
+        puts,
+    })
 }
 
-/// A call on a plan, and after how many puts the sink fails that its lines are printed to.
-#[derive(Clone, Copy)]
-struct Asked {
-    call: Call,
-    puts: u32,
-}
-
-impl PutAbout<Asked> for Result<Plan, PlanFault> {
-    /// Puts the answer to a call on a plan.
-    fn put_about(&self, alloc: Global, asked: &Asked, out: &mut Lines) {
-        match asked.call {
-            Call::Json => put_record(alloc, self, out),
-            _ => put_plan(alloc, self, asked.puts, out),
+impl<'a> PutAbout<Asked<'a>> for Result<Plan, PlanFault> {
+    /// Puts a plan as JSON or its lines, or why there is none.
+    fn put_about(&self, alloc: Global, asked: &Asked<'a>, out: &mut Lines) {
+        match self {
+            Ok(plan) if asked.call == "plan_json" => put_json(alloc, plan, out),
+            Ok(plan) => put_lines(alloc, plan, asked.puts, out),
+            Err(fault) => put_fault(fault, out),
         }
     }
 }
 
-/// Puts the answer to a call on the plan of an encoder's world.
-fn put_planned(alloc: Global, call: Call, encoder: &ComponentEncoder, puts: u32, out: &mut Lines) {
-    let asked = Asked { call, puts };
-    if matches!(call, Call::Explain) {
+/// Puts the answer to a call on the plan of an encoder's world: `plan_explain`, why there is none; `plan_without_lowerings`,
+/// that of the world, all of whose lowerings are taken away; else the plan itself.
+fn put_planned(alloc: Global, asked: &Asked<'_>, encoder: &ComponentEncoder, out: &mut Lines) {
+    if asked.call == "plan_explain" {
         put_last_about(alloc, &WhyRefused, explained_plan(alloc, encoder), out);
-    } else if matches!(call, Call::WithoutLowerings) {
-        put_last_about(alloc, &asked, plan_without_lowerings(alloc, encoder), out);
+    } else if asked.call == "plan_without_lowerings" {
+        put_last_about(alloc, asked, plan_without_lowerings(alloc, encoder), out);
     } else {
         let plan = plan_encoder(alloc, encoder, &PlainOptions);
-        put_last_about(alloc, &asked, plan, out);
+        put_last_about(alloc, asked, plan, out);
     }
 }
 
-fn answered<'a>(
-    alloc: Global,
-    call: Call,
-    row: &'a Row<'a>,
-    out: &mut Lines,
-) -> Result<(), Stop<'a>> {
-    match call {
-        Call::Faults => answer_faults(alloc, out),
-        _ => answer_planned(alloc, call, row, out),
-    }
-}
-
-/// Appends the answer of a call of `wc_plan`.
-pub fn answer(alloc: Global, call: Call, row: &Row<'_>, out: &mut Lines) {
+/// Appends the answer of a call of `wc_plan`. False where a row has another call.
+pub(crate) fn answer(alloc: Global, row: &Row<'_>, out: &mut Lines) -> bool {
     let mut lines = Lines::new(alloc);
-    let answered = answered(alloc, call, row, &mut lines);
+    let answered = match row.call {
+        "plan" | "plan_json" | "plan_explain" | "plan_failing" | "plan_without_lowerings" => {
+            answer_planned(alloc, row, &mut lines)
+        }
+        "plan_faults" => put_faults(alloc, &mut lines),
+        _ => return false,
+    };
     put_answered(out, answered, &lines);
+    true
 }

@@ -5,7 +5,6 @@ use std::borrow::CowSlice;
 use wc_fixtures::shown_names::{put_id, put_name, put_optional_name};
 use wc_lines::input::bad_row;
 use wc_lines::lines::Lines;
-use wc_lines::table::named;
 use wc_lines::values::put_bytes_lines;
 use wc_maps::{Map, Set};
 use wc_module_rows::validation::export_calls::{put_exports, put_found_reallocs};
@@ -157,62 +156,23 @@ fn put_live(world: &ComponentWorld<'_>, out: &mut Lines) {
     }
 }
 
-/// The parts that a world is asked for.
-#[derive(Clone, Copy)]
-enum Part {
-    Main,
-    Adapters,
-    Reallocs,
-    Required,
-    Bytes,
-    Imports,
-    Used,
-    Live,
-    Slot1,
-}
-
-const PARTS: [(&str, Part); 9] = [
-    ("main", Part::Main),
-    ("adapters", Part::Adapters),
-    ("reallocs", Part::Reallocs),
-    ("required", Part::Required),
-    ("bytes", Part::Bytes),
-    ("imports", Part::Imports),
-    ("used", Part::Used),
-    ("live", Part::Live),
-    ("slot-1", Part::Slot1),
-];
-
 /// Puts the part of a world that is asked for by its name.
-pub(crate) fn put_named_part(
-    alloc: Global,
-    world: &ComponentWorld<'_>,
-    part: &str,
-    out: &mut Lines,
-) {
-    match named(&PARTS, part) {
-        Some(part) => put_part(alloc, world, part, out),
-        None => {
+pub(crate) fn put_part(alloc: Global, world: &ComponentWorld<'_>, part: &str, out: &mut Lines) {
+    match part {
+        "main" => put_modules(alloc, &world.info.imports, out),
+        "adapters" => put_adapters(alloc, world, out),
+        "reallocs" => put_adapter_reallocs(world, out),
+        "required" => put_required_exports(alloc, world, out),
+        "bytes" => put_adapter_bytes(world, out),
+        "imports" => put_import_map(world, out),
+        "used" => put_used(world, out),
+        "live" => put_live(world, out),
+        "slot-1" => {
+            let can_use = world.can_use_context_slot_1();
+            writeln!(out, "slot-1 {can_use}");
+        }
+        _ => {
             let _ = bad_row(out, "no part of a world", part);
         }
     }
-}
-
-fn put_part(alloc: Global, world: &ComponentWorld<'_>, part: Part, out: &mut Lines) {
-    match part {
-        Part::Main => put_modules(alloc, &world.info.imports, out),
-        Part::Adapters => put_adapters(alloc, world, out),
-        Part::Reallocs => put_adapter_reallocs(world, out),
-        Part::Required => put_required_exports(alloc, world, out),
-        Part::Bytes => put_adapter_bytes(world, out),
-        Part::Imports => put_import_map(world, out),
-        Part::Used => put_used(world, out),
-        Part::Live => put_live(world, out),
-        Part::Slot1 => put_slot(world, out),
-    }
-}
-
-fn put_slot(world: &ComponentWorld<'_>, out: &mut Lines) {
-    let can_use = world.can_use_context_slot_1();
-    writeln!(out, "slot-1 {can_use}");
 }

@@ -14,110 +14,49 @@ mod world;
 mod write;
 
 use crate::examples::world::Summary;
-use crate::put_last::{PutFor, put_last_for};
 use std::alloc::Global;
 use std::str;
 use wc_encoder::{ComponentEncoder, EncoderFault};
 use wc_gc::GcFault;
 use wc_lines::imports::imports_of;
-use wc_lines::input::{Stop, bad_row, bytes_of, end_answer};
+use wc_lines::input::{Stop, bad_row, bytes_of, end_answer, number_of};
 use wc_lines::lines::Lines;
 use wc_lines::names::names_from;
+use wc_lines::put_last::{PutAbout, put_last_about};
 use wc_lines::rows::Row;
 use wc_lines::seeds::row_seed;
-use wc_lines::table::named;
 use wc_lines::values::{put_bytes_lines, put_fault};
 use wc_maps::Map;
 use wc_plan::PlanFault;
 use wc_resolve::{Parts, Resolve, ResolveFault, World, WorldId};
 use wctrim_command::CommandFault;
 
-/// Appends the answer of an example.
-pub fn answer(alloc: Global, row: &Row<'_>, out: &mut Lines) {
-    let answered = answer_call(alloc, row, out);
-    end_answer(answered, out);
-}
-
-/// The examples by their names.
-#[derive(Clone, Copy)]
-enum Example {
-    ExportsMemory,
-    ImportSection,
-    OriginalName,
-    InterfaceId,
-    DroppedResource,
-    EncoderFor,
-    PrintedLines,
-    ReachesMemory,
-    TrimBoth,
-    TrimUnedited,
-    Summary,
-    PrintedPlan,
-    ImportedMemory,
-    CanUseSlot1,
-}
-
-const EXAMPLES: [(&str, Example); 14] = [
-    ("exports_memory", Example::ExportsMemory),
-    ("import_section", Example::ImportSection),
-    ("original_name", Example::OriginalName),
-    ("interface_id", Example::InterfaceId),
-    ("dropped_resource", Example::DroppedResource),
-    ("encoder_for", Example::EncoderFor),
-    ("printed_lines", Example::PrintedLines),
-    ("reaches_memory", Example::ReachesMemory),
-    ("trim_both", Example::TrimBoth),
-    ("trim_unedited", Example::TrimUnedited),
-    ("summary", Example::Summary),
-    ("printed_plan", Example::PrintedPlan),
-    ("imported_memory", Example::ImportedMemory),
-    ("can_use_slot_1", Example::CanUseSlot1),
-];
-
-fn answer_call(alloc: Global, row: &Row<'_>, out: &mut Lines) -> Result<(), Stop> {
-    match named(&EXAMPLES, argument(row, 0)) {
-        Some(example) => answer_example(alloc, example, row, out),
-        None => Err(bad_row(out, "no example", argument(row, 0))),
+/// Appends the answer of an example. False where a row has another call.
+pub(crate) fn answer(alloc: Global, row: &Row<'_>, out: &mut Lines) -> bool {
+    if row.call != "example" {
+        return false;
     }
+    end_answer(answer_example(alloc, row, out), out);
+    true
 }
 
-fn answer_example(
-    alloc: Global,
-    example: Example,
-    row: &Row<'_>,
-    out: &mut Lines,
-) -> Result<(), Stop> {
-    match example {
-        Example::ExportsMemory => answer_exports_memory(alloc, row, out),
-        Example::ImportSection => answer_import_section(alloc, row, out),
-        Example::OriginalName => answer_original_name(alloc, row, out),
-        Example::InterfaceId => answer_interface_id(alloc, row, out),
-        Example::DroppedResource => answer_dropped_resource(row, out),
-        Example::EncoderFor => answer_encoder_for(alloc, row, out),
-        Example::PrintedLines => answer_printed_lines(alloc, row, out),
-        Example::ReachesMemory => answer_reaches_memory(alloc, row, out),
-        Example::TrimBoth => answer_trim_both(alloc, row, out),
-        Example::TrimUnedited => answer_trim_unedited(alloc, row, out),
-        Example::Summary => answer_summary(alloc, row, out),
-        Example::PrintedPlan => answer_printed_plan(alloc, row, out),
-        Example::ImportedMemory => answer_imported_memory(alloc, row, out),
-        Example::CanUseSlot1 => answer_can_use_slot_1(alloc, row, out),
-    }
-}
-
-/// An argument of a row that has so many or less; it is empty where there are fewer.
-fn argument<'a>(row: &Row<'a>, index: usize) -> &'a str {
-    match row.arguments.get(index) {
-        Some(argument) => *argument,
-        None => "",
-    }
-}
-
-/// Parses an argument. The row is bad where it is no number.
-fn number(row: &Row<'_>, index: usize, out: &mut Lines) -> Result<u32, Stop> {
-    match argument(row, index).parse::<u32>() {
-        Ok(number) => Ok(number),
-        Err(_) => Err(bad_row(out, "no number", argument(row, index))),
+fn answer_example(alloc: Global, row: &Row<'_>, out: &mut Lines) -> Result<(), Stop> {
+    match row.argument(0) {
+        "exports_memory" => answer_exports_memory(alloc, row, out),
+        "import_section" => answer_import_section(alloc, row, out),
+        "original_name" => answer_original_name(alloc, row, out),
+        "interface_id" => answer_interface_id(alloc, row, out),
+        "dropped_resource" => answer_dropped_resource(row, out),
+        "encoder_for" => answer_encoder_for(alloc, row, out),
+        "printed_lines" => answer_printed_lines(alloc, row, out),
+        "reaches_memory" => answer_reaches_memory(alloc, row, out),
+        "trim_both" => answer_trim_both(alloc, row, out),
+        "trim_unedited" => answer_trim_unedited(alloc, row, out),
+        "summary" => answer_demo(alloc, row, &Asked::Summary, out),
+        "printed_plan" => answer_demo(alloc, row, &Asked::PrintedPlan, out),
+        "imported_memory" => answer_empty(alloc, row, &Asked::ImportedMemory, out),
+        "can_use_slot_1" => answer_empty(alloc, row, &Asked::CanUseSlot1, out),
+        _ => Err(bad_row(out, "no example", row.argument(0))),
     }
 }
 
@@ -166,8 +105,8 @@ fn answer_original_name(alloc: Global, row: &Row<'_>, out: &mut Lines) -> Result
 
 /// `example interface_id NAMESPACE NAME INTERFACE`.
 fn answer_interface_id(alloc: Global, row: &Row<'_>, out: &mut Lines) -> Result<(), Stop> {
-    let (namespace, name) = (argument(row, 1), argument(row, 2));
-    match resolve::interface_id(alloc, row_seed(), namespace, name, argument(row, 3)) {
+    let (namespace, name) = (row.argument(1), row.argument(2));
+    match resolve::interface_id(alloc, row_seed(), namespace, name, row.argument(3)) {
         Ok(id) => put_name(out, &id),
         Err(fault) => put_fault(out, fault),
     }
@@ -192,7 +131,7 @@ fn empty_world(alloc: Global) -> Result<Resolve, ResolveFault> {
 
 /// `example dropped_resource NAME`.
 fn answer_dropped_resource(row: &Row<'_>, out: &mut Lines) -> Result<(), Stop> {
-    match names::dropped_resource(argument(row, 1)) {
+    match names::dropped_resource(row.argument(1)) {
         Some(resource) => writeln!(out, "{resource:?}"),
         None => out.push_str("none\n"),
     }
@@ -201,7 +140,7 @@ fn answer_dropped_resource(row: &Row<'_>, out: &mut Lines) -> Result<(), Stop> {
 
 /// `example encoder_for WORLD`: the encoder's module, and its world.
 fn answer_encoder_for(alloc: Global, row: &Row<'_>, out: &mut Lines) -> Result<(), Stop> {
-    let world = WorldId(number(row, 1, out)?);
+    let world = WorldId(number_of(out, "no number", row.argument(1))?);
     let module = bytes_of(alloc, &row.input, out)?;
     match empty_world(alloc) {
         Ok(resolve) => put_encoder_for(alloc, module, resolve, world, out),
@@ -218,7 +157,7 @@ fn put_encoder_for(
     out: &mut Lines,
 ) {
     match encoder::encoder_for(alloc, row_seed(), module, resolve, world) {
-        Ok(encoder) => put_last_for(alloc, &Asked::Fields, encoder, out),
+        Ok(encoder) => put_last_about(alloc, &Asked::Fields, encoder, out),
         Err(fault) => put_fault(out, fault),
     }
 }
@@ -234,8 +173,8 @@ enum Asked {
     PrintedPlan,
 }
 
-impl PutFor<Asked> for ComponentEncoder {
-    fn put_for(&self, alloc: Global, asked: &Asked, out: &mut Lines) {
+impl PutAbout<Asked> for ComponentEncoder {
+    fn put_about(&self, alloc: Global, asked: &Asked, out: &mut Lines) {
         match asked {
             Asked::Fields => put_fields(self, out),
             Asked::ImportedMemory => put_imported_memory(alloc, self, out),
@@ -318,21 +257,12 @@ fn answer_trim_unedited(alloc: Global, row: &Row<'_>, out: &mut Lines) -> Result
     Ok(())
 }
 
-/// `example imported_memory`: of the module, as the main module of a world that imports and exports nothing.
-fn answer_imported_memory(alloc: Global, row: &Row<'_>, out: &mut Lines) -> Result<(), Stop> {
+/// `example imported_memory`, `example can_use_slot_1`: of the module, as the main module of a world that imports and exports
+/// nothing.
+fn answer_empty(alloc: Global, row: &Row<'_>, asked: &Asked, out: &mut Lines) -> Result<(), Stop> {
     let module = bytes_of(alloc, &row.input, out)?;
     match empty_encoder(alloc, module) {
-        Ok(encoder) => put_last_for(alloc, &Asked::ImportedMemory, encoder, out),
-        Err(fault) => put_fault(out, fault),
-    }
-    Ok(())
-}
-
-/// `example can_use_slot_1`: of the same.
-fn answer_can_use_slot_1(alloc: Global, row: &Row<'_>, out: &mut Lines) -> Result<(), Stop> {
-    let module = bytes_of(alloc, &row.input, out)?;
-    match empty_encoder(alloc, module) {
-        Ok(encoder) => put_last_for(alloc, &Asked::CanUseSlot1, encoder, out),
+        Ok(encoder) => put_last_about(alloc, asked, encoder, out),
         Err(fault) => put_fault(out, fault),
     }
     Ok(())
@@ -360,23 +290,13 @@ fn put_can_use_slot_1(alloc: Global, encoder: &ComponentEncoder, out: &mut Lines
     }
 }
 
-/// `example summary`: of the component of a main module and an adapter. A line `adapter` is between their bytes.
-fn answer_summary(alloc: Global, row: &Row<'_>, out: &mut Lines) -> Result<(), Stop> {
+/// `example summary`, `example printed_plan`: of the component of a main module and an adapter. A line `adapter` is between
+/// their bytes.
+fn answer_demo(alloc: Global, row: &Row<'_>, asked: &Asked, out: &mut Lines) -> Result<(), Stop> {
     let main = bytes_beside(alloc, row, "adapter", false, out)?;
     let adapter = bytes_beside(alloc, row, "adapter", true, out)?;
     match demo::demo_encoder(alloc, row_seed(), &main, &adapter) {
-        Ok(encoder) => put_last_for(alloc, &Asked::Summary, encoder, out),
-        Err(fault) => put_fault(out, fault),
-    }
-    Ok(())
-}
-
-/// `example printed_plan`: of the component of a main module and an adapter, as for `summary`.
-fn answer_printed_plan(alloc: Global, row: &Row<'_>, out: &mut Lines) -> Result<(), Stop> {
-    let main = bytes_beside(alloc, row, "adapter", false, out)?;
-    let adapter = bytes_beside(alloc, row, "adapter", true, out)?;
-    match demo::demo_encoder(alloc, row_seed(), &main, &adapter) {
-        Ok(encoder) => put_last_for(alloc, &Asked::PrintedPlan, encoder, out),
+        Ok(encoder) => put_last_about(alloc, asked, encoder, out),
         Err(fault) => put_fault(out, fault),
     }
     Ok(())

@@ -1,22 +1,25 @@
 //! Calls of `wc_json`: texts read as resolved worlds.
 
-use crate::put_last::{PutFor, put_last_for};
 use std::alloc::Global;
 use wc_fixtures::shown_names::{put_id, put_name};
 use wc_fixtures::shown_worlds::{put_interface, put_package, put_type_def, put_world};
 use wc_json::{Document, document_from_json};
 use wc_lines::input::{Stop, end_answer};
 use wc_lines::lines::Lines;
+use wc_lines::put_last::{PutAbout, put_last_about};
 use wc_lines::rows::Row;
 use wc_lines::seeds::row_seed;
 use wc_lines::values::put_fault;
 use wc_maps::Map;
 use wc_resolve::{PackageId, Parts, WorldId};
 
-/// Appends the answer of the call of `wc_json`.
-pub fn answer(alloc: Global, row: &Row<'_>, out: &mut Lines) {
-    let answered = answer_document(alloc, &row.input, out);
-    end_answer(answered, out);
+/// Appends the answer of the call of `wc_json`. False where a row has another call.
+pub(crate) fn answer(alloc: Global, row: &Row<'_>, out: &mut Lines) -> bool {
+    if row.call != "document" {
+        return false;
+    }
+    end_answer(answer_document(alloc, &row.input, out), out);
+    true
 }
 
 /// `document`: the text that the lines of input are, with a line feed after each; its types, interfaces, packages and
@@ -28,7 +31,7 @@ fn answer_document(alloc: Global, input: &[&str], out: &mut Lines) -> Result<(),
         text.push('\n')?;
     }
     match document_from_json(alloc, row_seed(), &text) {
-        Ok(document) => put_last_for(alloc, &All, document, out),
+        Ok(document) => put_last_about(alloc, &All, document, out),
         Err(fault) => put_fault(out, fault),
     }
     Ok(())
@@ -38,9 +41,9 @@ fn answer_document(alloc: Global, input: &[&str], out: &mut Lines) -> Result<(),
 #[derive(Clone, Copy)]
 struct All;
 
-impl PutFor<All> for Document {
+impl PutAbout<All> for Document {
     /// Lines for the parts, the package of each world, and the worlds of each package.
-    fn put_for(&self, _alloc: Global, _asked: &All, out: &mut Lines) {
+    fn put_about(&self, _alloc: Global, _about: &All, out: &mut Lines) {
         put_parts(out, &self.parts);
         put_world_packages(out, &self.world_packages);
         put_package_worlds(out, &self.package_worlds);

@@ -10,26 +10,7 @@ use std::alloc::Global;
 use wc_encoder::{ComponentEncoder, EncoderFault};
 use wc_lines::lines::Lines;
 use wc_lines::rows::Row;
-use wc_lines::values::put_fault_text;
-
-/// The calls on the encoder that the input describes, and from `Faults` on those that need none.
-#[derive(Clone, Copy)]
-pub enum Call {
-    Build,
-    Encoder,
-    Adapters,
-    World,
-    Faults,
-    ItemClone,
-    WhichClone,
-}
-
-/// The text of each fault, in the order of `EncoderFault`.
-fn put_faults(alloc: Global, out: &mut Lines) {
-    for fault in EncoderFault::ALL {
-        put_fault_text(alloc, &fault, out);
-    }
-}
+use wc_lines::values::put_fault_texts;
 
 /// The copy of an item, and whether it is of what the item is of.
 fn item_clone<'a>(words: &mut Words, out: &mut Lines) -> Result<(), Stop<'a>> {
@@ -67,65 +48,53 @@ fn put_encoded_world<'a>(encoder: &ComponentEncoder, out: &mut Lines) -> Result<
 
 /// Appends the part of an encoder that the call names, or `ok`.
 fn put_of_encoder<'a>(
-    call: Call,
+    call: &str,
     encoder: &ComponentEncoder,
     out: &mut Lines,
 ) -> Result<(), Stop<'a>> {
     encoder.well_formedness();
     match call {
-        Call::Encoder => put_encoder(out, encoder),
-        Call::Adapters => put_adapters(out, encoder),
-        Call::World => return put_encoded_world(encoder, out),
+        "encoder" => put_encoder(out, encoder),
+        "encoder_adapters" => put_adapters(out, encoder),
+        "encoder_world" => return put_encoded_world(encoder, out),
         _ => out.push_str("ok\n"),
     }
     Ok(())
 }
 
-/// The answer of a call on the encoder that the input describes.
-fn answer_on_encoder<'a>(
-    alloc: Global,
-    call: Call,
-    row: &'a Row<'a>,
-    out: &mut Lines,
-) -> Result<(), Stop<'a>> {
-    match described_encoder(alloc, row) {
-        Ok(encoder) => put_of_encoder(call, &encoder, out),
-        Err(stop) => Err(stop),
+/// The answer of a call on items, or on the encoder that the input describes.
+fn encoder_call<'a>(row: &'a Row<'a>, words: &mut Words, out: &mut Lines) -> Result<(), Stop<'a>> {
+    match row.call {
+        "item_clone" => item_clone(words, out),
+        "which_clone" => which_clone(words, out),
+        _ => match described_encoder(words.alloc, row) {
+            Ok(encoder) => put_of_encoder(row.call, &encoder, out),
+            Err(stop) => Err(stop),
+        },
     }
 }
 
-fn answer_on_words<'a>(
-    call: Call,
-    row: &'a Row<'a>,
-    words: &mut Words,
-    out: &mut Lines,
-) -> Result<(), Stop<'a>> {
-    match call {
-        Call::Faults => {
-            put_faults(words.alloc, out);
-            Ok(())
-        }
-        Call::ItemClone => item_clone(words, out),
-        Call::WhichClone => which_clone(words, out),
-        _ => answer_on_encoder(words.alloc, call, row, out),
-    }
-}
-
-fn answered<'a>(
-    alloc: Global,
-    call: Call,
-    row: &'a Row<'a>,
-    out: &mut Lines,
-) -> Result<(), Stop<'a>> {
+fn answered<'a>(alloc: Global, row: &'a Row<'a>, out: &mut Lines) -> Result<(), Stop<'a>> {
     let mut words = argument_words(alloc, row)?;
-    answer_on_words(call, row, &mut words, out)?;
+    encoder_call(row, &mut words, out)?;
     words.end()?;
     Ok(())
 }
 
-/// Builds the encoder that a row describes, and answers a call on it; or says why there is none.
-pub fn answer(alloc: Global, call: Call, row: &Row<'_>, out: &mut Lines) {
+/// Builds the encoder that a row describes, and answers its call on it; or says why there is none. False where a row has
+/// another call.
+pub(crate) fn answer(alloc: Global, row: &Row<'_>, out: &mut Lines) -> bool {
+    match row.call {
+        "encoder_faults" => {
+            put_fault_texts(alloc, &EncoderFault::ALL, out);
+            return true;
+        }
+        "encoder_build" | "encoder" | "encoder_adapters" | "encoder_world" => {}
+        "item_clone" | "which_clone" => {}
+        _ => return false,
+    }
     let mut lines = Lines::new(alloc);
-    let answered = answered(alloc, call, row, &mut lines);
+    let answered = answered(alloc, row, &mut lines);
     put_answered(out, answered, &lines);
+    true
 }

@@ -11,23 +11,9 @@ use std::alloc::Global;
 use std::hash::{DefaultHasher, Hash, Hasher};
 use wc_lines::lines::Lines;
 use wc_lines::rows::Row;
-use wc_lines::values::put_fault_text;
+use wc_lines::values::put_fault_texts;
 use wc_resolve::laws::keys_hash_alike;
-use wc_resolve::{Function, PackageName, ResolveFault, WorldKey};
-
-/// These calls, and that for the texts of faults.
-#[derive(Clone, Copy)]
-pub enum Call {
-    KeyClone,
-    KeysEqual,
-    VersionCompatTrack,
-    IsVersionCompatTrack,
-    PackageNameClone,
-    LegacyCoreExportName,
-    HandleResource,
-    FunctionClone,
-    Faults,
-}
+use wc_resolve::{PackageName, ResolveFault, WorldKey};
 
 fn hash_of(key: &WorldKey) -> u64 {
     let mut state = DefaultHasher::new();
@@ -95,14 +81,6 @@ fn package_name_clone<'a>(words: &mut Words, out: &mut Lines) -> Result<(), Stop
 /// `legacy_core_export_name FUNC [of INTERFACE]`, the interface by its name.
 fn legacy_core_export_name<'a>(words: &mut Words, out: &mut Lines) -> Result<(), Stop<'a>> {
     let function = complete_function(words)?;
-    put_core_export_name(words, &function, out)
-}
-
-fn put_core_export_name<'a>(
-    words: &mut Words,
-    function: &Function,
-    out: &mut Lines,
-) -> Result<(), Stop<'a>> {
     let name = if words.take("of") {
         let interface = words.name()?;
         function.legacy_core_export_name(words.alloc, Some(interface.as_str()))?
@@ -127,45 +105,41 @@ fn function_clone<'a>(words: &mut Words, out: &mut Lines) -> Result<(), Stop<'a>
     Ok(())
 }
 
-/// The text of each fault, in the order of `ResolveFault`.
-fn put_faults(alloc: Global, out: &mut Lines) {
-    for fault in ResolveFault::ALL {
-        put_fault_text(alloc, &fault, out);
-    }
-}
-
-fn answer_on_words<'a>(call: Call, words: &mut Words, out: &mut Lines) -> Result<(), Stop<'a>> {
+/// Puts the answer of the call of this name, which is one of these.
+fn key_call<'a>(call: &str, words: &mut Words, out: &mut Lines) -> Result<(), Stop<'a>> {
     match call {
-        Call::KeyClone => key_clone(words, out),
-        Call::KeysEqual => keys_equal(words, out),
-        Call::VersionCompatTrack => version_compat_track(words, out),
-        Call::IsVersionCompatTrack => is_version_compat_track(words, out),
-        Call::PackageNameClone => package_name_clone(words, out),
-        Call::LegacyCoreExportName => legacy_core_export_name(words, out),
-        Call::HandleResource => handle_resource(words, out),
-        Call::FunctionClone => function_clone(words, out),
-        Call::Faults => {
-            put_faults(words.alloc, out);
-            Ok(())
-        }
+        "key_clone" => key_clone(words, out),
+        "keys_equal" => keys_equal(words, out),
+        "version_compat_track" => version_compat_track(words, out),
+        "is_version_compat_track" => is_version_compat_track(words, out),
+        "package_name_clone" => package_name_clone(words, out),
+        "legacy_core_export_name" => legacy_core_export_name(words, out),
+        "handle_resource" => handle_resource(words, out),
+        _ => function_clone(words, out),
     }
 }
 
-fn answered<'a>(
-    alloc: Global,
-    call: Call,
-    row: &'a Row<'a>,
-    out: &mut Lines,
-) -> Result<(), Stop<'a>> {
+fn answered<'a>(alloc: Global, row: &'a Row<'a>, out: &mut Lines) -> Result<(), Stop<'a>> {
     let mut words = argument_words(alloc, row)?;
-    answer_on_words(call, &mut words, out)?;
+    key_call(row.call, &mut words, out)?;
     words.end()?;
     Ok(())
 }
 
-/// Appends the answer of such a call.
-pub fn answer(alloc: Global, call: Call, row: &Row<'_>, out: &mut Lines) {
+/// Appends the answer of such a call. False where a row has another call.
+pub(crate) fn answer(alloc: Global, row: &Row<'_>, out: &mut Lines) -> bool {
+    match row.call {
+        "resolve_faults" => {
+            put_fault_texts(alloc, &ResolveFault::ALL, out);
+            return true;
+        }
+        "key_clone" | "keys_equal" | "version_compat_track" | "is_version_compat_track" => {}
+        "package_name_clone" | "legacy_core_export_name" => {}
+        "handle_resource" | "function_clone" => {}
+        _ => return false,
+    }
     let mut lines = Lines::new(alloc);
-    let answered = answered(alloc, call, row, &mut lines);
+    let answered = answered(alloc, row, &mut lines);
     put_answered(out, answered, &lines);
+    true
 }

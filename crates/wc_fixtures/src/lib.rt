@@ -2,16 +2,16 @@
 #![tactic(auto)]
 
 pub mod bad;
-pub mod encoder_calls;
+mod encoder_calls;
 pub mod encoder_fields;
 pub mod encoder_fixture;
 pub mod fixture;
 pub mod functions;
-pub mod key_calls;
+mod key_calls;
 pub mod kinds;
-pub mod live_calls;
+mod live_calls;
 pub mod members;
-pub mod name_calls;
+mod name_calls;
 pub mod resolve_calls;
 pub mod shown_kinds;
 pub mod shown_names;
@@ -20,3 +20,14 @@ pub mod signature_calls;
 pub mod stop;
 pub mod types;
 pub mod words;
+
+use std::alloc::Global;
+use wc_lines::lines::Lines;
+use wc_lines::rows::Row;
+
+/// Appends the answer of a row. False where its call is none of these.
+pub fn answer(alloc: Global, row: &Row<'_>, out: &mut Lines) -> bool {
+    resolve_calls::answer(alloc, row, out)
+        || key_calls::answer(alloc, row, out)
+        || encoder_calls::answer(alloc, row, out)
+}

@@ -2,8 +2,8 @@
 
 use crate::functions::complete_function;
 use crate::members::world_entry;
+use crate::name_calls::put_type_ids;
 use crate::resolve_calls::put_answer;
-use crate::shown_names::put_id;
 use crate::stop::Stop;
 use crate::types::{type_id, wit_type};
 use crate::words::Words;
@@ -106,22 +106,6 @@ fn add_world_item<'a>(
     Ok(())
 }
 
-/// The types in their order, on a line.
-fn put_ids(live: &LiveTypes, out: &mut Lines) {
-    out.push_str("ids");
-    for id in live.iter() {
-        out.push(' ');
-        put_id(out, 't', id.0);
-    }
-    out.push('\n');
-}
-
-/// How many types there are.
-fn put_count(live: &LiveTypes, out: &mut Lines) {
-    let count = live.iter().count();
-    writeln!(out, "{count}");
-}
-
 /// A line of the script, after `do`, about one list.
 fn step<'a>(
     resolve: &Resolve,
@@ -142,9 +126,10 @@ fn step<'a>(
     } else if words.take("contains") {
         put_answer(out, live.contains(type_id(words)?));
     } else if words.take("ids") {
-        put_ids(live, out);
+        put_type_ids(out, &ids_of(words.alloc, live)?);
     } else if words.take("count") {
-        put_count(live, out);
+        let count = live.iter().count();
+        writeln!(out, "{count}");
     } else {
         return Err(Stop::Missing("no line of a script"));
     }

@@ -6,24 +6,9 @@ use crate::resolve_calls::{put_answer, put_found};
 use crate::shown_names::{put_id, put_name, put_optional_name, put_package_name};
 use crate::stop::Stop;
 use crate::words::Words;
-use std::alloc::{AllocError, Global};
+use std::alloc::AllocError;
 use wc_lines::lines::Lines;
-use wc_resolve::{Function, InterfaceId, Resolve, TypeId, WorldItem, WorldKey};
-
-/// These calls.
-#[derive(Clone, Copy)]
-pub enum Call {
-    IdOf,
-    CanonicalizedIdOf,
-    NameWorldKey,
-    ImplementsInterface,
-    ExternalIdValue,
-    InterfaceDirectDeps,
-    FindFuturesAndStreams,
-    NthFutureOrStream,
-    IsCanonicalId,
-    QualifiedName,
-}
+use wc_resolve::{InterfaceId, Resolve, TypeId, WorldItem, WorldKey};
 
 /// A text, or `none`, on a line.
 fn put_text(out: &mut Lines, text: &Option<String>) {
@@ -136,7 +121,8 @@ fn interface_direct_deps<'a>(
     Ok(())
 }
 
-fn put_type_ids(out: &mut Lines, ids: &[TypeId]) {
+/// The ids of types, on a line.
+pub(crate) fn put_type_ids(out: &mut Lines, ids: &[TypeId]) {
     out.push_str("ids");
     for id in ids {
         out.push(' ');
@@ -151,19 +137,13 @@ fn find_futures_and_streams<'a>(
     out: &mut Lines,
 ) -> Result<(), Stop<'a>> {
     let function = complete_function(words)?;
-    put_futures(words.alloc, resolve, &function, out)
-}
-
-fn put_futures<'a>(
-    alloc: Global,
-    resolve: &Resolve,
-    function: &Function,
-    out: &mut Lines,
-) -> Result<(), Stop<'a>> {
-    if !resolve.has_function(function) {
+    if !resolve.has_function(&function) {
         return Err(Stop::Missing("a function that is not usable"));
     }
-    put_type_ids(out, &function.find_futures_and_streams(alloc, resolve)?);
+    put_type_ids(
+        out,
+        &function.find_futures_and_streams(words.alloc, resolve)?,
+    );
     Ok(())
 }
 
@@ -175,16 +155,7 @@ fn nth_future_or_stream<'a>(
 ) -> Result<(), Stop<'a>> {
     let n = words.number()?;
     let function = complete_function(words)?;
-    put_nth(resolve, n, &function, out)
-}
-
-fn put_nth<'a>(
-    resolve: &Resolve,
-    n: u32,
-    function: &Function,
-    out: &mut Lines,
-) -> Result<(), Stop<'a>> {
-    if !resolve.has_function(function) {
+    if !resolve.has_function(&function) {
         return Err(Stop::Missing("a function that is not usable"));
     }
     let found = function.nth_future_or_stream(resolve, n);
@@ -229,23 +200,23 @@ fn qualified_name<'a>(
     Ok(())
 }
 
-/// The answer of such a call.
-pub fn name_call<'a>(
-    call: Call,
+/// The answer of the call of this name, which is one of these.
+pub(crate) fn name_call<'a>(
+    call: &str,
     resolve: &Resolve,
     words: &mut Words,
     out: &mut Lines,
 ) -> Result<(), Stop<'a>> {
     match call {
-        Call::IdOf => id_of(resolve, words, out),
-        Call::CanonicalizedIdOf => canonicalized_id_of(resolve, words, out),
-        Call::NameWorldKey => name_world_key(resolve, words, out),
-        Call::ImplementsInterface => implements_interface(resolve, words, out),
-        Call::ExternalIdValue => external_id_value(resolve, words, out),
-        Call::InterfaceDirectDeps => interface_direct_deps(resolve, words, out),
-        Call::FindFuturesAndStreams => find_futures_and_streams(resolve, words, out),
-        Call::NthFutureOrStream => nth_future_or_stream(resolve, words, out),
-        Call::IsCanonicalId => is_canonical_id(resolve, words, out),
-        Call::QualifiedName => qualified_name(resolve, words, out),
+        "id_of" => id_of(resolve, words, out),
+        "canonicalized_id_of" => canonicalized_id_of(resolve, words, out),
+        "name_world_key" => name_world_key(resolve, words, out),
+        "implements_interface" => implements_interface(resolve, words, out),
+        "external_id_value" => external_id_value(resolve, words, out),
+        "interface_direct_deps" => interface_direct_deps(resolve, words, out),
+        "find_futures_and_streams" => find_futures_and_streams(resolve, words, out),
+        "nth_future_or_stream" => nth_future_or_stream(resolve, words, out),
+        "is_canonical_id" => is_canonical_id(resolve, words, out),
+        _ => qualified_name(resolve, words, out),
     }
 }

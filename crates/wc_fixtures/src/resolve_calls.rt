@@ -4,7 +4,7 @@ use crate::fixture::fixture_of;
 use crate::functions::complete_function;
 use crate::live_calls::live_call;
 use crate::members::package_name;
-use crate::name_calls::{self, name_call};
+use crate::name_calls::name_call;
 use crate::shown_names::put_id;
 use crate::shown_worlds::{put_interface, put_package, put_type_def, put_world};
 use crate::signature_calls::wasm_signature;
@@ -15,21 +15,6 @@ use std::alloc::Global;
 use wc_lines::lines::Lines;
 use wc_lines::rows::Row;
 use wc_resolve::{InterfaceId, PackageId, Resolve, WorldId};
-
-/// The calls on the `Resolve` that the input describes.
-#[derive(Clone, Copy)]
-pub enum Call {
-    Build,
-    Has,
-    TypeDef,
-    Interface,
-    Package,
-    World,
-    PackageNamed,
-    Name(name_calls::Call),
-    Signature,
-    LiveTypes,
-}
 
 /// The words after a call, as a line.
 pub fn argument_words<'a>(alloc: Global, row: &Row<'_>) -> Result<Words, Stop<'a>> {
@@ -70,40 +55,31 @@ fn build<'a>(resolve: &Resolve, out: &mut Lines) -> Result<(), Stop<'a>> {
     Ok(())
 }
 
-fn type_def<'a>(resolve: &Resolve, words: &mut Words, out: &mut Lines) -> Result<(), Stop<'a>> {
-    let id = type_id(words)?;
-    if !resolve.has_type(id) {
-        return Err(Stop::Missing("no such type"));
+/// The type, the interface, the package or the world of the next word, which is an id.
+fn put_part<'a>(resolve: &Resolve, words: &mut Words, out: &mut Lines) -> Result<(), Stop<'a>> {
+    if let Some(index) = words.take_id('i') {
+        if resolve.has_interface(InterfaceId(index)) {
+            put_interface(out, index, resolve.interface(InterfaceId(index)));
+            return Ok(());
+        }
+    } else if let Some(index) = words.take_id('p') {
+        if resolve.has_package(PackageId(index)) {
+            put_package(out, index, resolve.package(PackageId(index)));
+            return Ok(());
+        }
+    } else if let Some(index) = words.take_id('w') {
+        if resolve.has_world(WorldId(index)) {
+            put_world(out, index, resolve.world(WorldId(index)));
+            return Ok(());
+        }
+    } else {
+        let id = type_id(words)?;
+        if resolve.has_type(id) {
+            put_type_def(out, id.0, resolve.type_def(id));
+            return Ok(());
+        }
     }
-    put_type_def(out, id.0, resolve.type_def(id));
-    Ok(())
-}
-
-fn interface<'a>(resolve: &Resolve, words: &mut Words, out: &mut Lines) -> Result<(), Stop<'a>> {
-    let id = InterfaceId(words.id('i', "the id of an interface is missing")?);
-    if !resolve.has_interface(id) {
-        return Err(Stop::Missing("no such interface"));
-    }
-    put_interface(out, id.0, resolve.interface(id));
-    Ok(())
-}
-
-fn package<'a>(resolve: &Resolve, words: &mut Words, out: &mut Lines) -> Result<(), Stop<'a>> {
-    let id = PackageId(words.id('p', "the id of a package is missing")?);
-    if !resolve.has_package(id) {
-        return Err(Stop::Missing("no such package"));
-    }
-    put_package(out, id.0, resolve.package(id));
-    Ok(())
-}
-
-fn world<'a>(resolve: &Resolve, words: &mut Words, out: &mut Lines) -> Result<(), Stop<'a>> {
-    let id = WorldId(words.id('w', "the id of a world is missing")?);
-    if !resolve.has_world(id) {
-        return Err(Stop::Missing("no such world"));
-    }
-    put_world(out, id.0, resolve.world(id));
-    Ok(())
+    Err(Stop::Missing("no such part"))
 }
 
 /// Whether there is something at an index, or a function is usable.
@@ -136,54 +112,46 @@ fn package_named<'a>(
 
 /// Puts the answer to a call on a `Resolve`, but for live types.
 fn resolve_call<'a>(
-    call: Call,
+    call: &str,
     resolve: &Resolve,
     words: &mut Words,
     out: &mut Lines,
 ) -> Result<(), Stop<'a>> {
     match call {
-        Call::Build => build(resolve, out),
-        Call::Has => has(resolve, words, out),
-        Call::TypeDef => type_def(resolve, words, out),
-        Call::Interface => interface(resolve, words, out),
-        Call::Package => package(resolve, words, out),
-        Call::World => world(resolve, words, out),
-        Call::PackageNamed => package_named(resolve, words, out),
-        Call::Name(call) => name_call(call, resolve, words, out),
-        _ => wasm_signature(resolve, words, out),
+        "resolve_build" => build(resolve, out),
+        "has" => has(resolve, words, out),
+        "type_def" | "interface" | "package" | "world" => put_part(resolve, words, out),
+        "package_named" => package_named(resolve, words, out),
+        "wasm_signature" => wasm_signature(resolve, words, out),
+        _ => name_call(call, resolve, words, out),
     }
 }
 
-/// Puts the answer to a call on a `Resolve`; `input` has the script of live types.
-fn answer_by<'a>(
-    call: Call,
-    resolve: &Resolve,
-    input: &[&'a str],
-    words: &mut Words,
-    out: &mut Lines,
-) -> Result<(), Stop<'a>> {
-    if matches!(call, Call::LiveTypes) {
-        return live_call(words.alloc, resolve, input, out);
-    }
-    resolve_call(call, resolve, words, out)
-}
-
-fn answered<'a>(
-    alloc: Global,
-    call: Call,
-    row: &'a Row<'a>,
-    out: &mut Lines,
-) -> Result<(), Stop<'a>> {
+fn answered<'a>(alloc: Global, row: &'a Row<'a>, out: &mut Lines) -> Result<(), Stop<'a>> {
     let mut words = argument_words(alloc, row)?;
     let resolve = resolve_of(alloc, &row.input)?;
-    answer_by(call, &resolve, &row.input, &mut words, out)?;
+    if row.call == "live_types" {
+        live_call(alloc, &resolve, &row.input, out)?;
+    } else {
+        resolve_call(row.call, &resolve, &mut words, out)?;
+    }
     words.end()?;
     Ok(())
 }
 
-/// Builds the `Resolve` that a row describes, and answers a call on it; or says why there is none.
-pub fn answer(alloc: Global, call: Call, row: &Row<'_>, out: &mut Lines) {
+/// Builds the `Resolve` that a row describes, and answers its call on it; or says why there is none. False where a row has
+/// another call.
+pub(crate) fn answer(alloc: Global, row: &Row<'_>, out: &mut Lines) -> bool {
+    match row.call {
+        "resolve_build" | "has" | "type_def" | "interface" | "package" | "world" => {}
+        "package_named" | "wasm_signature" | "live_types" => {}
+        "id_of" | "canonicalized_id_of" | "name_world_key" | "qualified_name" => {}
+        "implements_interface" | "external_id_value" | "interface_direct_deps" => {}
+        "find_futures_and_streams" | "nth_future_or_stream" | "is_canonical_id" => {}
+        _ => return false,
+    }
     let mut lines = Lines::new(alloc);
-    let answered = answered(alloc, call, row, &mut lines);
+    let answered = answered(alloc, row, &mut lines);
     put_answered(out, answered, &lines);
+    true
 }

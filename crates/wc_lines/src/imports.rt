@@ -15,25 +15,11 @@ pub fn imports_of<'a>(
     let mut imports = Vec::new(alloc);
     for line in lines {
         match parse_import(line) {
-            Some(import) => push_import(&mut imports, import, out)?,
+            Some(import) => imports.push(import)?,
             None => return Err(bad_row(out, "no import", line)),
         }
     }
     Ok(imports)
-}
-
-fn push_import<'a>(
-    imports: &mut Vec<Import<'a>>,
-    import: Import<'a>,
-    out: &mut Lines,
-) -> Result<(), Stop> {
-    match imports.push(import) {
-        Ok(()) => Ok(()),
-        Err(_) => {
-            out.lack_memory();
-            Err(Stop::Memory)
-        }
-    }
 }
 
 /// Whether a line describes an import.

@@ -56,90 +56,68 @@ pub fn bad_row(out: &mut Lines, what: &str, text: &str) -> Stop {
     Stop::BadRow
 }
 
-/// Why an answer that says no more ends.
-fn stop_of(out: &Lines) -> Stop {
-    if out.is_short() {
-        Stop::Memory
-    } else {
-        Stop::BadRow
+/// The number that a word is. Where it is none, the answer says so, by `what` and the word.
+pub fn number_of(out: &mut Lines, what: &str, word: &str) -> Result<u32, Stop> {
+    match word.parse::<u32>() {
+        Ok(number) => Ok(number),
+        Err(_) => Err(bad_row(out, what, word)),
     }
 }
 
-/// The bytes that lines of hex say. Where there are none, the answer says why, or memory ran out for it too.
+/// The bytes that lines of hex say. Where there are none, the answer says why, or memory ran out.
 pub fn bytes_of(alloc: Global, lines: &[&str], out: &mut Lines) -> Result<Vec<u8>, Stop> {
     let mut bytes = Vec::new(alloc);
     for line in lines {
-        if !put_line(alloc, &mut bytes, line, out) {
-            return Err(stop_of(out));
-        }
+        put_line(alloc, &mut bytes, line, out)?;
     }
     Ok(bytes)
 }
 
-/// Appends the bytes of a line. False where it has none.
-fn put_line(alloc: Global, bytes: &mut Vec<u8>, line: &str, out: &mut Lines) -> bool {
-    match line.strip_prefix("repeat ") {
-        Some(rest) => put_copies(alloc, bytes, rest, out),
-        None => put_hex(alloc, bytes, line, out),
-    }
-}
-
-/// Appends so many copies of bytes, as `3 00` says.
-fn put_copies(alloc: Global, bytes: &mut Vec<u8>, line: &str, out: &mut Lines) -> bool {
-    let (count, hex) = line.split_once(' ').unwrap_or((line, ""));
-    let Ok(number) = count.parse::<u32>() else {
-        let _ = bad_row(out, "no count", count);
-        return false;
+/// Appends the bytes of a line, or so many copies of bytes, as `repeat 3 00` says.
+fn put_line(alloc: Global, bytes: &mut Vec<u8>, line: &str, out: &mut Lines) -> Result<(), Stop> {
+    let Some(rest) = line.strip_prefix("repeat ") else {
+        return put_hex(alloc, bytes, line, out);
     };
+    let (count, hex) = rest.split_once(' ').unwrap_or((rest, ""));
+    let count = number_of(out, "no count", count)?;
     let mut copied = Vec::new(alloc);
-    put_hex(alloc, &mut copied, hex, out) && put_times(bytes, &copied, number, out)
-}
-
-fn put_times(bytes: &mut Vec<u8>, copied: &[u8], count: u32, out: &mut Lines) -> bool {
+    put_hex(alloc, &mut copied, hex, out)?;
     for _ in 0..count {
-        if !out.keep(bytes.extend_from_slice(copied)) {
-            return false;
-        }
+        bytes.extend_from_slice(&copied)?;
     }
-    true
+    Ok(())
 }
 
-fn put_hex(alloc: Global, bytes: &mut Vec<u8>, line: &str, out: &mut Lines) -> bool {
+fn put_hex(alloc: Global, bytes: &mut Vec<u8>, line: &str, out: &mut Lines) -> Result<(), Stop> {
     let mut is_quoted = false;
     for piece in line.split('"') {
         if is_quoted {
-            if !out.keep(bytes.extend_from_slice(piece.as_bytes())) {
-                return false;
-            }
+            bytes.extend_from_slice(piece.as_bytes())?;
         } else if let Some((front, _)) = piece.split_once('#') {
             return put_digits(alloc, bytes, front, out);
-        } else if !put_digits(alloc, bytes, piece, out) {
-            return false;
+        } else {
+            put_digits(alloc, bytes, piece, out)?;
         }
         is_quoted = !is_quoted;
     }
-    if !is_quoted {
-        let _ = bad_row(out, "open quotes", line);
+    if is_quoted {
+        return Ok(());
     }
-    is_quoted
+    Err(bad_row(out, "open quotes", line))
 }
 
-fn put_digits(alloc: Global, bytes: &mut Vec<u8>, digits: &str, out: &mut Lines) -> bool {
+fn put_digits(
+    alloc: Global,
+    bytes: &mut Vec<u8>,
+    digits: &str,
+    out: &mut Lines,
+) -> Result<(), Stop> {
     for word in digits.split_whitespace() {
-        if !put_word(alloc, bytes, word, out) {
-            return false;
+        match hex::decode(alloc, word) {
+            Ok(decoded) => bytes.extend_from_slice(&decoded)?,
+            Err(FromHexError::OutOfMemory) => return Err(Stop::Memory),
+            Err(_) => return Err(bad_row(out, "no hex", word)),
         }
     }
-    true
-}
-
-fn put_word(alloc: Global, bytes: &mut Vec<u8>, word: &str, out: &mut Lines) -> bool {
-    match hex::decode(alloc, word) {
-        Ok(decoded) => out.keep(bytes.extend_from_slice(&decoded)),
-        Err(FromHexError::OutOfMemory) => out.keep(Err(AllocError)),
-        Err(_) => {
-            let _ = bad_row(out, "no hex", word);
-            false
-        }
-    }
+    Ok(())
 }

@@ -5,6 +5,7 @@ pub mod imports;
 pub mod input;
 pub mod lines;
 pub mod names;
+pub mod put_last;
 pub mod rows;
 pub mod seeds;
 pub mod table;

@@ -55,6 +55,12 @@ impl Lines {
         write!(self, "{number}");
     }
 
+    /// Appends a line: a word and, right after it, a number in decimal.
+    pub fn number_line(&mut self, word: &str, number: u64) {
+        self.number(word, number);
+        self.push('\n');
+    }
+
     /// Appends a word and, right after it, a text as `Debug` shows it.
     pub fn quoted(&mut self, word: &str, text: &str) {
         self.push_str(word);
@@ -118,11 +124,6 @@ impl Lines {
     /// Leaves a part out, for which memory ran out.
     pub fn lack_memory(&mut self) {
         self.is_short = true;
-    }
-
-    /// Whether memory ran out for a part.
-    pub fn is_short(&self) -> bool {
-        self.is_short
     }
 
     /// The whole text; Err where memory ran out.

@@ -9,13 +9,8 @@ use wc_maps::Set;
 pub fn names_from(alloc: Global, row: &Row<'_>, first: usize) -> Result<Set<String>, AllocError> {
     let mut names = Set::with_hasher(alloc, row_seed());
     for name in row.arguments.iter().skip(first) {
-        add_name(alloc, &mut names, name)?;
+        let name = String::from_str(alloc, name)?;
+        names.insert(name)?;
     }
     Ok(names)
-}
-
-fn add_name(alloc: Global, names: &mut Set<String>, name: &str) -> Result<(), AllocError> {
-    let name = String::from_str(alloc, name)?;
-    names.insert(name)?;
-    Ok(())
 }

@@ -39,6 +39,11 @@ impl<'a> Row<'a> {
             answer: Vec::new(alloc),
         }
     }
+
+    /// The argument at an index; the empty text where there are fewer.
+    pub fn argument(&self, index: usize) -> &'a str {
+        self.arguments.get(index).copied().unwrap_or("")
+    }
 }
 
 /// The flaw of a paragraph.

@@ -19,12 +19,7 @@ pub fn put_fault(out: &mut Lines, fault: impl Display + Drop) {
 pub fn put_refused<F: Display, P: Display>(out: &mut Lines, refused: &Refused<F, P>) {
     let fault = &refused.fault;
     writeln!(out, "fault {fault}");
-    put_place(out, &refused.place);
-}
-
-/// Puts what a fault is about, or `none`.
-fn put_place<P: Display>(out: &mut Lines, place: &Option<P>) {
-    match place {
+    match &refused.place {
         Some(place) => writeln!(out, "{place}"),
         None => out.push_str("none\n"),
     }
@@ -37,6 +32,13 @@ pub fn put_fault_text<F: FaultText + Display>(alloc: Global, fault: &F, out: &mu
     match text_of(alloc, fault) {
         Ok(text) => put_both(out, &text, &shown),
         Err(_) => out.lack_memory(),
+    }
+}
+
+/// Puts the texts of faults, each on a line.
+pub fn put_fault_texts<F: FaultText + Display>(alloc: Global, faults: &[F], out: &mut Lines) {
+    for fault in faults {
+        put_fault_text(alloc, fault, out);
     }
 }
 
@@ -88,13 +90,11 @@ pub fn put_val_type(out: &mut Lines, ty: ValType) {
         ValType::ExternRef => out.push_str("externref"),
         ValType::FuncRefNonNull => out.push_str("ref:func"),
         ValType::ExternRefNonNull => out.push_str("ref:extern"),
-        ValType::TypeRef { nullable, index } => put_type_ref(out, nullable, index),
+        ValType::TypeRef { nullable, index } => {
+            let word = if nullable { "ref-null:" } else { "ref:" };
+            out.number(word, index as u64);
+        }
     }
-}
-
-fn put_type_ref(out: &mut Lines, nullable: bool, index: u32) {
-    let word = if nullable { "ref-null:" } else { "ref:" };
-    out.number(word, index as u64);
 }
 
 /// Types, each with a space at the front.
@@ -124,11 +124,6 @@ fn put_bounds(out: &mut Lines, initial: u64, maximum: Option<u64>) {
 pub fn put_table_type(out: &mut Lines, ty: &TableType) {
     out.push_str(" ");
     put_val_type(out, ty.element_type);
-    put_table_limits(out, ty);
-}
-
-/// The limits of a table, as ` 64 min 1 max 2`.
-pub fn put_table_limits(out: &mut Lines, ty: &TableType) {
     if ty.table64 {
         out.push_str(" 64");
     }
@@ -155,11 +150,6 @@ pub fn put_memory_type(out: &mut Lines, ty: &MemoryType) {
 pub fn put_global_type(out: &mut Lines, ty: &GlobalType) {
     out.push_str(" ");
     put_val_type(out, ty.content_type);
-    put_mutable(out, ty);
-}
-
-/// ` mut`, where a global may be written.
-pub fn put_mutable(out: &mut Lines, ty: &GlobalType) {
     if ty.mutable {
         out.push_str(" mut");
     }
@@ -220,7 +210,7 @@ pub fn put_exports(out: &mut Lines, exports: &[Export<'_>]) {
 }
 
 /// The names of an import: the end of an item's line.
-pub fn put_import_names(out: &mut Lines, module: &str, name: &str) {
+fn put_import_names(out: &mut Lines, module: &str, name: &str) {
     out.quoted(" import ", module);
     out.quoted(" ", name);
     out.end();

@@ -1,7 +1,7 @@
 //! The calls on names.
 
-use crate::in_worlds::{InWorld, put_world_line};
-use crate::meanings::{OnName, put_name_line};
+use crate::in_worlds::put_world_line;
+use crate::meanings::put_name_line;
 use crate::scheme_texts::put_scheme;
 use crate::values::put_copies;
 use std::alloc::Global;
@@ -13,30 +13,16 @@ use wc_lines::rows::Row;
 use wc_names::{Legacy, NameIndexes, NameMangling, Standard};
 use wc_resolve::Resolve;
 
-/// The calls on names.
-#[derive(Clone, Copy)]
-pub enum Call {
-    /// On names alone, each of which is a line of input.
-    OnName(OnName),
-    /// On names in a world, with a script.
-    InWorld(InWorld),
-    /// The texts of a scheme.
-    SchemeTexts,
-    /// Copies of what is recorded of futures and streams.
-    PayloadInfos,
-}
-
 /// Answers a call on the name of each line, up to the first bad one.
 fn put_names<'a, N: NameMangling>(
     alloc: Global,
     scheme: &N,
-    call: OnName,
     row: &'a Row<'a>,
     out: &mut Lines,
 ) -> Result<(), Stop<'a>> {
     for line in &row.input {
         let mut words = Words::of(alloc, line, 0)?;
-        match put_name_line(scheme, call, &mut words, out) {
+        match put_name_line(scheme, row.call, &mut words, out) {
             Ok(()) => {}
             Err(bad) => return Err(Stop::at(bad, line)),
         }
@@ -48,14 +34,13 @@ fn put_names<'a, N: NameMangling>(
 fn put_script<'a, N: NameIndexes>(
     alloc: Global,
     scheme: &N,
-    call: InWorld,
     row: &'a Row<'a>,
     out: &mut Lines,
 ) -> Result<(), Stop<'a>> {
     let resolve = resolve_of(alloc, &row.input)?;
     let script = Script {
         alloc,
-        call,
+        call: row.call,
         resolve: &resolve,
     };
     put_world_lines(&script, scheme, &row.input, out)
@@ -65,7 +50,7 @@ fn put_script<'a, N: NameIndexes>(
 #[derive(Clone, Copy)]
 struct Script<'a> {
     alloc: Global,
-    call: InWorld,
+    call: &'a str,
     resolve: &'a Resolve,
 }
 
@@ -87,48 +72,29 @@ fn put_world_lines<'a, N: NameIndexes>(
     Ok(())
 }
 
-/// Answers in a world, on names, or with the texts of the scheme.
+/// Answers on names, with the texts of the scheme, or in a world.
 fn answer_by<'a, N: NameIndexes>(
     alloc: Global,
     scheme: &N,
-    call: Call,
     row: &'a Row<'a>,
     out: &mut Lines,
 ) -> Result<(), Stop<'a>> {
-    match call {
-        Call::InWorld(call) => put_script(alloc, scheme, call, row, out),
-        Call::OnName(call) => put_names(alloc, scheme, call, row, out),
-        _ => {
+    match row.call {
+        "names" | "function_names" | "env_import" => put_names(alloc, scheme, row, out),
+        "scheme_texts" => {
             put_scheme(scheme, out);
             Ok(())
         }
-    }
-}
-
-/// The answer of a call; by the scheme that the arguments name, unless it is that for copies.
-fn answered<'a>(
-    alloc: Global,
-    call: Call,
-    row: &'a Row<'a>,
-    out: &mut Lines,
-) -> Result<(), Stop<'a>> {
-    match call {
-        Call::PayloadInfos => put_copies(alloc, &row.input, out),
-        _ => answer_by_named(alloc, call, row, out),
+        _ => put_script(alloc, scheme, row, out),
     }
 }
 
 /// The answer by the scheme that the arguments name: `standard`, or `legacy HOOK`.
-fn answer_by_named<'a>(
-    alloc: Global,
-    call: Call,
-    row: &'a Row<'a>,
-    out: &mut Lines,
-) -> Result<(), Stop<'a>> {
+fn answer_by_named<'a>(alloc: Global, row: &'a Row<'a>, out: &mut Lines) -> Result<(), Stop<'a>> {
     let mut words = argument_words(alloc, row)?;
     if words.take("standard") {
         words.end()?;
-        return answer_by(alloc, &Standard, call, row, out);
+        return answer_by(alloc, &Standard, row, out);
     }
     words.expect("legacy", "no scheme")?;
     let hook = words.name()?;
@@ -136,12 +102,27 @@ fn answer_by_named<'a>(
     let scheme = Legacy {
         task_hook: hook.as_str(),
     };
-    answer_by(alloc, &scheme, call, row, out)
+    answer_by(alloc, &scheme, row, out)
 }
 
-/// Appends the answer of a call on names.
-pub fn answer(alloc: Global, call: Call, row: &Row<'_>, out: &mut Lines) {
+/// Appends the answer of a call on names. False where a row has another call.
+pub fn answer(alloc: Global, row: &Row<'_>, out: &mut Lines) -> bool {
     let mut lines = Lines::new(alloc);
-    let answered = answered(alloc, call, row, &mut lines);
+    let answered = match row.call {
+        "payload_infos" => put_copies(alloc, &row.input, &mut lines),
+        "names"
+        | "function_names"
+        | "env_import"
+        | "scheme_texts"
+        | "payload_intrinsic"
+        | "payload_lookup"
+        | "payload"
+        | "module_to_interface"
+        | "interface_names"
+        | "match_wit_export"
+        | "match_wit_resource_dtor" => { answer_by_named(alloc, row, &mut lines) }
+        _ => return false,
+    };
     put_answered(out, answered, &lines);
+    true
 }

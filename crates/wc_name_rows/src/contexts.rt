@@ -5,7 +5,6 @@ ghost use Rattle.std.specs.Option.{ForSome, IfSome};
 ghost use Rattle.wc_resolve.specs.Ranges.{IsWorldIn};
 ghost use Rattle.wc_resolve.specs.Views.{world_view};
 
-use crate::in_worlds::InWorld;
 use crate::shown_imports::put_made;
 use std::alloc::{AllocError, Global};
 use wc_fixtures::bad::Bad;
@@ -68,7 +67,8 @@ fn put_function(out: &mut Lines, found: Option<&Function>) {
     }
 }
 
-fn put_resource(out: &mut Lines, found: Option<TypeId>) {
+/// The id of a resource, or `none`.
+pub(crate) fn put_resource(out: &mut Lines, found: Option<TypeId>) {
     match found {
         Some(id) => put_id(out, 't', id.0),
         None => out.push_str("none"),
@@ -94,25 +94,10 @@ fn put_lookups(
     Ok(())
 }
 
-/// Appends the built-in with a payload that a name means.
-fn put_meaning<N: NameMangling>(
-    alloc: Global,
-    scheme: &N,
-    context: &PayloadLookupContext<'_>,
-    name: &str,
-    out: &mut Lines,
-) -> Result<(), AllocError>
-    requires world { IsWorldIn context.now.resolve.now (world_view context.now.world.now) }
-    requires interface { ForSome context.now.id
-        (λ id. id.0 < length context.now.resolve.now.interfaces) }
-{
-    put_made(alloc, scheme.payload_intrinsic(alloc, context, name), out)
-}
-
 /// `imports NAME` or `exports NAME`, where before the name may be `of INTERFACE` and `under KEY`.
 pub(crate) fn context_line<N: NameMangling>(
     scheme: &N,
-    call: InWorld,
+    call: &str,
     resolve: &Resolve,
     words: &mut Words,
     out: &mut Lines,
@@ -133,10 +118,11 @@ pub(crate) fn context_line<N: NameMangling>(
     };
     put_name(out, &name);
     out.push_str(": ");
-    if matches!(call, InWorld::PayloadLookup) {
+    if call == "payload_lookup" {
         put_lookups(words.alloc, &context, &name, out)?;
     } else {
-        put_meaning(words.alloc, scheme, &context, &name, out)?;
+        let found = scheme.payload_intrinsic(words.alloc, &context, &name);
+        put_made(words.alloc, found, out)?;
     }
     out.push('\n');
     Ok(())

@@ -1,6 +1,6 @@
 //! Scripts on the names of exports: the function, or the resource, that an export is for.
 
-use crate::in_worlds::InWorld;
+use crate::contexts::put_resource;
 use wc_fixtures::bad::Bad;
 use wc_fixtures::encoder_fixture::put_keys;
 use wc_fixtures::shown_kinds::put_complete_function;
@@ -10,7 +10,7 @@ use wc_lines::lines::Lines;
 use wc_lines::seeds::row_seed;
 use wc_maps::Set;
 use wc_names::NameMangling;
-use wc_resolve::{Function, InterfaceId, Resolve, TypeId, WorldId, WorldKey};
+use wc_resolve::{Function, InterfaceId, Resolve, WorldId, WorldKey};
 
 fn put_interface(out: &mut Lines, id: Option<InterfaceId>) {
     match id {
@@ -37,17 +37,10 @@ fn put_exported(out: &mut Lines, found: Option<(&WorldKey, Option<InterfaceId>, 
     }
 }
 
-fn put_destructed(out: &mut Lines, found: Option<TypeId>) {
-    match found {
-        Some(id) => put_id(out, 't', id.0),
-        None => out.push_str("none"),
-    }
-}
-
 /// `NAME KEY..`: the name of an export, and the keys of an export set of the world of index 0.
 pub(crate) fn export_line<N: NameMangling>(
     scheme: &N,
-    call: InWorld,
+    call: &str,
     resolve: &Resolve,
     words: &mut Words,
     out: &mut Lines,
@@ -61,12 +54,12 @@ pub(crate) fn export_line<N: NameMangling>(
     }
     put_name(out, &name);
     out.push_str(": ");
-    if matches!(call, InWorld::MatchWitExport) {
+    if call == "match_wit_export" {
         let found = scheme.match_wit_export(alloc, &name, resolve, WorldId(0), &keys)?;
         put_exported(out, found);
     } else {
         let found = scheme.match_wit_resource_dtor(alloc, &name, resolve, WorldId(0), &keys)?;
-        put_destructed(out, found);
+        put_resource(out, found);
     }
     out.push('\n');
     Ok(())

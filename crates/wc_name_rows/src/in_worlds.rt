@@ -16,18 +16,6 @@ use wc_maps::Map;
 use wc_names::NameIndexes;
 use wc_resolve::{InterfaceId, Resolve, WorldItem, WorldKey};
 
-/// The calls on names in a world.
-#[derive(Clone, Copy)]
-pub enum InWorld {
-    PayloadIntrinsic,
-    PayloadLookup,
-    Payload,
-    ModuleToInterface,
-    InterfaceNames,
-    MatchWitExport,
-    MatchWitResourceDtor,
-}
-
 fn put_found(out: &mut Lines, found: &Option<(WorldKey, InterfaceId)>) {
     match found {
         Some((key, id)) => {
@@ -44,7 +32,7 @@ fn put_found(out: &mut Lines, found: &Option<(WorldKey, InterfaceId)>) {
 /// A text, and the call that asks which interface it is about.
 #[derive(Clone, Copy)]
 struct Question<'a> {
-    call: InWorld,
+    call: &'a str,
     text: &'a str,
 }
 
@@ -58,7 +46,7 @@ fn find_interface<N: NameIndexes>(
 ) -> Result<Option<(WorldKey, InterfaceId)>, AllocError>
     requires { All (λ x. IsKeyIn resolve.now x.0) (map world_entry items.now.entries) }
 {
-    if matches!(question.call, InWorld::ModuleToInterface) {
+    if question.call == "module_to_interface" {
         return scheme.module_to_interface(alloc, question.text, resolve, items);
     }
     scheme
@@ -69,7 +57,7 @@ fn find_interface<N: NameIndexes>(
 /// `imports TEXT` or `exports TEXT`.
 fn interface_line<N: NameIndexes>(
     scheme: &N,
-    call: InWorld,
+    call: &str,
     resolve: &Resolve,
     words: &mut Words,
     out: &mut Lines,
@@ -90,35 +78,23 @@ fn interface_line<N: NameIndexes>(
     Ok(())
 }
 
-/// The answer to a line of a script.
+/// The answer to a line of a script, of the call of this name.
 pub(crate) fn put_world_line<N: NameIndexes>(
     scheme: &N,
-    call: InWorld,
-    resolve: &Resolve,
-    words: &mut Words,
-    out: &mut Lines,
-) -> Result<(), Bad> {
-    put_answer(scheme, call, resolve, words, out)?;
-    words.end()
-}
-
-fn put_answer<N: NameIndexes>(
-    scheme: &N,
-    call: InWorld,
+    call: &str,
     resolve: &Resolve,
     words: &mut Words,
     out: &mut Lines,
 ) -> Result<(), Bad> {
     match call {
-        InWorld::ModuleToInterface | InWorld::InterfaceNames => {
-            interface_line(scheme, call, resolve, words, out)
+        "module_to_interface" | "interface_names" => {
+            interface_line(scheme, call, resolve, words, out)?;
         }
-        InWorld::Payload => payload_line(resolve, words, out),
-        InWorld::MatchWitExport | InWorld::MatchWitResourceDtor => {
-            export_line(scheme, call, resolve, words, out)
+        "payload" => payload_line(resolve, words, out)?,
+        "match_wit_export" | "match_wit_resource_dtor" => {
+            export_line(scheme, call, resolve, words, out)?;
         }
-        InWorld::PayloadIntrinsic | InWorld::PayloadLookup => {
-            context_line(scheme, call, resolve, words, out)
-        }
+        _ => context_line(scheme, call, resolve, words, out)?,
     }
+    words.end()
 }

@@ -11,22 +11,10 @@ use wc_lines::lines::Lines;
 use wc_names::NameMangling;
 use wc_resolve::AbiVariant;
 
-/// The calls on names alone.
-#[derive(Clone, Copy)]
-pub enum OnName {
-    /// The answer of each function of a scheme to a name.
-    Meanings,
-    /// The functions that a name is of.
-    Functions,
-    /// The meaning of a name in the module `env`.
-    Environment,
-}
-
 /// A word, and what was found, if something was.
 fn put_found<T: Debug + Drop>(out: &mut Lines, word: &str, found: Option<T>) {
-    match found {
-        Some(found) => write!(out, "{word} {found:?}"),
-        None => {}
+    if let Some(found) = found {
+        write!(out, "{word} {found:?}");
     }
 }
 
@@ -63,33 +51,17 @@ fn put_others<N: NameMangling>(scheme: &N, name: &str, out: &mut Lines) {
     );
 }
 
-/// Appends `thread_intrinsic` with its meaning, if the name is that of one.
-fn put_thread<N: NameMangling>(alloc: Global, scheme: &N, name: &str, out: &mut Lines) {
-    let found = scheme.thread_intrinsic(name);
-    put_if_found(alloc, " thread_intrinsic ", found, out);
-}
-
-/// `subtask.cancel`, and whether it is lowered asynchronously.
-fn put_lowered<N: NameMangling>(scheme: &N, name: &str, out: &mut Lines) {
-    match scheme.subtask_cancel(name) {
-        Some(cancel) => {
-            let lowered = cancel.async_lowered;
-            write!(out, " subtask_cancel async_lowered {lowered}");
-        }
-        None => {}
-    }
-}
-
-/// The resource or function in the name of a built-in.
+/// Whether `subtask.cancel` is lowered asynchronously; the resource or function in the name of a built-in, and the function
+/// that a name of a callback, a lift or a post-return is about.
 fn put_subjects<N: NameMangling>(scheme: &N, name: &str, out: &mut Lines) {
+    if let Some(cancel) = scheme.subtask_cancel(name) {
+        let lowered = cancel.async_lowered;
+        write!(out, " subtask_cancel async_lowered {lowered}");
+    }
     put_found(out, " resource_drop_name", scheme.resource_drop_name(name));
     put_found(out, " resource_new_name", scheme.resource_new_name(name));
     put_found(out, " resource_rep_name", scheme.resource_rep_name(name));
     put_found(out, " task_return_name", scheme.task_return_name(name));
-}
-
-/// Appends the function that a name of a callback, a lift or a post-return is about.
-fn put_exported<N: NameMangling>(scheme: &N, name: &str, out: &mut Lines) {
     put_found(
         out,
         " async_lift_callback_name",
@@ -108,10 +80,9 @@ fn put_exported<N: NameMangling>(scheme: &N, name: &str, out: &mut Lines) {
 fn put_meanings<N: NameMangling>(alloc: Global, scheme: &N, name: &str, out: &mut Lines) {
     put_plain(scheme, name, out);
     put_others(scheme, name, out);
-    put_thread(alloc, scheme, name, out);
-    put_lowered(scheme, name, out);
+    let found = scheme.thread_intrinsic(name);
+    put_if_found(alloc, " thread_intrinsic ", found, out);
     put_subjects(scheme, name, out);
-    put_exported(scheme, name, out);
 }
 
 /// Puts the meaning of a name, or ` none`.
@@ -151,10 +122,10 @@ fn environment<N: NameMangling>(
     Ok(())
 }
 
-/// Takes a name, and answers a call on it in one line.
+/// Takes a name, and answers a call on it in one line: `names`, `function_names` or `env_import`.
 pub(crate) fn put_name_line<N: NameMangling>(
     scheme: &N,
-    call: OnName,
+    call: &str,
     words: &mut Words,
     out: &mut Lines,
 ) -> Result<(), Bad> {
@@ -162,9 +133,9 @@ pub(crate) fn put_name_line<N: NameMangling>(
     put_name(out, &name);
     out.push(':');
     match call {
-        OnName::Meanings => meanings(words.alloc, scheme, &name, out),
-        OnName::Functions => functions(scheme, &name, out),
-        OnName::Environment => environment(scheme, words, &name, out)?,
+        "names" => meanings(words.alloc, scheme, &name, out),
+        "function_names" => functions(scheme, &name, out),
+        _ => environment(scheme, words, &name, out)?,
     }
     words.end()?;
     out.push('\n');

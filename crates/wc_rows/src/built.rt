@@ -16,17 +16,10 @@ fn push_item<'a, T: Copy, C: Drop>(
     Ok(())
 }
 
-fn local<'a, C: Drop>(content: Result<C, ReadFault>) -> Result<Def<'a, C>, ReadFault> {
-    match content {
-        Ok(content) => Ok(Def::Local(content)),
-        Err(fault) => Err(fault),
-    }
-}
-
 fn body_of<'a>(alloc: Global, def: Def<'a, &'a [u8]>) -> Result<Def<'a, Body<'a>>, ReadFault> {
     match def {
         Def::Import(module, name) => Ok(Def::Import(module, name)),
-        Def::Local(body) => local(read_body(alloc, body)),
+        Def::Local(body) => Ok(Def::Local(read_body(alloc, body)?)),
     }
 }
 
@@ -44,7 +37,7 @@ fn bodies_of<'a>(
 fn init_of<'a>(alloc: Global, def: Def<'a, &'a [u8]>) -> Result<Def<'a, Init<'a>>, ReadFault> {
     match def {
         Def::Import(module, name) => Ok(Def::Import(module, name)),
-        Def::Local(init) => local(read_init(alloc, init)),
+        Def::Local(init) => Ok(Def::Local(read_init(alloc, init)?)),
     }
 }
 

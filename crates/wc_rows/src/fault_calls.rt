@@ -4,31 +4,24 @@ use std::alloc::Global;
 use wc_dedupe::DedupeFault;
 use wc_gc::GcFault;
 use wc_lines::lines::Lines;
+use wc_lines::rows::Row;
 use wc_lines::values::put_fault_text;
 use wc_read::ReadFault;
 use wc_texts::PutFailed;
 use wc_write::WriteFault;
 use wctrim_command::CommandFault;
 
-/// Whose faults.
-#[derive(Clone, Copy)]
-pub enum Call {
-    Read,
-    Write,
-    Dedupe,
-    Gc,
-    Wctrim,
-}
-
-/// Appends the answer of a call for the texts of faults.
-pub fn answer(alloc: Global, call: Call, out: &mut Lines) {
-    match call {
-        Call::Read => put_read_faults(alloc, out),
-        Call::Write => put_write_faults(alloc, out),
-        Call::Dedupe => put_dedupe_faults(alloc, out),
-        Call::Gc => put_gc_faults(alloc, out),
-        Call::Wctrim => put_wctrim_faults(alloc, out),
+/// Appends the answer of a call for the texts of faults. False where a row has another call.
+pub fn answer(alloc: Global, row: &Row<'_>, out: &mut Lines) -> bool {
+    match row.call {
+        "read_faults" => put_read_faults(alloc, out),
+        "write_faults" => put_write_faults(alloc, out),
+        "dedupe_faults" => put_dedupe_faults(alloc, out),
+        "gc_faults" => put_gc_faults(alloc, out),
+        "command_faults" => put_wctrim_faults(alloc, out),
+        _ => return false,
     }
+    true
 }
 
 /// Each with its number before it.

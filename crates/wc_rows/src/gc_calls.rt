@@ -1,135 +1,100 @@
 //! Calls of `wc_gc`.
 
-ghost use Rattle.std.specs.Prelude.{IfSome, ◌≤◌};
+ghost use Rattle.std.specs.Prelude.{◌≢◌, ◌≤◌, [], IfOk};
 
 use std::alloc::Global;
-use wc_gc::{GcFault, LiveSet, Liveness, RangeSet, liveness_counted, run, run_explained};
-use wc_lines::input::{bad_row, bytes_of};
+use wc_gc::{
+    GcFault, LiveSet, Liveness, RangeSet, allocate_stack_via_realloc, liveness_counted,
+    realloc_via_memory_grow, run, run_explained,
+};
+use wc_lines::input::{Stop, bad_row, bytes_of, end_answer, number_of};
 use wc_lines::lines::Lines;
 use wc_lines::names::names_from;
 use wc_lines::rows::Row;
 use wc_lines::values::{put_bytes_lines, put_fault, put_refused};
 use wc_maps::Set;
 
-/// The calls on bytes and names.
-#[derive(Clone, Copy)]
-pub enum Call {
-    /// `liveness_counted NAME..`: what the exports of these names reach.
-    Liveness,
-    /// `trim NAME..`: the adapter, cut to what the exports of these names reach.
-    Trim,
-    /// `trim_for REALLOC PAGE NAME..`: the same for a main module that exports a realloc of this name, none by `-`, with
-    /// an exponent of the page size.
-    TrimFor,
-    /// `explain_trim NAME..`: why the same adapter is refused as by `trim`, and what that is about.
-    Explain,
-}
-
-/// Appends the answer of a call of `wc_gc`.
-pub fn answer(alloc: Global, call: Call, row: &Row<'_>, out: &mut Lines) {
-    if let Ok(bytes) = bytes_of(alloc, &row.input, out) {
-        answer_on_bytes(alloc, call, row, &bytes, out);
+/// Appends the answer of a call of `wc_gc`. False where a row has another call.
+pub fn answer(alloc: Global, row: &Row<'_>, out: &mut Lines) -> bool {
+    match row.call {
+        "liveness_counted" => end_answer(answer_liveness(alloc, row, out), out),
+        "trim" => end_answer(answer_trim(alloc, row, out), out),
+        "trim_for" => end_answer(answer_trim_for(alloc, row, out), out),
+        "explain_trim" => end_answer(answer_explained(alloc, row, out), out),
+        "realloc_via_memory_grow" => end_answer(answer_growing(alloc, row, out), out),
+        "allocate_stack_via_realloc" => end_answer(answer_stack(alloc, row, out), out),
+        _ => return false,
     }
+    true
 }
 
-fn answer_on_bytes(alloc: Global, call: Call, row: &Row<'_>, bytes: &[u8], out: &mut Lines) {
-    match names_from(alloc, row, first_name(call)) {
-        Ok(names) => {
-            let adapter = Adapter {
-                bytes,
-                names: &names,
-            };
-            answer_on_names(alloc, call, row, &adapter, out);
-        }
-        Err(_) => out.lack_memory(),
-    }
-}
-
-/// An adapter, and the names of the exports that are required of it.
-#[derive(Clone, Copy)]
-struct Adapter<'a> {
-    bytes: &'a [u8],
-    names: &'a Set<String>,
-}
-
-/// The place of the first argument that is a name.
-fn first_name(call: Call) -> usize {
-    match call {
-        Call::TrimFor => 2,
-        _ => 0,
-    }
-}
-
-fn answer_on_names(
-    alloc: Global,
-    call: Call,
-    row: &Row<'_>,
-    adapter: &Adapter<'_>,
-    out: &mut Lines,
-) {
-    match call {
-        Call::Liveness => put_answer(liveness_counted(alloc, adapter.bytes, adapter.names), out),
-        Call::Trim => answer_trim(alloc, adapter, None, Some(16), out),
-        Call::TrimFor => {
-            answer_trim(alloc, adapter, realloc_of(row), page_size_log2_in(row), out);
-        }
-        Call::Explain => answer_explain(alloc, adapter, out),
-    }
-}
-
-fn put_answer(found: Result<Liveness<RangeSet>, GcFault>, out: &mut Lines) {
-    match found {
+/// `liveness_counted NAME..`: what the exports of these names reach.
+fn answer_liveness(alloc: Global, row: &Row<'_>, out: &mut Lines) -> Result<(), Stop> {
+    let bytes = bytes_of(alloc, &row.input, out)?;
+    let names = names_from(alloc, row, 0)?;
+    match liveness_counted(alloc, &bytes, &names) {
         Ok(found) => put_liveness(&found, out),
         Err(fault) => put_fault(out, fault),
     }
+    Ok(())
 }
 
-fn answer_trim(
+/// The arguments from the index `first` on, each once. There has to be one.
+pub(crate) fn required_from(
     alloc: Global,
-    adapter: &Adapter<'_>,
-    realloc: Option<&str>,
-    page_size_log2: Option<u32>,
+    row: &Row<'_>,
+    first: usize,
     out: &mut Lines,
-)
-    requires { IfSome page_size_log2 (λ p. p ≤ 16) }
+) -> Result<Set<String>, Stop>
+    ensures { IfOk result (λ names. names.keys ≢ []) }
 {
-    match page_size_log2 {
-        Some(page_size_log2) if !adapter.names.is_empty() => {
-            let (bytes, names) = (adapter.bytes, adapter.names);
-            put_trimmed(run(alloc, bytes, names, realloc, page_size_log2), out);
-        }
-        _ => {
-            let _ = bad_row(out, "no names or no exponent", "");
-        }
+    let names = names_from(alloc, row, first)?;
+    if names.is_empty() {
+        return Err(bad_row(out, "no names", row.call));
     }
+    Ok(names)
 }
 
-fn realloc_of<'a>(row: &Row<'a>) -> Option<&'a str> {
-    let name = row.arguments.first().copied().unwrap_or("-");
-    if name == "-" { None } else { Some(name) }
+/// `trim NAME..`: the adapter, cut to what the exports of these names reach.
+fn answer_trim(alloc: Global, row: &Row<'_>, out: &mut Lines) -> Result<(), Stop> {
+    let bytes = bytes_of(alloc, &row.input, out)?;
+    let names = required_from(alloc, row, 0, out)?;
+    put_trimmed(run(alloc, &bytes, &names, None, 16), out);
+    Ok(())
 }
 
-/// The exponent that is the second argument, 16 at most.
-fn page_size_log2_in(row: &Row<'_>) -> Option<u32>
-    ensures { IfSome result (λ page_size_log2. page_size_log2 ≤ 16) }
+/// `trim_for REALLOC PAGE NAME..`: the same for a main module that exports a realloc of this name, none by `-`, with an
+/// exponent of the page size.
+fn answer_trim_for(alloc: Global, row: &Row<'_>, out: &mut Lines) -> Result<(), Stop> {
+    let bytes = bytes_of(alloc, &row.input, out)?;
+    let names = required_from(alloc, row, 2, out)?;
+    let page_size_log2 = exponent_of(row.argument(1), out)?;
+    let name = row.argument(0);
+    let realloc = if name == "-" { None } else { Some(name) };
+    put_trimmed(run(alloc, &bytes, &names, realloc, page_size_log2), out);
+    Ok(())
+}
+
+/// The exponent of a page size that a word is, 16 at most.
+fn exponent_of(word: &str, out: &mut Lines) -> Result<u32, Stop>
+    ensures { IfOk result (λ page_size_log2. page_size_log2 ≤ 16) }
 {
-    let page_size_log2 = row.arguments.get(1)?.parse::<u32>().ok()?;
+    let page_size_log2 = number_of(out, "no exponent", word)?;
     if page_size_log2 > 16 {
-        None
-    } else {
-        Some(page_size_log2)
+        return Err(bad_row(out, "no exponent", word));
     }
+    Ok(page_size_log2)
 }
 
-fn answer_explain(alloc: Global, adapter: &Adapter<'_>, out: &mut Lines) {
-    if adapter.names.is_empty() {
-        let _ = bad_row(out, "no names", "");
-        return;
-    }
-    match run_explained(alloc, adapter.bytes, adapter.names, None, 16) {
+/// `explain_trim NAME..`: why the same adapter is refused as by `trim`, and what that is about.
+fn answer_explained(alloc: Global, row: &Row<'_>, out: &mut Lines) -> Result<(), Stop> {
+    let bytes = bytes_of(alloc, &row.input, out)?;
+    let names = required_from(alloc, row, 0, out)?;
+    match run_explained(alloc, &bytes, &names, None, 16) {
         Ok(_) => out.push_str("ok\n"),
         Err(refused) => put_refused(out, &refused),
     }
+    Ok(())
 }
 
 fn put_trimmed(trimmed: Result<Vec<u8>, GcFault>, out: &mut Lines) {
@@ -148,8 +113,7 @@ fn put_liveness(found: &Liveness<RangeSet>, out: &mut Lines) {
     put_set("tables", &found.live.tables, out);
     put_set("memories", &found.live.memories, out);
     put_set("globals", &found.live.globals, out);
-    out.number("turns ", found.turns);
-    out.end();
+    out.number_line("turns ", found.turns);
 }
 
 /// A line for a set that has something: its numbers.
@@ -167,4 +131,30 @@ fn put_set(name: &str, set: &RangeSet, out: &mut Lines) {
     if !is_empty {
         out.end();
     }
+}
+
+/// `realloc_via_memory_grow EXPONENT`: the body of the realloc that grows a memory with pages of 2^EXPONENT bytes.
+fn answer_growing(alloc: Global, row: &Row<'_>, out: &mut Lines) -> Result<(), Stop> {
+    let page_size_log2 = exponent_of(row.argument(0), out)?;
+    let code = realloc_via_memory_grow(alloc, page_size_log2)?;
+    put_bytes_lines(out, "bytes", &code);
+    Ok(())
+}
+
+/// `allocate_stack_via_realloc REALLOC STACK-POINTER [STATE]`: the body that allocates a stack.
+fn answer_stack(alloc: Global, row: &Row<'_>, out: &mut Lines) -> Result<(), Stop> {
+    let realloc = number_of(out, "no index", row.argument(0))?;
+    let sp = number_of(out, "no index", row.argument(1))?;
+    let state = state_of(row, out)?;
+    let code = allocate_stack_via_realloc(alloc, realloc, sp, state)?;
+    put_bytes_lines(out, "bytes", &code);
+    Ok(())
+}
+
+/// The index of the global that has the state, where the row has one.
+fn state_of(row: &Row<'_>, out: &mut Lines) -> Result<Option<u32>, Stop> {
+    if row.arguments.len() < 3 {
+        return Ok(None);
+    }
+    Ok(Some(number_of(out, "no index", row.argument(2))?))
 }

@@ -59,40 +59,23 @@ fn put_globals(out: &mut Lines, globals: &[Global<'_>]) {
 /// The start function, names of globals, producers and ids of the sections of segments, where there are any.
 fn put_rest(out: &mut Lines, module: &Module<'_>) {
     if let Some(start) = module.start {
-        put_number_line(out, "start ", start);
+        out.number_line("start ", start as u64);
     }
-    put_global_names(out, &module.global_names);
+    put_names(out, "name of global ", &module.global_names);
     if let Some(producers) = module.producers {
         put_bytes_line(out, "producers", producers);
     }
-    put_ids(out, &module.ids);
+    for id in &module.ids {
+        out.number_line("segments ", *id as u64);
+    }
 }
 
-fn put_number_line(out: &mut Lines, word: &str, number: u32) {
-    out.number(word, number as u64);
-    out.end();
-}
-
-fn put_global_names(out: &mut Lines, names: &OrderedMap<u32, &str>) {
-    put_names(out, "name of global ", names);
-}
-
-/// A line for each name of a function.
-pub fn put_function_names(out: &mut Lines, names: &OrderedMap<u32, &str>) {
-    put_names(out, "name of func ", names);
-}
-
-fn put_names(out: &mut Lines, word: &str, names: &OrderedMap<u32, &str>) {
+/// A line for each name: a word, the index that has the name, and the name.
+pub fn put_names(out: &mut Lines, word: &str, names: &OrderedMap<u32, &str>) {
     for (index, name) in names.entries() {
         out.number(word, *index as u64);
         out.quoted(" ", name);
         out.end();
-    }
-}
-
-fn put_ids(out: &mut Lines, ids: &[u8]) {
-    for id in ids {
-        put_number_line(out, "segments ", *id as u32);
     }
 }
 

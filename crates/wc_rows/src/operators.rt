@@ -3,7 +3,7 @@
 use wc_lines::lines::Lines;
 use wc_lines::values::{put_bytes, put_val_type, put_val_types};
 use wc_read::{
-    BlockType, Body, Form, Immediates, Index, IndexKind, Init, Instr, MemArg, Opcode, Refs, Space,
+    BlockType, Body, Form, Immediates, Index, IndexKind, Instr, MemArg, Opcode, Refs, Space,
 };
 
 /// The word of an index space in rows, as `func`.
@@ -38,7 +38,7 @@ pub fn put_opcode(out: &mut Lines, opcode: Opcode) {
 }
 
 /// Appends ` block` and `empty`, a value's type or the index of a type.
-pub fn put_block_type(out: &mut Lines, ty: &BlockType) {
+fn put_block_type(out: &mut Lines, ty: &BlockType) {
     match ty {
         BlockType::Empty => out.push_str(" block empty"),
         BlockType::Value(ty) => {
@@ -50,7 +50,7 @@ pub fn put_block_type(out: &mut Lines, ty: &BlockType) {
 }
 
 /// Appends the kind and the number of an index.
-pub fn put_index(out: &mut Lines, index: &Index) {
+fn put_index(out: &mut Lines, index: &Index) {
     out.push_str(" ");
     out.push_str(kind_name(index.kind));
     out.number(" ", index.number as u64);
@@ -70,13 +70,8 @@ fn put_address(out: &mut Lines, address: &MemArg) {
     out.number(" offset ", address.offset);
 }
 
-/// Appends ` lane N`.
-pub fn put_lane(out: &mut Lines, lane: u8) {
-    out.number(" lane ", lane as u64);
-}
-
 /// Puts the immediates after an operator's code, with a space at the front.
-pub fn put_immediates(out: &mut Lines, immediates: &Immediates<'_>) {
+fn put_immediates(out: &mut Lines, immediates: &Immediates<'_>) {
     match immediates {
         Immediates::None => {}
         Immediates::Block(ty) => put_block_type(out, ty),
@@ -97,7 +92,7 @@ pub fn put_immediates(out: &mut Lines, immediates: &Immediates<'_>) {
         Immediates::MemArg(address) => put_address(out, address),
         Immediates::MemArgLane(address, lane) => {
             put_address(out, address);
-            put_lane(out, *lane);
+            out.number(" lane ", *lane as u64);
         }
         Immediates::I32(number) => write!(out, " i32 {number}"),
         Immediates::I64(number) => write!(out, " i64 {number}"),
@@ -105,23 +100,18 @@ pub fn put_immediates(out: &mut Lines, immediates: &Immediates<'_>) {
             out.push_str(" bytes");
             put_bytes(out, bytes);
         }
-        Immediates::Lane(lane) => put_lane(out, *lane),
+        Immediates::Lane(lane) => out.number(" lane ", *lane as u64),
     }
 }
 
 /// A line for each operator: its code and its immediates.
-fn put_operators(out: &mut Lines, operators: &[Instr<'_>]) {
+pub fn put_operators(out: &mut Lines, operators: &[Instr<'_>]) {
     for operator in operators {
         out.push_str("operator ");
         put_opcode(out, operator.opcode);
         put_immediates(out, &operator.immediates);
         out.push_str("\n");
     }
-}
-
-/// A line for each operator of a constant expression.
-pub fn put_init(out: &mut Lines, init: &Init<'_>) {
-    put_operators(out, &init.operators);
 }
 
 /// A line for each run of locals, then one for each operator.

@@ -25,15 +25,19 @@ impl RandomSource for GivenBytes<'_> {
     }
 }
 
-/// `drawn_seed NUMBER`: the hash of a number of 64 bits under the seed that is drawn from a source with the bytes of the
-/// input, or that the source failed.
-pub fn answer(alloc: Global, row: &Row<'_>, out: &mut Lines) {
-    let answered = answer_drawn(alloc, row, out);
-    end_answer(answered, out);
+/// Appends the answer of the call that draws a seed. False where a row has another call.
+pub fn answer(alloc: Global, row: &Row<'_>, out: &mut Lines) -> bool {
+    if row.call != "drawn_seed" {
+        return false;
+    }
+    end_answer(answer_drawn(alloc, row, out), out);
+    true
 }
 
+/// `drawn_seed NUMBER`: the hash of a number of 64 bits under the seed that is drawn from a source with the bytes of the
+/// input, or that the source failed.
 fn answer_drawn(alloc: Global, row: &Row<'_>, out: &mut Lines) -> Result<(), Stop> {
-    let word = row.arguments.first().copied().unwrap_or("");
+    let word = row.argument(0);
     let Ok(number) = word.parse::<u64>() else {
         return Err(bad_row(out, "no number", word));
     };
@@ -42,13 +46,8 @@ fn answer_drawn(alloc: Global, row: &Row<'_>, out: &mut Lines) -> Result<(), Sto
         bytes: bytes.as_slice(),
     };
     match Seed::drawn(&source) {
-        Ok(seed) => put_hash(seed, number, out),
+        Ok(seed) => out.number_line("", seed.hash_one(number)),
         Err(_) => out.push_str("the source failed\n"),
     }
     Ok(())
-}
-
-fn put_hash(seed: Seed, number: u64, out: &mut Lines) {
-    out.number("", seed.hash_one(number));
-    out.end();
 }

@@ -1,34 +1,27 @@
 //! Calls of sinks that fail: `WriterSink` over a writer that fails, and commands over a sink that does.
 
+ghost use Rattle.std.specs.Prelude.{IfSome};
 ghost use Rattle.wctrim_command.specs.Command.{IsExecutable, command_view};
 
-use crate::wctrim_calls::{named_command, put_answer};
 use std::alloc::Global;
 use std::io::{self, Write};
-use wc_lines::input::{bad_row, bytes_of};
+use wc_lines::input::{Stop, bad_row, bytes_of, end_answer};
 use wc_lines::lines::Lines;
 use wc_lines::rows::Row;
 use wc_lines::seeds::row_seed;
+use wc_lines::values::put_bytes_lines;
 use wc_write::{PutFailed, Sink, WriterSink};
-use wctrim_command::{Command, execute};
+use wctrim_command::{Command, CommandFault, execute};
 
-/// The calls of sinks that fail.
-#[derive(Clone, Copy)]
-pub enum Call {
-    Writer,
-    /// `execute_failing COMMAND PUTS`: the command, over a sink that fails after so many puts.
-    Failing,
-    /// `each_put_failing COMMAND`: the command, over sinks that fail after no put, after one, after two, and so on, until
-    /// all puts pass. A line for each, and the answer.
-    EachFailing,
-}
-
-/// Answers a row on a sink over bytes, or over a writer that fails.
-pub fn answer(alloc: Global, call: Call, row: &Row<'_>, out: &mut Lines) {
-    match call {
-        Call::Writer => answer_writer(alloc, row, out),
-        _ => answer_bytes(alloc, call, row, out),
+/// Appends the answer of a call on a sink over a writer that fails, or on commands over sinks that do. False where a row
+/// has another call.
+pub fn answer(alloc: Global, row: &Row<'_>, out: &mut Lines) -> bool {
+    match row.call {
+        "writer_sink" => answer_writer(alloc, row, out),
+        "each_put_failing" => end_answer(answer_each_failing(alloc, row, out), out),
+        _ => return false,
     }
+    true
 }
 
 /// A writer that fails at one write and at one flush, counted from 1; at 0 it fails at none.
@@ -62,32 +55,21 @@ impl Write for FailingWriter {
 
 /// The number at an argument of the call; 0 where there is none.
 fn number_at(row: &Row<'_>, index: usize) -> u32 {
-    let word = row.arguments.get(index).copied().unwrap_or("0");
-    word.parse::<u32>().unwrap_or(0)
+    row.argument(index).parse::<u32>().unwrap_or(0)
 }
 
-/// Does what a line says: `put TEXT` or `flush`.
-fn do_line(sink: &mut WriterSink<FailingWriter>, line: &str) -> Result<(), PutFailed> {
-    match line.strip_prefix("put ") {
+/// Does what a line says, `put TEXT` or `flush`, and puts what came of it.
+fn put_step(sink: &mut WriterSink<FailingWriter>, line: &str, out: &mut Lines) {
+    let done = match line.strip_prefix("put ") {
         Some(text) => sink.put(text.as_bytes()),
         None => sink.flush(),
-    }
-}
-
-fn put_step(sink: &mut WriterSink<FailingWriter>, line: &str, out: &mut Lines) {
-    match do_line(sink, line) {
+    };
+    match done {
         Ok(()) => out.push_str("ok"),
         Err(fault) => write!(out, "fault {fault}"),
     }
     out.flag(", failed ", sink.failed());
     out.end();
-}
-
-fn put_writer(out: &mut Lines, writer: &FailingWriter) {
-    out.number("writes ", writer.writes as u64);
-    out.number("\nflushes ", writer.flushes as u64);
-    let taken = &writer.taken;
-    writeln!(out, "\ntaken {taken:?}");
 }
 
 /// The sink is over a writer that fails at the write and the flush that the arguments name, and at no other: it has room
@@ -110,7 +92,11 @@ fn put_steps(row: &Row<'_>, taken: Vec<u8>, out: &mut Lines) {
     for line in &row.input {
         put_step(&mut sink, line, out);
     }
-    put_writer(out, &sink.into_inner());
+    let writer = sink.into_inner();
+    out.number("writes ", writer.writes as u64);
+    out.number("\nflushes ", writer.flushes as u64);
+    let taken = &writer.taken;
+    writeln!(out, "\ntaken {taken:?}");
 }
 
 /// A sink that takes some puts, and fails at the next.
@@ -141,34 +127,31 @@ impl Sink for FailAt {
     }
 }
 
-fn answer_bytes(alloc: Global, call: Call, row: &Row<'_>, out: &mut Lines) {
-    if let Ok(bytes) = bytes_of(alloc, &row.input, out) {
-        answer_on_bytes(alloc, call, row, &bytes, out);
-    }
-}
-
-fn answer_on_bytes(alloc: Global, call: Call, row: &Row<'_>, input: &[u8], out: &mut Lines) {
-    match (named_command(row), call) {
-        (Some(command), Call::Failing) => {
-            put_failing(alloc, &command, input, number_at(row, 1), out);
-        }
-        (Some(command), _) => put_each_failing(alloc, &command, input, out),
-        (None, _) => {
-            let _ = bad_row(out, "no command", row.call);
-        }
-    }
-}
-
-fn put_failing(alloc: Global, command: &Command<'_>, input: &[u8], puts: u32, out: &mut Lines)
-    requires { IsExecutable (command_view command.now) }
+/// The command that the first argument names.
+fn named_command(row: &Row<'_>) -> Option<Command<'static>>
+    ensures { IfSome result (λ c. IsExecutable (command_view c)) }
 {
-    let mut sink = FailAt {
-        puts,
-        failed: false,
-    };
-    put_answer(out, &execute(alloc, row_seed(), command, input, &mut sink));
-    out.flag("failed ", sink.failed);
-    out.end();
+    match row.argument(0) {
+        "dedupe" => Some(Command::Dedupe {
+            source: "in.wasm",
+            target: "out.wasm",
+        }),
+        "scan" => Some(Command::Scan { source: "in.wasm" }),
+        _ => None,
+    }
+}
+
+/// `each_put_failing COMMAND`: the command, over sinks that fail after no put, after one, after two, and so on, until all
+/// puts pass. A line for each, and the answer.
+fn answer_each_failing(alloc: Global, row: &Row<'_>, out: &mut Lines) -> Result<(), Stop> {
+    let bytes = bytes_of(alloc, &row.input, out)?;
+    match named_command(row) {
+        Some(command) => put_each_failing(alloc, &command, &bytes, out),
+        None => {
+            let _ = bad_row(out, "no command", row.argument(0));
+        }
+    }
+    Ok(())
 }
 
 fn put_each_failing(alloc: Global, command: &Command<'_>, input: &[u8], out: &mut Lines)
@@ -195,4 +178,13 @@ fn put_fails(alloc: Global, command: &Command<'_>, input: &[u8], puts: u32, out:
     out.push_str(", ");
     put_answer(out, &answer);
     sink.failed
+}
+
+/// Appends the file that a command wrote, `no bytes`, or the command's fault.
+fn put_answer(out: &mut Lines, answer: &Result<Option<Vec<u8>>, CommandFault>) {
+    match answer {
+        Ok(Some(bytes)) => put_bytes_lines(out, "bytes", bytes),
+        Ok(None) => out.push_str("no bytes\n"),
+        Err(fault) => writeln!(out, "fault {fault}"),
+    }
 }

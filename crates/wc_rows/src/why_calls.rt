@@ -3,22 +3,13 @@
 use crate::operators::space_word;
 use std::alloc::{AllocError, Global};
 use wc_gc::{Chain, ImportChains, why, why_imports};
-use wc_lines::input::{Stop, bad_row, bytes_of, end_answer};
+use wc_lines::input::{Stop, bad_row, bytes_of, end_answer, number_of};
 use wc_lines::lines::Lines;
 use wc_lines::names::names_from;
 use wc_lines::rows::Row;
 use wc_lines::table::named;
 use wc_lines::values::put_fault;
 use wc_read::Space;
-
-/// The calls on an adapter and the names of required exports.
-#[derive(Clone, Copy)]
-pub enum Call {
-    /// `why SPACE INDEX NAME..`: the chain to an item.
-    Item,
-    /// `why_imports NAME..`: the chain to each import.
-    Imports,
-}
 
 const SPACES: [(&str, Space); 5] = [
     ("type", Space::Types),
@@ -28,21 +19,25 @@ const SPACES: [(&str, Space); 5] = [
     ("global", Space::Globals),
 ];
 
-/// Answers with the chain to an item, or with those to all imports.
-pub fn answer(alloc: Global, call: Call, row: &Row<'_>, out: &mut Lines) {
-    let answered = match call {
-        Call::Item => answer_item(alloc, row, out),
-        Call::Imports => answer_imports(alloc, row, out),
-    };
-    end_answer(answered, out);
+/// Appends the answer of a call that says why items are live. False where a row has another call.
+pub fn answer(alloc: Global, row: &Row<'_>, out: &mut Lines) -> bool {
+    match row.call {
+        "why" => end_answer(answer_item(alloc, row, out), out),
+        "why_imports" => end_answer(answer_imports(alloc, row, out), out),
+        _ => return false,
+    }
+    true
 }
 
-/// The chain, or `not live`.
+/// `why SPACE INDEX NAME..`: the chain to an item, or `not live`.
 fn answer_item(alloc: Global, row: &Row<'_>, out: &mut Lines) -> Result<(), Stop> {
-    let item = item_of(row, out)?;
+    let Some(space) = named(&SPACES, row.argument(0)) else {
+        return Err(bad_row(out, "no space", row.argument(0)));
+    };
+    let index = number_of(out, "no index", row.argument(1))?;
     let adapter = bytes_of(alloc, &row.input, out)?;
     let required = names_from(alloc, row, 2)?;
-    match why(alloc, &adapter, &required, item) {
+    match why(alloc, &adapter, &required, (space, index)) {
         Ok(Some(chain)) => put_chain(&chain, out),
         Ok(None) => out.push_str("not live\n"),
         Err(fault) => put_fault(out, fault),
@@ -50,20 +45,7 @@ fn answer_item(alloc: Global, row: &Row<'_>, out: &mut Lines) -> Result<(), Stop
     Ok(())
 }
 
-/// The item that the first two arguments of a row name.
-fn item_of(row: &Row<'_>, out: &mut Lines) -> Result<(Space, u32), Stop> {
-    let word = row.arguments.first().copied().unwrap_or("");
-    let Some(space) = named(&SPACES, word) else {
-        return Err(bad_row(out, "no space", word));
-    };
-    let index = row.arguments.get(1).copied().unwrap_or("");
-    match index.parse::<u32>() {
-        Ok(index) => Ok((space, index)),
-        Err(_) => Err(bad_row(out, "no index", index)),
-    }
-}
-
-/// A line for each import, in order: its chain, or `not live`. Before them, how many items were found.
+/// `why_imports NAME..`: a line for each import, in order: its chain, or `not live`. Before them, how many items were found.
 fn answer_imports(alloc: Global, row: &Row<'_>, out: &mut Lines) -> Result<(), Stop> {
     let adapter = bytes_of(alloc, &row.input, out)?;
     let required = names_from(alloc, row, 0)?;
@@ -75,8 +57,7 @@ fn answer_imports(alloc: Global, row: &Row<'_>, out: &mut Lines) -> Result<(), S
 }
 
 fn put_chains(alloc: Global, chains: &ImportChains<'_>, out: &mut Lines) -> Result<(), AllocError> {
-    out.number("items ", chains.order.len() as u64);
-    out.end();
+    out.number_line("items ", chains.order.len() as u64);
     for position in &chains.imports {
         put_at(alloc, chains, *position, out)?;
     }

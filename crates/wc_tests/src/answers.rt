@@ -1,21 +1,12 @@
 //! A row's answer, from the library whose call it names.
 
-use crate::calls::{CALLS, Call};
-use crate::{fault_lists, law_calls, library_calls, wcplan_calls, wcwhy_calls};
+use crate::{
+    fault_lists, library_calls, path_calls, segment_calls, wcplan_calls, wctrim_calls, wcwhy_calls,
+};
 use std::alloc::Global;
-use wc_component_rows::{calls as world_calls, plans as plan_calls};
-use wc_example_rows::{examples, json_calls};
-use wc_fixtures::{encoder_calls, key_calls, resolve_calls};
 use wc_lines::input::bad_row;
 use wc_lines::lines::Lines;
 use wc_lines::rows::{Flaw, Paragraph, Row};
-use wc_lines::table::named;
-use wc_module_rows::validation::calls as validate_calls;
-use wc_name_rows::calls as scheme_calls;
-use wc_rows::{
-    dedupe_calls, fault_calls, gc_calls, hostile_calls, machine_calls, machine_samples, read_calls,
-    seed_calls, set_calls, sink_calls, unfolding, wctrim_calls, why_calls, write_calls,
-};
 
 /// Appends the lines of a row's answer.
 pub(crate) fn answer(alloc: Global, paragraph: &Paragraph<'_>, out: &mut Lines) {
@@ -31,44 +22,21 @@ pub(crate) fn answer(alloc: Global, paragraph: &Paragraph<'_>, out: &mut Lines) 
 }
 
 fn answer_row(alloc: Global, row: &Row<'_>, out: &mut Lines) {
-    match named(&CALLS, row.call) {
-        Some(call) => answer_call(alloc, call, row, out),
-        None => {
-            let _ = bad_row(out, "no call", row.call);
-        }
-    }
-}
-
-fn answer_call(alloc: Global, call: Call, row: &Row<'_>, out: &mut Lines) {
-    match call {
-        Call::Read(call) => read_calls::answer(alloc, call, row, out),
-        Call::Write(call) => write_calls::answer(alloc, call, row, out),
-        Call::Dedupe(call) => dedupe_calls::answer(alloc, call, row, out),
-        Call::Gc(call) => gc_calls::answer(alloc, call, row, out),
-        Call::Why(call) => why_calls::answer(alloc, call, row, out),
-        Call::Seed => seed_calls::answer(alloc, row, out),
-        Call::Set(call) => set_calls::answer(alloc, call, row, out),
-        Call::Machine(call) => machine_calls::answer(alloc, call, row, out),
-        Call::Sample(call) => machine_samples::answer(alloc, call, row, out),
-        Call::Unfolding(call) => unfolding::answer(alloc, call, row, out),
-        Call::Hostile(call) => hostile_calls::answer(alloc, call, row, out),
-        Call::Fault(call) => fault_calls::answer(alloc, call, out),
-        Call::FaultList(call) => fault_lists::answer(alloc, call, out),
-        Call::Wctrim(call) => wctrim_calls::answer(alloc, call, row, out),
-        Call::Sink(call) => sink_calls::answer(alloc, call, row, out),
-        Call::Law => law_calls::answer(alloc, row, out),
-        Call::Resolve(call) => resolve_calls::answer(alloc, call, row, out),
-        Call::Key(call) => key_calls::answer(alloc, call, row, out),
-        Call::Encoder(call) => encoder_calls::answer(alloc, call, row, out),
-        Call::Name(call) => scheme_calls::answer(alloc, call, row, out),
-        Call::Validate(call) => validate_calls::answer(alloc, call, row, out),
-        Call::Json => json_calls::answer(alloc, row, out),
-        Call::World(call) => world_calls::answer(alloc, call, row, out),
-        Call::Plan(call) => plan_calls::answer(alloc, call, row, out),
-        Call::Library(call) => library_calls::answer(alloc, call, row, out),
-        Call::Wcplan(call) => wcplan_calls::answer(alloc, call, row, out),
-        Call::Wcwhy(call) => wcwhy_calls::answer(alloc, call, row, out),
-        Call::Example => examples::answer(alloc, row, out),
+    let is_answered = wc_rows::answer(alloc, row, out)
+        || wc_fixtures::answer(alloc, row, out)
+        || wc_name_rows::calls::answer(alloc, row, out)
+        || wc_module_rows::validation::calls::answer(alloc, row, out)
+        || wc_component_rows::answer(alloc, row, out)
+        || wc_example_rows::answer(alloc, row, out)
+        || library_calls::answer(alloc, row, out)
+        || segment_calls::answer(alloc, row, out)
+        || path_calls::answer(alloc, row, out)
+        || wctrim_calls::answer(alloc, row, out)
+        || wcwhy_calls::answer(alloc, row, out)
+        || wcplan_calls::answer(alloc, row, out)
+        || fault_lists::answer(alloc, row, out);
+    if !is_answered {
+        let _ = bad_row(out, "no call", row.call);
     }
 }
 

@@ -7,8 +7,9 @@ use wc_encoder::EncoderFault;
 use wc_json::{JsonFault, Problem};
 use wc_lines::input::{Stop, end_answer};
 use wc_lines::lines::Lines;
+use wc_lines::put_last::put_last_fault;
+use wc_lines::rows::Row;
 use wc_lines::values::put_fault_text;
-use wc_module_rows::validation::answers::put_last_fault;
 use wc_plan::PlanFault;
 use wc_read::ReadFault;
 use wc_resolve::ResolveFault;
@@ -17,30 +18,16 @@ use wc_validate::ValidateFault;
 use wc_world::WorldFault;
 use wcplan_command::SelectionFault;
 
-/// Whose faults.
-#[derive(Clone, Copy)]
-pub(crate) enum Call {
-    Json,
-    Request,
-    Selection,
-    Message,
-}
-
-/// Appends the answer of a call for the texts of faults, in the order of their enum.
-pub(crate) fn answer(alloc: Global, call: Call, out: &mut Lines) {
-    let answered = match call {
-        Call::Json => put_json_faults(alloc, out),
-        Call::Request => {
-            put_request_faults(alloc, out);
-            Ok(())
-        }
-        Call::Selection => {
-            put_selection_faults(alloc, out);
-            Ok(())
-        }
-        Call::Message => put_message_faults(alloc, out),
-    };
-    end_answer(answered, out);
+/// Appends the answer of a call for the texts of faults, in the order of their enum. False where a row has another call.
+pub(crate) fn answer(alloc: Global, row: &Row<'_>, out: &mut Lines) -> bool {
+    match row.call {
+        "json_faults" => end_answer(put_json_faults(alloc, out), out),
+        "request_faults" => put_request_faults(alloc, out),
+        "selection_faults" => put_selection_faults(alloc, out),
+        "message_faults" => end_answer(put_message_faults(alloc, out), out),
+        _ => return false,
+    }
+    true
 }
 
 const PROBLEMS: [Problem; 11] = [

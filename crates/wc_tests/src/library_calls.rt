@@ -2,7 +2,9 @@
 
 use crate::call_example::trim_to_write;
 use std::alloc::{AllocError, Global};
-use wc_calls::{Answer, MEMORY, dedupe, fault_text, plan, trim, validate, why, world};
+use wc_calls::{
+    Answer, MEMORY, dedupe, fault_text, plan, trim, validate, validated_module, why, world,
+};
 use wc_lines::input::{Stop, bad_row, bytes_of, end_answer};
 use wc_lines::lines::Lines;
 use wc_lines::rows::Row;
@@ -12,34 +14,20 @@ use wc_lines::values::put_bytes_lines;
 /// Each byte of a buffer before a call.
 const UNTOUCHED: u8 = 0xee;
 
-/// The calls on a module, that on numbers, and from `World` on those on a message.
-#[derive(Clone, Copy)]
-pub(crate) enum Call {
-    Dedupe,
-    Trim,
-    TrimToWrite,
-    Why,
-    FaultText,
-    World,
-    Plan,
-    Validate,
-}
-
-/// Appends the answer of a call of `wc_calls`.
-pub(crate) fn answer(alloc: Global, call: Call, row: &Row<'_>, out: &mut Lines) {
-    let answered = answer_call(alloc, call, row, out);
+/// Appends the answer of a call of `wc_calls`. False where a row has another call.
+pub(crate) fn answer(alloc: Global, row: &Row<'_>, out: &mut Lines) -> bool {
+    let answered = match row.call {
+        "dedupe_into" => answer_dedupe(alloc, row, out),
+        "trim_into" => answer_trim(alloc, row, out),
+        "trim_to_write" => answer_trim_to_write(alloc, row, out),
+        "why_into" => answer_why(alloc, row, out),
+        "fault_text_into" => answer_fault_text(alloc, row, out),
+        "world_into" | "plan_into" | "validate_into" => answer_message(alloc, row, out),
+        "record_into" => answer_record(alloc, row, out),
+        _ => return false,
+    };
     end_answer(answered, out);
-}
-
-fn answer_call(alloc: Global, call: Call, row: &Row<'_>, out: &mut Lines) -> Result<(), Stop> {
-    match call {
-        Call::Dedupe => answer_dedupe(alloc, row, out),
-        Call::Trim => answer_trim(alloc, row, out),
-        Call::TrimToWrite => answer_trim_to_write(alloc, row, out),
-        Call::Why => answer_why(alloc, row, out),
-        Call::FaultText => answer_fault_text(alloc, row, out),
-        _ => answer_message(alloc, call, row, out),
-    }
+    true
 }
 
 /// `dedupe_into ROOM`: a module, its repeated imports renamed, in a buffer of so many bytes.
@@ -129,7 +117,7 @@ fn answer_fault_text(alloc: Global, row: &Row<'_>, out: &mut Lines) -> Result<()
 /// `world_into ROOM LINES`, `plan_into ROOM LINES`: the world of a component, or its plan, in a buffer of so many bytes. So
 /// many lines of input are the message, and the others the bytes of modules. `validate_into ROOM LINES [NAME]`: whether its
 /// main module is valid, or the adapter or the library of a name.
-fn answer_message(alloc: Global, call: Call, row: &Row<'_>, out: &mut Lines) -> Result<(), Stop> {
+fn answer_message(alloc: Global, row: &Row<'_>, out: &mut Lines) -> Result<(), Stop> {
     let Some((message, bytes)) = parts_of(row) else {
         return Err(bad_row(out, "no message", row.call));
     };
@@ -142,9 +130,49 @@ fn answer_message(alloc: Global, call: Call, row: &Row<'_>, out: &mut Lines) -> 
         modules: &modules,
         names: &names,
     };
-    let answer = answer_to(alloc, call, &asked, &mut buffer);
+    let answer = answer_to(alloc, row.call, &asked, &mut buffer);
     put_answer(&answer, &buffer, out);
     Ok(())
+}
+
+/// `record_into ROOM LINES [NAME REQUIRED]`: what is recorded of a component's main module, or of the adapter or the library
+/// of a name, for the functions that are required of it; the message and the modules are as of `world_into`.
+fn answer_record(alloc: Global, row: &Row<'_>, out: &mut Lines) -> Result<(), Stop> {
+    let Some((message, bytes)) = parts_of(row) else {
+        return Err(bad_row(out, "no message", row.call));
+    };
+    let message = text_of(alloc, message)?;
+    let modules = bytes_of(alloc, bytes, out)?;
+    let (names, required) = named_and_required(row);
+    let names = bytes_of(alloc, names, out)?;
+    let required = bytes_of(alloc, required, out)?;
+    let name = if row.arguments.len() > 2 {
+        Some(names.as_slice())
+    } else {
+        None
+    };
+    let mut buffer = buffer_of(alloc, row, out)?;
+    let message = message.as_bytes();
+    let answer = validated_module(
+        alloc,
+        row_seed(),
+        message,
+        &modules,
+        name,
+        &required,
+        &mut buffer,
+    );
+    put_answer(&answer, &buffer, out);
+    Ok(())
+}
+
+/// The words of a name, and those after it.
+fn named_and_required<'r, 'a>(row: &'r Row<'a>) -> (&'r [&'a str], &'r [&'a str]) {
+    let words = row.arguments.as_slice();
+    if words.len() < 3 {
+        return (&words[..0], &words[..0]);
+    }
+    (&words[2..3], &words[3..])
 }
 
 fn first_of(names: &[Vec<u8>]) -> Option<&[u8]> {
@@ -163,11 +191,11 @@ struct Asked<'a> {
 }
 
 /// Calls `plan`, `world` or `validate` on a message.
-fn answer_to(alloc: Global, call: Call, asked: &Asked<'_>, buffer: &mut [u8]) -> Answer {
+fn answer_to(alloc: Global, call: &str, asked: &Asked<'_>, buffer: &mut [u8]) -> Answer {
     let (seed, message, modules) = (row_seed(), asked.message, asked.modules);
     match call {
-        Call::Plan => plan(alloc, seed, message, modules, buffer),
-        Call::World => world(alloc, seed, message, modules, buffer),
+        "plan_into" => plan(alloc, seed, message, modules, buffer),
+        "world_into" => world(alloc, seed, message, modules, buffer),
         _ => {
             let name = first_of(asked.names);
             validate(alloc, seed, message, modules, name, buffer)

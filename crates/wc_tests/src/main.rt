@@ -3,13 +3,14 @@
 
 mod answers;
 mod call_example;
-mod calls;
 mod fault_lists;
-mod law_calls;
 mod library_calls;
+mod path_calls;
 mod program;
 mod program_runs;
+mod segment_calls;
 mod wcplan_calls;
+mod wctrim_calls;
 mod wcwhy_calls;
 
 use std::process::ExitCode;

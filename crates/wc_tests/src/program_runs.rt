@@ -30,6 +30,14 @@ struct Written {
     bytes: Vec<u8>,
 }
 
+/// Why a file can't be written, by its path, of those of `run_program`.
+const UNWRITABLE: [(&str, ErrorKind); 4] = [
+    ("full.wasm", ErrorKind::StorageFull),
+    ("fixed.wasm", ErrorKind::ReadOnlyFilesystem),
+    ("broken.wasm", ErrorKind::Other),
+    ("none/out.wasm", ErrorKind::PermissionDenied),
+];
+
 /// Why a file can't be read, by the word of its line.
 const UNREADABLE: [(&str, ErrorKind); 5] = [
     ("huge", ErrorKind::OutOfMemory),
@@ -40,14 +48,14 @@ const UNREADABLE: [(&str, ErrorKind); 5] = [
 ];
 
 /// The files of a program that a row runs: those that the row has; directories that were made, and files that were
-/// written; paths for which there is neither; and files that can't be read, with why.
+/// written; paths for which there is neither, with why; and files that can't be read, with why.
 #[derive(Drop)]
 pub(crate) struct RowFiles<'a> {
     alloc: Global,
     files: Vec<RowFile<'a>>,
     made: Vec<String>,
     written: Vec<Written>,
-    locked: Vec<&'a str>,
+    locked: Vec<(&'a str, ErrorKind)>,
     unreadable: Vec<(&'a str, ErrorKind)>,
 }
 
@@ -67,8 +75,8 @@ impl FileStore for RowFiles<'_> {
     }
 
     fn write(&mut self, path: &str, bytes: &[u8]) -> io::Result<()> {
-        if is_in(&self.locked, path) {
-            return Err(io::Error::from(ErrorKind::PermissionDenied));
+        if let Some(kind) = named(&self.locked, path) {
+            return Err(io::Error::from(kind));
         }
         let path = String::from_str(self.alloc, path)?;
         let bytes = Vec::from_slice(self.alloc, bytes)?;
@@ -85,8 +93,8 @@ impl DirectoryStore for RowFiles<'_> {
     ghost makes = { λ _ _. ⊤ };
 
     fn make_directory(&mut self, path: &str) -> io::Result<()> {
-        if is_in(&self.locked, path) {
-            return Err(io::Error::from(ErrorKind::PermissionDenied));
+        if let Some(kind) = named(&self.locked, path) {
+            return Err(io::Error::from(kind));
         }
         let path = String::from_str(self.alloc, path)?;
         match self.made.push(path) {
@@ -98,10 +106,6 @@ impl DirectoryStore for RowFiles<'_> {
     fn replace(&mut self, path: &str, bytes: &[u8]) -> io::Result<()> {
         self.write(path, bytes)
     }
-}
-
-fn is_in(paths: &[&str], path: &str) -> bool {
-    paths.iter().any(|one| *one == path)
 }
 
 impl<'a> RowFiles<'a> {
@@ -126,7 +130,7 @@ impl<'a> RowFiles<'a> {
             return self.begin(path, word == "text");
         }
         if word == "locked" {
-            return Ok(self.locked.push(path)?);
+            return Ok(self.locked.push((path, ErrorKind::PermissionDenied))?);
         }
         match named(&UNREADABLE, word) {
             Some(kind) => Ok(self.unreadable.push((path, kind))?),
@@ -143,6 +147,22 @@ impl<'a> RowFiles<'a> {
         })?;
         Ok(())
     }
+}
+
+/// The files of `run_program`: `in.wasm` has these bytes, `huge.wasm` is too large for memory, and those of `UNWRITABLE` can't
+/// be written.
+pub(crate) fn module_files(alloc: Global, bytes: Vec<u8>) -> Result<RowFiles<'static>, Stop> {
+    let mut files = RowFiles::new(alloc);
+    files.files.push(RowFile {
+        path: "in.wasm",
+        bytes,
+        is_text: false,
+    })?;
+    files
+        .unreadable
+        .push(("huge.wasm", ErrorKind::OutOfMemory))?;
+    files.locked.extend_from_slice(&UNWRITABLE)?;
+    Ok(files)
 }
 
 /// Appends a line to the last file.
@@ -236,7 +256,7 @@ pub(crate) fn shell_of<'a>(
 }
 
 /// An output that takes so many puts and flushes.
-fn screen(alloc: Global, calls: u32) -> Result<Printed, AllocError> {
+pub(crate) fn screen(alloc: Global, calls: u32) -> Result<Printed, AllocError> {
     Ok(Printed {
         bytes: Vec::with_capacity(alloc, ROOM)?,
         calls,
@@ -260,6 +280,23 @@ pub(crate) fn put_ended(status: u8, shell: &RowShell<'_>, out: &mut Lines) -> Re
     writeln!(out, "status {status}");
     put_files(out, &shell.files);
     Ok(())
+}
+
+/// Puts what `run_program` printed, its status, and the bytes that it wrote.
+pub(crate) fn put_module_ended(
+    status: u8,
+    printed: &Printed,
+    files: &RowFiles<'_>,
+    out: &mut Lines,
+) {
+    put_printed(out, "printed", &printed.bytes);
+    writeln!(out, "status {status}");
+    for file in &files.written {
+        put_bytes_lines(out, "bytes", &file.bytes);
+    }
+    if files.written.is_empty() {
+        out.push_str("no file\n");
+    }
 }
 
 /// Puts what was printed, in lines after a word.

@@ -2,34 +2,24 @@
 
 use crate::program_runs::{put_ended, shell_of, texts_of};
 use std::alloc::Global;
-use wc_lines::input::{Stop, bad_row, end_answer};
+use wc_lines::input::{Stop, bad_row, end_answer, number_of};
 use wc_lines::lines::Lines;
 use wc_lines::rows::Row;
 use wcplan_command::{Command, NoCommand, parse, run};
 
-/// The calls of a command line and the program.
-#[derive(Clone, Copy)]
-pub(crate) enum Call {
-    Parse,
-    Program,
-    /// The program, over an output for faults that takes nothing.
-    Mute,
-    Failing,
-}
-
-/// Appends the answer of a call of `wcplan_command`.
-pub(crate) fn answer(alloc: Global, call: Call, row: &Row<'_>, out: &mut Lines) {
-    let answered = answer_call(alloc, call, row, out);
+/// Appends the answer of a call of `wcplan_command`. False where a row has another call.
+pub(crate) fn answer(alloc: Global, row: &Row<'_>, out: &mut Lines) -> bool {
+    let all = &row.arguments;
+    let answered = match row.call {
+        "parse_wcplan" => answer_parse(alloc, row, out),
+        "wcplan" => answer_program(alloc, row, (u32::MAX, u32::MAX), all, out),
+        // an output for faults that takes nothing
+        "wcplan_mute" => answer_program(alloc, row, (u32::MAX, 0), all, out),
+        "wcplan_failing" => answer_failing(alloc, row, out),
+        _ => return false,
+    };
     end_answer(answered, out);
-}
-
-fn answer_call(alloc: Global, call: Call, row: &Row<'_>, out: &mut Lines) -> Result<(), Stop> {
-    match call {
-        Call::Parse => answer_parse(alloc, row, out),
-        Call::Program => answer_program(alloc, row, (u32::MAX, u32::MAX), &row.arguments, out),
-        Call::Mute => answer_program(alloc, row, (u32::MAX, 0), &row.arguments, out),
-        Call::Failing => answer_failing(alloc, row, out),
-    }
+    true
 }
 
 /// `parse_wcplan`: what the command of these arguments, one a line, is.
@@ -96,10 +86,8 @@ fn answer_failing(alloc: Global, row: &Row<'_>, out: &mut Lines) -> Result<(), S
     let Some((calls, arguments)) = row.arguments.as_slice().split_first() else {
         return Err(bad_row(out, "no number", row.call));
     };
-    match calls.parse::<u32>() {
-        Ok(calls) => answer_program(alloc, row, (calls, u32::MAX), arguments, out),
-        Err(_) => Err(bad_row(out, "no number", calls)),
-    }
+    let calls = number_of(out, "no number", calls)?;
+    answer_program(alloc, row, (calls, u32::MAX), arguments, out)
 }
 
 /// `wcplan ARGUMENT..`: what the program prints, its status, and the directory and each file that it makes. `calls` are

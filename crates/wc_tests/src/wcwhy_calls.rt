@@ -2,25 +2,22 @@
 
 use crate::program_runs::{put_ended, shell_of, texts_of};
 use std::alloc::Global;
-use wc_lines::input::{Stop, bad_row, end_answer};
+use wc_lines::input::{Stop, bad_row, end_answer, number_of};
 use wc_lines::lines::Lines;
 use wc_lines::rows::Row;
 use wcwhy_command::run;
 
-/// The calls of the program.
-#[derive(Clone, Copy)]
-pub(crate) enum Call {
-    Program,
-    Failing,
-}
-
-/// Appends the answer of a call of `wcwhy_command`.
-pub(crate) fn answer(alloc: Global, call: Call, row: &Row<'_>, out: &mut Lines) {
-    let answered = match call {
-        Call::Program => answer_program(alloc, row, u32::MAX, &row.arguments, out),
-        Call::Failing => answer_failing(alloc, row, out),
-    };
-    end_answer(answered, out);
+/// Appends the answer of a call of `wcwhy_command`. False where a row has another call.
+pub(crate) fn answer(alloc: Global, row: &Row<'_>, out: &mut Lines) -> bool {
+    match row.call {
+        "wcwhy" => end_answer(
+            answer_program(alloc, row, u32::MAX, &row.arguments, out),
+            out,
+        ),
+        "wcwhy_failing" => end_answer(answer_failing(alloc, row, out), out),
+        _ => return false,
+    }
+    true
 }
 
 /// `wcwhy_failing CALLS ARGUMENT..`: the program, over an output that takes so many puts and flushes.
@@ -28,10 +25,8 @@ fn answer_failing(alloc: Global, row: &Row<'_>, out: &mut Lines) -> Result<(), S
     let Some((calls, arguments)) = row.arguments.as_slice().split_first() else {
         return Err(bad_row(out, "no number", row.call));
     };
-    match calls.parse::<u32>() {
-        Ok(calls) => answer_program(alloc, row, calls, arguments, out),
-        Err(_) => Err(bad_row(out, "no number", calls)),
-    }
+    let calls = number_of(out, "no number", calls)?;
+    answer_program(alloc, row, calls, arguments, out)
 }
 
 /// `wcwhy ARGUMENT..`: what the program prints, and its status. `calls` is how many puts and flushes its output takes.

@@ -1,8 +1,6 @@
 //! The calls of `wc_validate`.
 
-use crate::validation::answers::{
-    PutAbout, PutAsked, put_last_about, put_last_asked, put_last_fault,
-};
+use crate::validation::answers::{PutAsked, put_last_asked};
 use crate::validation::described_modules::{DescribedModule, described_of};
 use crate::validation::explained::{
     AdapterModule, AmongInterfaces, MainModule, explain_adapter, explain_main,
@@ -19,6 +17,7 @@ use wc_fixtures::resolve_calls::argument_words;
 use wc_fixtures::stop::{Stop, put_answered};
 use wc_fixtures::words::Words;
 use wc_lines::lines::Lines;
+use wc_lines::put_last::{PutAbout, put_last_about, put_last_fault};
 use wc_lines::rows::Row;
 use wc_lines::values::put_fault;
 use wc_name_rows::shown_imports::put_copy;
@@ -26,17 +25,6 @@ use wc_read::ReadFault;
 use wc_validate::{
     ImportInstance, ValidateFault, ValidatedModule, WorldInterfaces, validate_module,
 };
-
-/// The calls on an encoder, and that for the texts of faults.
-#[derive(Clone, Copy)]
-pub enum Call {
-    Classify,
-    ClassifyExport,
-    Exports,
-    Module,
-    AdapterModule,
-    Faults,
-}
 
 /// Puts the answer to the words after a call: of the exports `reallocs`; of the imports `imports`, `memory`,
 /// `required ADAPTER`, or all that is recorded.
@@ -311,42 +299,47 @@ fn put_module<'a>(
     put_described(encoder, row, words, out)
 }
 
-/// Answers a call on the modules that a row describes for an encoder.
+/// Answers the call of a row on the modules that it describes for an encoder.
 fn on_encoder<'a>(
     alloc: Global,
-    call: Call,
     encoder: &ComponentEncoder,
     row: &'a Row<'a>,
     out: &mut Lines,
 ) -> Result<(), Stop<'a>> {
-    match call {
-        Call::Classify => classify(alloc, encoder, row, out),
-        Call::ClassifyExport => classify_exports(alloc, encoder, row, out),
-        Call::Exports => put_recorded(alloc, encoder, row, out),
-        Call::AdapterModule => put_adapter(encoder, row, &mut argument_words(alloc, row)?, out),
+    match row.call {
+        "classify" => classify(alloc, encoder, row, out),
+        "classify_export" => classify_exports(alloc, encoder, row, out),
+        "validated_exports" => put_recorded(alloc, encoder, row, out),
+        "validate_adapter_module" => {
+            put_adapter(encoder, row, &mut argument_words(alloc, row)?, out)
+        }
         _ => put_module(encoder, row, &mut argument_words(alloc, row)?, out),
     }
 }
 
-fn answered<'a>(
-    alloc: Global,
-    call: Call,
-    row: &'a Row<'a>,
-    out: &mut Lines,
-) -> Result<(), Stop<'a>> {
-    if matches!(call, Call::Faults) {
-        put_faults(alloc, out);
-        return Ok(());
-    }
+fn answered<'a>(alloc: Global, row: &'a Row<'a>, out: &mut Lines) -> Result<(), Stop<'a>> {
     match described_encoder(alloc, row) {
-        Ok(encoder) => on_encoder(alloc, call, &encoder, row, out),
+        Ok(encoder) => on_encoder(alloc, &encoder, row, out),
         Err(stop) => Err(stop),
     }
 }
 
-/// Appends the answer of a call of `wc_validate`.
-pub fn answer(alloc: Global, call: Call, row: &Row<'_>, out: &mut Lines) {
+/// Appends the answer of a call of `wc_validate`. False where a row has another call.
+pub fn answer(alloc: Global, row: &Row<'_>, out: &mut Lines) -> bool {
+    match row.call {
+        "validate_faults" => {
+            put_faults(alloc, out);
+            return true;
+        }
+        "classify"
+        | "classify_export"
+        | "validated_exports"
+        | "validate_module"
+        | "validate_adapter_module" => {}
+        _ => return false,
+    }
     let mut lines = Lines::new(alloc);
-    let answered = answered(alloc, call, row, &mut lines);
+    let answered = answered(alloc, row, &mut lines);
     put_answered(out, answered, &lines);
+    true
 }

@@ -1,10 +1,10 @@
 //! Places of faults of modules.
 
-use crate::validation::answers::{PutAbout, put_last_about};
 use std::alloc::Global;
 use wc_dedupe::ModuleImportMap;
 use wc_encoder::{Adapter, ComponentEncoder};
 use wc_lines::lines::Lines;
+use wc_lines::put_last::{PutAbout, put_last_about};
 use wc_lines::values::put_refused;
 use wc_maps::Map;
 use wc_read::FuncType;
@@ -17,38 +17,17 @@ use wc_validate::{
 /// The record of a module, or why it is refused and what that is about.
 type Explained = Result<ValidatedModule, Refused<ValidateFault, Place>>;
 
-/// Lines that another call has put.
+/// That it is asked why a module is refused.
 #[derive(Clone, Copy)]
-struct OtherLines<'a> {
-    lines: &'a Lines,
-}
+struct WhyRefused;
 
-/// The lines of a module that is refused, or `ok`.
-fn put_explained(explained: &Explained, out: &mut Lines) {
-    match explained {
-        Ok(_) => out.push_str("ok\n"),
-        Err(refused) => put_refused(out, refused),
-    }
-}
-
-impl<'a> PutAbout<OtherLines<'a>> for Explained {
-    /// Puts why a module is refused, and what that is about, unless that is as another call answered it.
-    fn put_about(&self, alloc: Global, others: &OtherLines<'a>, out: &mut Lines) {
-        let mut lines = Lines::new(alloc);
-        put_explained(self, &mut lines);
-        if lines.text() != others.lines.text() {
-            out.push_lines(&lines);
+impl PutAbout<WhyRefused> for Explained {
+    /// Puts why a module is refused, and what that is about, or `ok`.
+    fn put_about(&self, _alloc: Global, _about: &WhyRefused, out: &mut Lines) {
+        match self {
+            Ok(_) => out.push_str("ok\n"),
+            Err(refused) => put_refused(out, refused),
         }
-    }
-}
-
-/// That the answer of one call alone is put.
-#[derive(Clone, Copy)]
-struct Alone;
-
-impl PutAbout<Alone> for Explained {
-    fn put_about(&self, _alloc: Global, _about: &Alone, out: &mut Lines) {
-        put_explained(self, out);
     }
 }
 
@@ -73,7 +52,7 @@ pub(crate) fn explain_main(alloc: Global, checked: &MainModule<'_>, out: &mut Li
     let encoder = checked.encoder;
     encoder.well_formedness();
     let answer = validate_module_explained(alloc, encoder, checked.bytes, checked.renames);
-    put_last_about(alloc, &Alone, answer, out);
+    put_last_about(alloc, &WhyRefused, answer, out);
 }
 
 /// A module, as one of an encoder's adapters, of which these functions are required.
@@ -136,7 +115,7 @@ impl AmongInterfaces<'_> {
 
     /// Puts why the module is refused by these interfaces, and what that is about.
     pub(crate) fn explain(&self, alloc: Global, out: &mut Lines) {
-        put_last_about(alloc, &Alone, self.validated_explained(alloc), out);
+        put_last_about(alloc, &WhyRefused, self.validated_explained(alloc), out);
     }
 
     /// The record of the module, or why it is refused, and what that is about.
@@ -153,37 +132,7 @@ impl AmongInterfaces<'_> {
     }
 }
 
-impl<'a> PutAbout<OtherLines<'a>> for AmongInterfaces<'_> {
-    fn put_about(&self, alloc: Global, others: &OtherLines<'a>, out: &mut Lines) {
-        put_last_about(alloc, others, self.validated_explained(alloc), out);
-    }
-}
-
-/// Appends why a module is refused by interfaces that are made for one module, and what that is about, unless that is as
-/// another call answered it.
-fn put_among(alloc: Global, checked: &AdapterModule<'_>, others: &Lines, out: &mut Lines) {
-    match WorldInterfaces::new(alloc, checked.encoder, 1) {
-        Ok(interfaces) => {
-            let among = AmongInterfaces {
-                checked: *checked,
-                interfaces,
-            };
-            put_last_about(alloc, &OtherLines { lines: others }, among, out);
-        }
-        Err(_) => out.lack_memory(),
-    }
-}
-
-/// Why a module is refused as one of an encoder's adapters, and what that is about, as two calls answer it; once, where
-/// they agree.
+/// Why a module is refused as one of an encoder's adapters, and what that is about.
 pub(crate) fn explain_adapter(alloc: Global, checked: &AdapterModule<'_>, out: &mut Lines) {
-    let mut lines = Lines::new(alloc);
-    put_last_about(
-        alloc,
-        &Alone,
-        checked.validated_explained(alloc),
-        &mut lines,
-    );
-    out.push_lines(&lines);
-    put_among(alloc, checked, &lines, out);
+    put_last_about(alloc, &WhyRefused, checked.validated_explained(alloc), out);
 }

@@ -1,6 +1,5 @@
 //! Records of a module's exports, and look-ups in them.
 
-use crate::validation::answers::{PutAbout, put_last_about};
 use crate::validation::described_modules::{DescribedModule, described_of};
 use std::alloc::Global;
 use wc_encoder::ComponentEncoder;
@@ -12,8 +11,8 @@ use wc_fixtures::stop::{Stop, put_answered};
 use wc_fixtures::types::type_id;
 use wc_fixtures::words::Words;
 use wc_lines::lines::Lines;
+use wc_lines::put_last::{PutAbout, put_last_about};
 use wc_lines::rows::Row;
-use wc_lines::table::named;
 use wc_validate::{ExportMap, ValidateFault, ValidatedModule, validate_module};
 
 /// `NAME: EXPORT`, for each export that is recorded.
@@ -62,48 +61,6 @@ pub fn put_found_reallocs(exports: &ExportMap, out: &mut Lines) {
     out.push('\n');
 }
 
-/// A question to the exports of one kind.
-#[derive(Clone, Copy)]
-enum OfKind {
-    Reallocs,
-    Memory,
-    GeneralPurposeRealloc,
-    ImportReallocFallback,
-    ReallocToImportIntoAdapter,
-    IndirectFunctionTable,
-    WasmTaskHook,
-    Initialize,
-}
-
-const OF_KINDS: [(&str, OfKind); 8] = [
-    ("reallocs", OfKind::Reallocs),
-    ("memory", OfKind::Memory),
-    ("general_purpose_realloc", OfKind::GeneralPurposeRealloc),
-    ("import_realloc_fallback", OfKind::ImportReallocFallback),
-    (
-        "realloc_to_import_into_adapter",
-        OfKind::ReallocToImportIntoAdapter,
-    ),
-    ("indirect_function_table", OfKind::IndirectFunctionTable),
-    ("wasm_task_hook", OfKind::WasmTaskHook),
-    ("initialize", OfKind::Initialize),
-];
-
-fn put_of_kind(exports: &ExportMap, question: OfKind, out: &mut Lines) {
-    match question {
-        OfKind::Reallocs => put_reallocs(exports, out),
-        OfKind::Memory => put_memory(exports, out),
-        OfKind::GeneralPurposeRealloc => put_found(exports.general_purpose_realloc(), out),
-        OfKind::ImportReallocFallback => put_found(exports.import_realloc_fallback(), out),
-        OfKind::ReallocToImportIntoAdapter => {
-            put_found(exports.realloc_to_import_into_adapter(), out)
-        }
-        OfKind::IndirectFunctionTable => put_found(exports.indirect_function_table(), out),
-        OfKind::WasmTaskHook => put_found(exports.wasm_task_hook(), out),
-        OfKind::Initialize => put_found(exports.initialize(), out),
-    }
-}
-
 /// Puts the answer for a function, `KEY func NAME: FUNCTION`.
 fn put_of_function(
     exports: &ExportMap,
@@ -139,12 +96,21 @@ fn put_of_name(
     Ok(())
 }
 
-/// The answer to a question: `resource_dtor ID`, `abi KEY func NAME: FUNCTION`, ...
+/// The answer to a question: `memory`, `resource_dtor ID`, `abi KEY func NAME: FUNCTION`, ...
 fn put_answer(exports: &ExportMap, words: &mut Words, out: &mut Lines) -> Result<(), Bad> {
     let question = words.name()?;
-    match named(&OF_KINDS, &question) {
-        Some(question) => put_of_kind(exports, question, out),
-        None => put_of_item(exports, &question, words, out)?,
+    match question.as_str() {
+        "reallocs" => put_reallocs(exports, out),
+        "memory" => put_memory(exports, out),
+        "general_purpose_realloc" => put_found(exports.general_purpose_realloc(), out),
+        "import_realloc_fallback" => put_found(exports.import_realloc_fallback(), out),
+        "realloc_to_import_into_adapter" => {
+            put_found(exports.realloc_to_import_into_adapter(), out)
+        }
+        "indirect_function_table" => put_found(exports.indirect_function_table(), out),
+        "wasm_task_hook" => put_found(exports.wasm_task_hook(), out),
+        "initialize" => put_found(exports.initialize(), out),
+        _ => put_of_item(exports, &question, words, out)?,
     }
     words.end()
 }
@@ -189,14 +155,20 @@ fn put_answers<'a>(
     Ok(())
 }
 
-impl<'a> PutAbout<Row<'a>> for Result<ValidatedModule, ValidateFault> {
+/// The lines of a row, some of which ask about exports.
+#[derive(Clone, Copy)]
+struct Questions<'a> {
+    input: &'a [&'a str],
+}
+
+impl<'a> PutAbout<Questions<'a>> for Result<ValidatedModule, ValidateFault> {
     /// Puts the record of the exports, and the answers to the questions of a row.
-    fn put_about(&self, alloc: Global, row: &Row<'a>, out: &mut Lines) {
+    fn put_about(&self, alloc: Global, asked: &Questions<'a>, out: &mut Lines) {
         match self {
             Ok(validated) => {
                 put_exports(&validated.exports, out);
                 let mut lines = Lines::new(alloc);
-                let answered = put_answers(alloc, &validated.exports, &row.input, &mut lines);
+                let answered = put_answers(alloc, &validated.exports, asked.input, &mut lines);
                 put_answered(out, answered, &lines);
             }
             Err(fault) => writeln!(out, "fault {fault}"),
@@ -214,7 +186,8 @@ pub(crate) fn put_recorded<'a>(
     let bytes = described_of(alloc, &row.input)?.into_bytes(alloc)?;
     encoder.well_formedness();
     let validated = validate_module(alloc, encoder, &bytes, None);
-    put_last_about(alloc, row, validated, out);
+    let asked = Questions { input: &row.input };
+    put_last_about(alloc, &asked, validated, out);
     Ok(())
 }
 
