@@ -11,8 +11,10 @@ It prints a line for each thing that is wrong, and ends with status 1 where ther
   begin with `>`) are left out; cells of tables, and items of lists, are texts of their own;
 - names in backquotes: paths of files are there. The words of a name, of a path of names (`a::b`) and of a call
   (`a.b(c)`) occur in the sources, comments aside; so do names of two words and more with hyphens, as those of edits;
+- commands, in backquotes and in blocks of code: of the repository's scripts the script is there, and its source has each
+  option; of the programs the usage text has it (`checks/page-commands.py` runs them);
 - README.md: its lines have at most 120 columns, and KIT is one line;
-- docs/MAP.md has a row for each crate, in the order of crates.txt, and each crate is in its drawing;
+- docs/MAP.md has a row for each crate, in the order of crates.txt;
 - docs/PERFORMANCE.md: each table comes after a date in its section;
 - a library's README: each public function says in its source what it does, and each variant of a fault when it comes; a
   function is on the page unless it is of a type;
@@ -34,7 +36,7 @@ from repository import TOP, exports_of_crate, functions_of, libraries, used_by_c
 TOP = str(TOP)
 MOST_WORDS = 40
 # parts of paths of files that are made, and may be missing
-MADE = ("out/", "bench/data", "checks/data", "lang/antt/", "target/", "rust/unproved")
+MADE = ("out/", "bench/data", "checks/data", "lang/antt/", "target/", "rust/unproved", "nuigatre.wasm")
 # files that programs and scripts write
 WRITTEN = {"out.wasm", "main.wasm", "adapter.wasm", "hello.wasm", "no-repeats.wasm", "one-repeat.wasm", "repeats-10000.wasm",
            "repeats-100000.wasm"}
@@ -181,11 +183,11 @@ def words_of_sources():
     words = set()
     sources = [path for part in ("src", "specs", "proofs", "data", "must-fail")
                for path in files("crates", "*", part, "**", "*")]
-    others = [path for part in ("edits", "examples", "checks", "bench") for path in files(part, "**", "*")]
+    others = [path for part in ("edits", "examples", "checks", "bench", "web", "python") for path in files(part, "**", "*")]
     others += files("rust", "*") + [path for part in ("src", "tests", "examples")
                                     for path in files("rust", "nuigatre", part, "**", "*.rs")]
     for path in [*sources, *others, *files("tools", "*"), *files("crates.txt"), *files("HANDLES"), *files("wctrim")]:
-        is_text = not path.endswith((".wasm", ".md", "check-docs.py")) and "/data/" not in path.replace("/wc_tests/data/", "/")
+        is_text = not path.endswith((".wasm", ".so", ".pyc", ".md", "check-docs.py")) and "/data/" not in path.replace("/wc_tests/data/", "/")
         if os.path.isfile(path) and is_text:
             for text in (code_of(path), os.path.relpath(path, TOP)):
                 words.update(re.findall(r"\w+", text))
@@ -200,7 +202,7 @@ def names_in_crates():
 
 @functools.cache
 def folders_of_crates():
-    return [TOP, *files("include"), *files("crates"), *files("crates", "*"), *files("crates", "*", "*")]
+    return [TOP, *files("include"), *files("web"), *files("crates"), *files("crates", "*"), *files("crates", "*", "*")]
 
 
 def is_file(document, name):
@@ -250,6 +252,47 @@ def check_names(document, words):
                     is_pattern = is_pattern or is_numbered
                     if word not in words and word not in FOREIGN and not is_pattern:
                         fault(document, number, f"no {word} in the sources")
+
+
+# Commands: scripts of the repository, and its programs.
+
+SCRIPT = r"(?:\./|\.\./)*((?:checks|bench|edits|rust|tools|examples/wasi|\.ci)/[\w.-]+|web/\w+\.py|wctrim|wcplan|wcwhy|wctests)"
+
+
+def commands_of(document):
+    """The commands of a document that call a script or a program: (number of the line, words)."""
+    text = re.sub(r" *\\\n *", " ", read(document))
+    for number, line in enumerate(text.split("\n"), 1):
+        found = [line.strip()] if line.startswith("    ") or line.startswith("$ ") else []
+        for command in [*found, *re.findall(r"`([^`]+)`", line)]:
+            words = re.sub(r"^(\$ |# )", "", re.sub(r"^(\w+=\S+ )+", "", command)).split("#")[0].split()
+            if words and re.fullmatch(SCRIPT, words[0]):
+                yield number, words
+
+
+@functools.cache
+def options_of(script):
+    """The text that has the options of a script or of a program."""
+    if script in ("wctrim", "wcplan", "wcwhy"):
+        return read(os.path.join(TOP, "docs", script.upper() + ".md")).split("## ")[0] + read(os.path.join(TOP, "wctrim")).split("\nsay()")[0]
+    if script == "wctests":
+        return read(os.path.join(TOP, "wctrim"))
+    path = os.path.join(TOP, script)
+    return read(path) if os.path.isfile(path) else ""
+
+
+def check_commands(document):
+    for number, words in commands_of(document):
+        script = re.fullmatch(SCRIPT, words[0])[1]
+        if re.search(r"/[A-Z]+$", script):
+            continue
+        if script not in ("wctrim", "wcplan", "wcwhy", "wctests") and not os.path.exists(os.path.join(TOP, script)):
+            if not any(made in script for made in MADE):
+                fault(document, number, f"no script {script}")
+            continue
+        for option in re.findall(r"(?<!\S)(--[a-z][\w-]*)", " ".join(words[1:])):
+            if option != "--help" and not re.search(rf"{option}(?![\w-])|\"{option[2:]}\"", options_of(script)):
+                fault(document, number, f"{script} has no option {option}")
 
 
 # Crates: what is public in them, and the clauses of their functions.
@@ -367,7 +410,9 @@ def check_public(document, crate):
     spans = [span for _, _, text in texts_of(document) for span in re.findall(r"`([^`]+)`", text)]
     named = {word for span in spans for word in re.findall(r"\w+", span)}
     for path in sorted(crate.silent):
-        fault(document, 1, f"{path} has no doc in its source")
+        # its contracts say it: readers of bytes, which only crates of this repository call
+        if crate.name != "wc_read" or path.split("::")[0] not in ("Reader", "Spelled"):
+            fault(document, 1, f"{path} has no doc in its source")
     for path in sorted(crate.public):
         if path not in crate.members and not named & set(path.split("::")):
             fault(document, 1, f"{path} is not on the page")
@@ -404,16 +449,13 @@ def check_crate(crate, is_library):
 
 
 def check_list():
-    """The list of crates in MAP: each crate is in the drawing and in a row, and the rows are in the order of crates.txt, by
-    their first crates."""
+    """The list of crates in MAP: each crate is in a row, and the rows are in the order of crates.txt, by their first crates.
+    (Each is in the picture as well: tools/pictures.py.)"""
     document = os.path.join(TOP, "docs", "MAP.md")
     rows, crates, last = list(rows_of(document)), list(used_by_crates()), -1
-    drawn = set(re.findall(r"\w+", read(document).split("```")[1]))
     for crate in crates:
         if not any(f"[{crate}](" in cells[0] for _, cells in rows):
             fault(document, 1, f"no row for {crate}")
-        if crate not in drawn and not (crate.endswith("_command") and "_command" in drawn):
-            fault(document, 1, f"{crate} is not in the drawing")
     for number, cells in rows:
         first = re.match(r"\[(\w+)\]\(\.\./crates/", cells[0])
         if first and first[1] in crates:
@@ -452,6 +494,7 @@ def main():
         check_tables(document)
         check_sentences(document)
         check_names(document, words)
+        check_commands(document)
     check_top()
     check_list()
     check_dates()

@@ -48,25 +48,18 @@ KINDS = ("memory", "rows", "program", "wrong")
 WHOLE = {
     "frames", "read_imports", "read_module", "read_body", "read_init", "write_import_section", "append_import_section",
     "rewrite_import_section", "write_body", "write_module", "raw_section", "append_raw_section", "dedupe",
-    "dedupe_owned", "read_deduped", "dedupe_imports", "execute", "run_program", "liveness_counted", "trim", "trim_for",
+    "dedupe_owned", "read_deduped", "dedupe_imports", "run_program", "liveness_counted", "trim", "trim_for",
     "realloc_via_memory_grow", "allocate_stack_via_realloc", "component_world", "plan", "validate_module",
     "validate_adapter_module", "resolve_build", "encoder_build", "live_types", "document", "wcplan", "wcplan_mute",
 }
 
 # Calls that run wcplan or wcwhy. Where memory runs out in the store of files, which is the row's, a directory can't be made, or
 # a file can't be read or written.
-PROGRAMS = {"wcplan", "wcplan_failing", "wcplan_mute", "wcwhy", "wcwhy_failing"}
-STORE = ("error wcplan: cannot make directory ", "error wcplan: cannot write ", "error wcwhy: cannot read ")
+PROGRAMS = {"wcplan", "wcplan_failing", "wcplan_mute", "wcwhy", "wcwhy_failing", "run_program"}
+STORE = ("error wcplan: cannot make directory ", "error wcplan: cannot write ", "error wcwhy: cannot read ", "printed wctrim: cannot write ")
 # How a line ends that says that memory ran out, also where it is JSON.
 ENDED = re.compile(r'out of memory(","place":null\})?$')
 
-# What else calls answer where memory ran out: one of many runs of samples does not agree, and a body that could not be
-# read is no code.
-UNCOUNTED = [
-    ("growing_samples", ["agree 1999"]),
-    ("lazy_samples", ["agree 1999"]),
-    ("machine", ['bad row: no code ""']),
-]
 
 
 def build(folder):
@@ -170,8 +163,6 @@ def is_memory(row, lines):
         return False
     if len(expected) + len(actual) != len(lines) - 2 or not actual:
         return False
-    if (row.call, actual) in UNCOUNTED:
-        return True
     if row.call in PROGRAMS and actual[0].startswith(STORE):
         return True
     for place, line in enumerate(actual):

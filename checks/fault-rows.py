@@ -1,10 +1,11 @@
 #!/usr/bin/env python3
 """Prints, for each fault of each library, a row of tests that reaches it, and for each fault that has a place a row that
-shows it, as the tables of docs/ROWS.md.
+shows it, as the lists in checks/fault-rows.txt. And makes the tables of faults on the pages of the programs (TABLES), of the
+docs of each variant in the sources, and of what to do about it (checks/fault-hints.txt).
 
-    fault-rows.py            prints the tables
-    fault-rows.py --write    writes them into docs/ROWS.md
-    fault-rows.py --check    compares them with those of docs/ROWS.md; status 1 where they differ
+    fault-rows.py            prints the lists
+    fault-rows.py --write    writes them into checks/fault-rows.txt, and the tables into the pages
+    fault-rows.py --check    compares them with that file, and with the pages; status 1 where they differ
 
 The faults and their texts are those of the definitions in specs/ (tools/fault_texts.py); the text of a variant for `Display`,
 `#[error("..")]`, has to be the same. A row reaches a fault where it wants the fault's text of
@@ -13,6 +14,7 @@ and Memory is reached where an allocation fails (failing-allocations.py). The fa
 for those of UNPLACED; a row shows one where it wants it after the fault. The status is 1 where any other fault has no row.
 """
 import argparse
+import functools
 import pathlib
 import re
 import sys
@@ -21,9 +23,18 @@ sys.path.append(str(pathlib.Path(__file__).resolve().parent.parent / "tools"))
 from fault_texts import texts_of_faults
 from repository import TOP, files_of, libraries, put_between, row_files
 
-PAGE = TOP / "docs" / "ROWS.md"
-MARKS = {name: ("<!-- fault-rows.py: %s begin -->\n" % name, "<!-- fault-rows.py: %s end -->\n" % name)
-         for name in ("faults", "places")}
+FILE = TOP / "checks" / "fault-rows.txt"
+HINTS = TOP / "checks" / "fault-hints.txt"
+# how many words a sentence on a page may have (check-docs.py)
+MOST_WORDS = 40
+
+# The tables on pages: the enum, the page, the title of the first column, and what is printed before the fault's text.
+TABLES = [
+    ("DedupeFault", "docs/WCTRIM.md", "Line of dedupe", "wctrim: Dedupe: "),
+    ("GcFault", "docs/WCTRIM.md", "Line of trim", "wctrim: Trim: "),
+    ("ReadFault", "docs/WCTRIM.md", "FAULT", ""),
+    ("ValidateFault", "docs/WCPLAN.md", "FAULT", ""),
+]
 
 # The enums of faults, and the calls that answer them.
 ANSWERED = {
@@ -36,18 +47,18 @@ ANSWERED = {
         "classify, classify_export, validate_module, validate_adapter_module, validated_exports, example "
         "imported_memory",
     "GcFault":
-        "explain_trim, liveness_counted, trim, trim_for, unfolding_trimmed, why, why_imports, call_chain, example "
+        "explain_trim, liveness_counted, trim, trim_for, why, why_imports, call_chain, example "
         "reaches_memory, example trim_both",
     "WorldFault": "component_world, example can_use_slot_1, example summary",
     "PlanFault": "plan, plan_explain, plan_failing, plan_without_lowerings, example printed_plan",
-    "CommandFault": "execute, execute_failing, each_put_failing",
+    "CommandFault": "each_put_failing",
     "PutFailed": "writer_sink",
     "RunFault": "run_program",
     "Usage": "parse",
     "WhyFault": "wcwhy, wcwhy_failing",
     "ProgramFault": "wcplan, wcplan_failing",
     "NoCommand": "parse_wcplan",
-    "MessageFault": "plan_into, world_into, validate_into",
+    "MessageFault": "plan_into, world_into, validate_into, record_into",
 }
 CALLS = {call: enum for enum, calls in ANSWERED.items() for call in calls.split(", ")}
 
@@ -61,7 +72,7 @@ def listed(reasons):
 STATED = {
     "PutFailed": ("wc_texts", [("PutFailed", "PutFailed", [])]),
     "Usage": ("wctrim_command", [("Usage", "usage", [])]),
-    "NoCommand": ("wcplan_command", [("Memory", "out of memory", []), ("Help", "help", []), ("Version", "version", []),
+    "NoCommand": ("wc_options", [("Memory", "out of memory", []), ("Help", "help", []), ("Version", "version", []),
                                      ("Wrong", "{0}", ["WrongArgument"])]),
 }
 # The calls that list the texts of all faults of an enum.
@@ -106,7 +117,7 @@ def faults():
     """Each enum of faults, and each struct that is one: its crate, and its variants."""
     found = dict(STATED)
     for (enum, crate), variants in texts_of_faults().items():
-        found["WhyWrongArgument" if (enum, crate) == ("WrongArgument", "wcwhy_command") else enum] = (crate, variants)
+        found[enum] = (crate, variants)
     crates = libraries()
     return dict(sorted(found.items(), key=lambda it: crates.index(it[1][0])))
 
@@ -158,7 +169,7 @@ def texts_in_buffer(lines):
 
 def texts(call, lines):
     """The texts of faults among a row's lines of answer."""
-    if call in ("world_into", "plan_into", "validate_into"):
+    if call in ("world_into", "plan_into", "validate_into", "record_into"):
         yield from texts_in_buffer(lines)
         return
     for line in lines:
@@ -199,7 +210,7 @@ def reached(known):
         if call not in CALLS:
             continue
         # with status 2 `wcwhy` says which argument is wrong
-        enum = "WhyWrongArgument" if call.startswith("wcwhy") and "status 2" in lines else CALLS[call]
+        enum = "WrongArgument" if call.startswith("wcwhy") and "status 2" in lines else CALLS[call]
         for text in texts(call, lines):
             faults_shown = readings(known, enum, text)
             if not faults_shown:
@@ -225,13 +236,12 @@ def unlisted(known):
 
 def shown(enum, crate, variants, name):
     """How a fault is named."""
-    enum = enum.removeprefix("Why") if enum == "WhyWrongArgument" else enum
-    return "%s of `%s`" % ("`%s`" % enum if len(variants) == 1 and name == enum else "`%s::%s`" % (enum, name), crate)
+    return "%s of %s" % (enum if len(variants) == 1 and name == enum else "%s::%s" % (enum, name), crate)
 
 
 def fault_table(known, found):
-    """The lines of the table of faults, and lines on those that have no row."""
-    lines, wrong = ["| Fault | Row |\n", "|---|---|\n"], []
+    """The lines of the list of faults, and lines on those that have no row."""
+    lines, wrong = ["# each fault, and a row that results in it\n"], []
     for enum, (crate, variants) in known.items():
         for name in dict.fromkeys(name for name, _, _ in variants):
             if name == "Memory":
@@ -243,13 +253,13 @@ def fault_table(known, found):
             else:
                 wrong.append("no row reaches `%s::%s`" % (enum, name))
                 where = "none"
-            lines.append("| %s | %s |\n" % (shown(enum, crate, variants, name), where))
+            lines.append("%s -- %s\n" % (shown(enum, crate, variants, name), where))
     return "".join(lines), wrong
 
 
 def place_table(known, places):
-    """The lines of the table of places, and lines on faults of which no row shows one, or one that there is not."""
-    lines, wrong = ["| Fault | Row that shows its place |\n", "|---|---|\n"], []
+    """The lines of the list of places, and lines on faults of which no row shows one, or one that there is not."""
+    lines, wrong = ["# each fault that may have a place, and a row that shows it\n"], []
     for enum in PLACED:
         crate, variants = known[enum]
         for name, _, _ in variants:
@@ -262,11 +272,18 @@ def place_table(known, places):
             else:
                 wrong.append("no row shows a place of `%s::%s`" % (enum, name))
                 where = "none"
-            lines.append("| %s | %s |\n" % (shown(enum, crate, variants, name), where))
+            lines.append("%s -- %s\n" % (shown(enum, crate, variants, name), where))
     return "".join(lines), wrong
 
 
 DERIVED = re.compile(r'#\[error\("((?:[^"\\]|\\.)*)"\)\]\n(?:\s*(?:///|#)[^\n]*\n)*\s*(\w+)')
+
+
+@functools.cache
+def enums_of(crate):
+    """The public enums of a crate's sources, each with its variants as they are written."""
+    return [enum for path in files_of(crate, "src", ".rt")
+            for enum in re.findall(r"^pub(?:\([^)]*\))? enum (\w+)[^{]*\{\n(.*?)^\}", path.read_text(encoding="utf-8"), re.M | re.S)]
 
 
 def unlike():
@@ -276,23 +293,79 @@ def unlike():
         for variant, shown, _ in variants:
             texts[crate].setdefault((enum, variant), set()).add(shown)
     for crate in texts:
-        for path in files_of(crate, "src", ".rt"):
-            for enum, body in re.findall(r"^pub(?:\([^)]*\))? enum (\w+)[^{]*\{\n(.*?)^\}", path.read_text(encoding="utf-8"), re.M | re.S):
-                for shown, variant in DERIVED.findall(body):
-                    known = texts[crate].get((enum, variant))
-                    # what is carried has the whole text itself
-                    if known and shown != "{0}" and shown.replace('\\"', '"') not in known:
-                        yield f"{enum}::{variant} of {crate}: Display has `{shown}`, and FaultText {', '.join(sorted(known))}"
+        for enum, body in enums_of(crate):
+            for shown, variant in DERIVED.findall(body):
+                known = texts[crate].get((enum, variant))
+                # what is carried has the whole text itself
+                if known and shown != "{0}" and shown.replace('\\"', '"') not in known:
+                    yield f"{enum}::{variant} of {crate}: Display has `{shown}`, and FaultText {', '.join(sorted(known))}"
 
 
-def tables():
-    """The tables by their names, and lines on what is wrong: faults that have no row, and texts that are those of no
-    fault."""
-    known = faults()
+# Tables on pages
+
+DOCUMENTED = re.compile(r"((?:^ *///.*\n)+)(?: *#\[.*\n)* *(\w+)", re.M)
+HINT = re.compile(r"(\w+)::([\w ]+): (.+)")
+
+
+def hints():
+    """What to do about each fault that the file of hints names."""
+    found = {}
+    for line in HINTS.read_text(encoding="utf-8").splitlines():
+        hint = HINT.fullmatch(line)
+        if hint:
+            found.update({(hint[1], name): hint[3] for name in hint[2].split()})
+        elif line and not line.startswith("#"):
+            sys.exit("checks/fault-hints.txt: no hint: " + line)
+    return found
+
+
+def causes(enum, crate):
+    """The docs of each variant of an enum, as cells of a table; up to their colon, where a sentence on a page may not be as
+    long."""
+    for docs, variant in DOCUMENTED.findall(dict(enums_of(crate))[enum]):
+        text = " ".join(re.sub(r"^///", "", line.strip()).strip() for line in docs.splitlines()).rstrip(".")
+        text = text.partition(": ")[0] if len(text.split()) > MOST_WORDS else text
+        yield variant, text[0].lower() + text[1:]
+
+
+def quoted(text):
+    """A text as code of a page."""
+    return "`` %s ``" % text if text.endswith("`") else "``%s``" % text if "`" in text else "`%s`" % text
+
+
+def page_table(known, of_user, enum, title, before):
+    """A table of the faults of an enum: what is printed, the cause, and what to do. What an earlier row says in full is not
+    repeated."""
+    crate, variants = known[enum]
+    texts_of = {name: text.format(*("NAME" if it == "String" else "FAULT" for it in types)) for name, text, types in variants}
+    lines, firsts = ["| %s | Cause | What to do |" % title, "|---|---|---|"], {}
+    for name, cause in causes(enum, crate):
+        if name == "Memory":
+            continue
+        hint = of_user.get((enum, name), "")
+        first = firsts.setdefault(hint, name)
+        cells = quoted(before + texts_of[name]), cause, hint if first == name else "as for " + quoted(texts_of[first])
+        lines.append("| %s |" % " | ".join(it.replace("|", "\\|") for it in cells))
+    return "\n".join(lines) + "\n"
+
+
+def pages(known):
+    """Each page with its tables as they have to be, and lines on faults without a hint, and on hints that are of no fault."""
+    of_user, made = hints(), {}
+    for enum, page, title, before in TABLES:
+        marks = "<!-- faults of %s: checks/fault-rows.py -->\n" % enum, "<!-- end of faults of %s -->\n" % enum
+        text = made.get(page) or (TOP / page).read_text(encoding="utf-8")
+        made[page] = put_between(text, *marks, page_table(known, of_user, enum, title, before))[0]
+    wanted = {(enum, name) for enum, *_ in TABLES for name, _, _ in known[enum][1] if name != "Memory"}
+    wrong = ["checks/fault-hints.txt has nothing on `%s::%s`" % it for it in sorted(wanted - of_user.keys())]
+    return made, wrong + ["checks/fault-hints.txt: no table has `%s::%s`" % it for it in sorted(of_user.keys() - wanted)]
+
+
+def tables(known):
+    """The lists as a text, and lines on what is wrong: faults that have no row, and texts that are those of no fault."""
     found, places, wrong = reached(known)
-    made = {"faults": fault_table(known, found), "places": place_table(known, places)}
-    wrong += [*unlisted(known), *unlike()]
-    return {name: text for name, (text, _) in made.items()}, wrong + [line for _, lines in made.values() for line in lines]
+    (faults_text, without), (places_text, unplaced) = fault_table(known, found), place_table(known, places)
+    return faults_text + "\n" + places_text, [*wrong, *unlisted(known), *unlike(), *without, *unplaced]
 
 
 def main():
@@ -301,16 +374,21 @@ def main():
     how.add_argument("--write", action="store_true")
     how.add_argument("--check", action="store_true")
     given = parser.parse_args()
-    made, wrong = tables()
-    page = PAGE.read_text()
-    for name, text in made.items():
-        page, old = put_between(page, *MARKS[name], text)
-        if given.check and old != text:
-            wrong.append("docs/ROWS.md has another table: checks/fault-rows.py --write")
-        elif not given.write and not given.check:
-            print(text)
+    known = faults()
+    made, wrong = tables(known)
+    with_tables, without = pages(known)
+    wrong += without
+    other = [name for name, text in with_tables.items() if (TOP / name).read_text(encoding="utf-8") != text]
     if given.write:
-        PAGE.write_text(page)
+        FILE.write_text(made)
+        for name in other:
+            (TOP / name).write_text(with_tables[name], encoding="utf-8")
+    elif not given.check:
+        print(made)
+    else:
+        wrong += [name + " has other tables: checks/fault-rows.py --write" for name in other]
+        if not FILE.exists() or FILE.read_text() != made:
+            wrong.append("checks/fault-rows.txt has other lists: checks/fault-rows.py --write")
     for line in wrong:
         print(line)
     sys.exit(1 if wrong else 0)

@@ -49,12 +49,16 @@ RUNS = [
     ("bench/many_interfaces.py imports 3 2", 0, r"in do my:demo0/face@"),
     ("bench/many_interfaces.py exports 3 2", 0, r"in "),
     ("bench/slow-inputs.py --wctrim {program} --wcplan {program} --wc-tests {program} --parts 2 given-keys", 0, r"0 of 1 cases past a limit"),
+    ("bench/trimming.py --check", 0, r"\d+ rows"),
+    ("bench/slow-inputs.py --check", 0, r"\d+ rows"),
     ("bench/gate-costs.py --check", 0, r"\d+ figures"),
     ("bench/gate-costs.py --join {record}", 0, r"Run `none`: 1 minutes by the clock"),
     ("checks/fuzz.py --program {program} --memory 0 --cases 3", 0, r"3 cases of \d+ modules .* 0 went wrong"),
     ("checks/damaged-worlds.py --program {program} --cases 3", 1, r"3 cases .*, 3 went wrong"),
     ("checks/damaged-modules.py --program {program} --cases 3", 1, r"3 cases, 3 otherwise"),
     ("checks/random-names.py 3", 0, r"in do "),
+    ("checks/page-commands.py", 0, r"0 commands ran, \d+ left out, 0 print something else"),
+    ("tools/break-rows.py", 0, r"\d+ files, 0 not as wanted"),
     ("edits/batches.py --plan wc_maps", 0, r"wc_maps: \d+ of \d+ edits, \d+ functions"),
 ]
 NOT_INSTALLED = re.compile(r"there is no |is not there")
@@ -218,10 +222,11 @@ def wrong_pages():
             if not code.endswith(" ") and "\\ " * (len(code) - len(code.lstrip())) not in path.read_text(encoding="utf-8"):
                 yield f"docs/{path.name}: `{code}` has no blanks at its front"
     numbers = "no one two three four five six seven eight nine".split()
-    drawn, said = read("docs", "why.dot"), re.search(r"!\[From (\w+) exports .* to (\w+) imports\]\(why.svg\)", read("docs", "WHY.md"))
-    counts = drawn.count('label="export '), len(re.findall(r'label="[^"]*:[^"]*\\n', drawn))
+    drawn = read("docs", "pictures", "why.dot")
+    said = re.search(r"!\[From (\w+) exports .* to (\w+) imports\]\(pictures/why.svg\)", read("docs", "WHY.md"))
+    counts = tuple(len(re.findall(rf"^ +{kind}\d+ \[", drawn, re.M)) for kind in ("export", "import"))
     if not said or (numbers.index(said[1]), numbers.index(said[2])) != counts:
-        yield "docs/WHY.md says of its picture another number of exports and imports than docs/why.dot has: %d and %d" % counts
+        yield "docs/WHY.md says of its picture another number of exports and imports than docs/pictures/why.dot has: %d and %d" % counts
     asked = """compopt() { :; }; cd examples/wcplan; . ../../docs/wcplan.bash
         for option in --why --export --adapter-export; do
             COMP_WORDS=(wcplan notes.json app main.wasm --adapt old-notes = adapter.wasm "$option" "") COMP_CWORD=9

@@ -7,7 +7,7 @@
 Of docs/WCTRIM.md, for example, the text up to the usage is the description, the usage the synopsis and what is completed;
 each section follows, but those of SKIPPED, its tables as lists whose first column is what is looked up. Read them with
 `man docs/wctrim.1`, and `source docs/wctrim.bash`. Of a link in brackets of its own, as `([how](#a-section))`, the man page
-names the section, if it has that, and else nothing.
+names the section, if it has that, and else nothing. Lines that are comments of HTML are left out.
 """
 import argparse
 import pathlib
@@ -99,7 +99,7 @@ def blocks(text):
 
 def page_of(name):
     """The parts of a program's page: its first sentence, its usage, and its sections with their titles."""
-    text = (TOP / "docs" / (name.upper() + ".md")).read_text(encoding="utf-8")
+    text = re.sub(r"(?m)^<!--.*-->\n", "", (TOP / "docs" / (name.upper() + ".md")).read_text(encoding="utf-8"))
     titles = re.findall(r"(?m)^##+ (.*)$", text)
     text = re.sub(r" \(" + LINK + r"\)", pointed(titles), text)
     front, *sections = re.split(r"(?m)^## ", text.partition("\n")[2])

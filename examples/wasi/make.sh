@@ -35,13 +35,10 @@ clang --target=wasm32-wasi -s "$here/out/hello.o" -o "$here/out/hello.wasm"
 "$here/../../checks/adapters.py" --cut 'wasi:cli/run@0.2.6#run' "$here/out/adapter.wasm"
 [ $# -gt 0 ] || exit 0
 need dot graphviz
-need c++filt binutils
 asked='--import=wasi:filesystem/preopens@0.2.6 --import=wasi:cli/terminal-stdout@0.2.6 --import=wasi:cli/exit@0.2.6
     --import=wasi:io/streams@0.2.6=[method]output-stream.check-write
     --import=wasi:io/streams@0.2.6=[method]output-stream.blocking-flush'
 used='fd_close fd_fdstat_get fd_seek fd_write proc_exit wasi:cli/run@0.2.6#run cabi_import_realloc'
-# names as they were before they were mangled, without their hashes, in two lines
 # shellcheck disable=SC2086
-"$here/../../wcwhy" "$here/out/adapter.wasm" --dot $asked $used | c++filt |
-    sed -E 's/::h[0-9a-f]{16}"/"/; s/(func [0-9]+) wasi_snapshot_preview1::/\1 /; /label="func/s/::([^:]+::[^:"]+")/::\\n\1/' |
-    dot -Grankdir=TB -Nfontsize=13 -Nheight=0.3 -Granksep=0.35 -Gnodesep=0.25 -Tsvg >"$here/out/why.svg"
+"$here/../../wcwhy" "$here/out/adapter.wasm" --dot $asked $used | "$here/../../tools/pictures.py" --readable |
+    dot -Nfontsize=13 -Nheight=0.3 -Nmargin=0.06,0.04 -Granksep=0.28 -Gnodesep=0.15 -Tsvg >"$here/out/why.svg"
