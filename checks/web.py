@@ -79,6 +79,9 @@ def files(_):
     for part in "default-src 'none'", "connect-src 'self'", "script-src 'self'":
         if part not in policy:
             raise Wrong(f"the page's policy lacks {part}")
+    for path in sorted((WEB / "example").iterdir()):
+        if path.read_bytes() != (TOP / "examples" / "wcplan" / path.name).read_bytes():
+            raise Wrong(f"web/example/{path.name} is not that of examples/wcplan")
     return f"{len(sources)} files name no other address"
 
 

@@ -5,7 +5,7 @@ const $ = (id) => document.getElementById(id);
 /** Of larger files the calls would need more memory than the worker's limit; and for how long they may take. */
 const MOST_BYTES = 32 * 2 ** 20, MOST_SECONDS = 60;
 /** The example, and what is chosen of it. */
-const EXAMPLE = { folder: "../examples/wcplan/", files: ["main.wasm", "adapter.wasm", "notes.json"], names: { "adapter.wasm": "old-notes" }, world: 2 };
+const EXAMPLE = { folder: "example/", files: ["main.wasm", "adapter.wasm", "notes.json"], names: { "adapter.wasm": "old-notes" }, world: 2 };
 
 const state = { off: [], main: null, names: {}, world: null, gone: [], find: "", picked: null };
 /** Each file with a number of its own, which the worker knows too. */
