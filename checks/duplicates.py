@@ -53,13 +53,12 @@ BOILERPLATE = [
     (r"wcplan_command/src/nearest\.rt:\S+ \(interface_for\), wcplan_command/src/nearest\.rt:\S+ \(interface_named\), "
      r"wcplan_command/src/nearest\.rt:\S+ \(interface_alike\)$",
      "heads: the function that looks for one text and then for one alike has those of the two that it calls"),
-    (r"wcwhy_command/src/graph\.rt:\S+ \((\w+)\), wcwhy_command/src/lines\.rt:\S+ \(\w+\)$",
-     "heads: the graph and the lines are put of the same chains"),
     (r"wcplan_command/src/fault\.rt:\S+ \(fixed_text\), wcplan_command/src/json_faults\.rt:\S+ \(fixed_json\)$",
      "a match that names each fault without a fixed text: as lines in the one, as JSON in the other"),
 ]
 # Definitions that may be alike: their names, with the crates, and why.
 ALIKE = [
+    ("wc_why::Puts wc_record::Puts", "what a writer has: each in its crate's words"),
     ("wc_adapters::argument_view wc_validate::instance_entry",
      "a name and a view: the views are different definitions of different types"),
     ("wc_resolve::IsMemoryRefusal wc_validate::IsMemoryRefusal wc_world::IsMemoryRefusal wc_plan::IsMemoryRefusal wctrim_command::IsMemoryRefusal",
@@ -74,9 +73,9 @@ ALIKE = [
     ("wc_read::GlobalNameValue wc_record::UsedInterface", "an index and a name: of a global, of an interface"),
     ("wc_calls::dedupe_is_memory wc_calls::gc_is_memory wc_calls::validate_is_memory", "one for each kind of faults"),
     ("wc_validate::first_some wcplan_command::first_interface", "the first that is there: of types in the one, of interfaces in the other"),
-    ("wc_record::space_text wcwhy_command::space_name", "the names of spaces: in JSON in the one, in lines in the other"),
+    ("wc_record::space_text wc_why::space_name", "the names of spaces: in JSON in the one, in lines in the other"),
     ("wc_selection::has_any wcwhy_command::are_asked", "whether any of a list has something: of keys in the one, of imports in the other"),
-    ("wc_selection::text_of wc_options::text_of wcwhy_command::text_of", "the bytes of a text, in crates that don't cite each other"),
+    ("wc_selection::text_of wc_options::text_of wcwhy_command::text_of wc_why::text_of", "the bytes of a text, in crates that don't cite each other"),
     ("wcwhy_command::finish wcplan_command::finish", "what is read is made a command, each over its own `finish_with`"),
     ("wc_validate::core_import wc_validate::imported_function", "records of two types: of any import, of a function's"),
     ("wc_resolve::item_function wc_names::as_function", "an item that is a function: in a function's place in the one, under a name in the other"),

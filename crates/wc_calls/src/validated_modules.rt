@@ -114,7 +114,8 @@ fn answer_with(alloc: Global, required: &[u8], input: AdapterInput<'_>, out: &mu
         → IsTooLong (IsRecordText input.entry.encoder.now (Some input.entry.name.now) required.now)
         result.length out.old }
     ensures fault { result.status ≡ failed
-        → IsFaultAnswered (IsRecordFault input.entry.encoder.now (Some input.entry.name.now) required.now)
+        → IsFaultAnswered (IsRecordFault input.entry.encoder.now (Some input.entry.name.now)
+        required.now)
         (IsRecordPlaceFor input.entry.encoder.now required.now) result out.old out.new }
     ensures module_length { result.module_length ≡ 0 }
     ensures unchanged { result.status ≢ done → result.status ≢ failed → out.new ≡ out.old }
@@ -142,15 +143,18 @@ fn answer_adapter(
     requires { lookup (bytes_eq asked.name.now) asked.encoder.now.adapters
         ≡ Some (adapter_view adapter.now) }
     ensures done { result.status ≡ done
-        → IsPut (IsRecordText asked.entry.encoder.now (Some asked.entry.name.now) asked.entry.required.now)
+        → IsPut (IsRecordText asked.entry.encoder.now (Some asked.entry.name.now)
+        asked.entry.required.now)
         result.length out.old out.new }
     ensures too_small { result.status ≡ too_small
-        → IsTooLong (IsRecordText asked.entry.encoder.now (Some asked.entry.name.now) asked.entry.required.now)
+        → IsTooLong (IsRecordText asked.entry.encoder.now (Some asked.entry.name.now)
+        asked.entry.required.now)
         result.length out.old }
     ensures bad_argument { result.status ≡ bad_argument
         → IsNoneAsked asked.entry.encoder.now (Some asked.entry.name.now) asked.entry.required.now }
     ensures fault { result.status ≡ failed
-        → IsFaultAnswered (IsRecordFault asked.entry.encoder.now (Some asked.entry.name.now) asked.entry.required.now)
+        → IsFaultAnswered (IsRecordFault asked.entry.encoder.now (Some asked.entry.name.now)
+        asked.entry.required.now)
         (IsRecordPlaceFor asked.entry.encoder.now asked.entry.required.now) result out.old out.new }
     ensures module_length { result.module_length ≡ 0 }
     ensures unchanged { result.status ≢ done → result.status ≢ failed → out.new ≡ out.old }
@@ -176,15 +180,18 @@ fn answer_adapter(
 /// Answers what is recorded of the adapter or the library of a name, if there is one.
 fn answer_under(alloc: Global, asked: AskedAdapter<'_>, out: &mut [u8]) -> Answer
     ensures done { result.status ≡ done
-        → IsPut (IsRecordText asked.entry.encoder.now (Some asked.entry.name.now) asked.entry.required.now)
+        → IsPut (IsRecordText asked.entry.encoder.now (Some asked.entry.name.now)
+        asked.entry.required.now)
         result.length out.old out.new }
     ensures too_small { result.status ≡ too_small
-        → IsTooLong (IsRecordText asked.entry.encoder.now (Some asked.entry.name.now) asked.entry.required.now)
+        → IsTooLong (IsRecordText asked.entry.encoder.now (Some asked.entry.name.now)
+        asked.entry.required.now)
         result.length out.old }
     ensures bad_argument { result.status ≡ bad_argument
         → IsNoneAsked asked.entry.encoder.now (Some asked.entry.name.now) asked.entry.required.now }
     ensures fault { result.status ≡ failed
-        → IsFaultAnswered (IsRecordFault asked.entry.encoder.now (Some asked.entry.name.now) asked.entry.required.now)
+        → IsFaultAnswered (IsRecordFault asked.entry.encoder.now (Some asked.entry.name.now)
+        asked.entry.required.now)
         (IsRecordPlaceFor asked.entry.encoder.now asked.entry.required.now) result out.old out.new }
     ensures module_length { result.module_length ≡ 0 }
     ensures unchanged { result.status ≢ done → result.status ≢ failed → out.new ≡ out.old }
@@ -251,7 +258,8 @@ fn answer_for(
     ensures bad_argument { result.status ≡ bad_argument
         → IsNoneAsked encoder.now (option_map (λ n. n.now) adapter.entry) required.now }
     ensures fault { result.status ≡ failed
-        → IsFaultAnswered (IsRecordFault encoder.now (option_map (λ n. n.now) adapter.entry) required.now)
+        → IsFaultAnswered (IsRecordFault encoder.now (option_map (λ n. n.now) adapter.entry)
+        required.now)
         (IsRecordPlaceFor encoder.now required.now) result out.old out.new }
     ensures module_length { result.module_length ≡ 0 }
     ensures unchanged { result.status ≢ done → result.status ≢ failed → out.new ≡ out.old }

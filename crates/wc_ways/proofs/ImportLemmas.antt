@@ -1,7 +1,8 @@
--- What is said of an import of an adapter, by what is asked about and where its item is.
-use Rattle.std.proofs.Common.{◌≡◌, ℕ, ◌<◌, List, [], map, length, get_or, Option, Some, None, Result, Ok, Err, IfOk, String, Global, string_bytes, option_map, refl, sym, ◌∙◌, ap, subst, inl, inr, arith}
+-- The path to an import of an adapter, by what is asked about and where its item is.
+use Rattle.std.proofs.Common.{◌≡◌, ℕ, ◌<◌, List, [], ◌∷◌, map, length, get_or, Option, Some, None, Result, Ok, Err, IfOk, option_map, refl, sym, ◌∙◌, ap, subst, inl, inr, arith}
 use Rattle.std.proofs.lemmas.Option.{same_Some, slice_get-map, slice_get_read, slice_get_within}
 use Rattle.std.specs.List.{slice_get}
+use Rattle.std.specs.Option.{option_to_list}
 use Rattle.std.specs.Prelude.{MatchOption}
 use Rattle.wc_read.specs.Imports.{ImportValue, import_value}
 use Rattle.wc_read.specs.declared.types.Import.{Import}
@@ -10,36 +11,35 @@ use Rattle.wc_gc.specs.LiveChains.{AreImportChains, IsChainAt}
 use Rattle.wc_gc.specs.RestrictionLaws.{IsImportItem}
 use Rattle.wc_gc.specs.declared.import_chains.Chain.{Chain}
 use Rattle.wc_gc.specs.declared.import_chains.ImportChains.{ImportChains}
-use Rattle.wcwhy_command.proofs.ItemLemmas.{index_there}
+use Rattle.wc_why.specs.Paths.{PathView, path_view}
+use Rattle.wc_why.specs.declared.paths.Path.{Path}
+use Rattle.wc_why.proofs.ItemLemmas.{index_there}
 use Rattle.wc_ways.specs.Asked.{FunctionName}
-use Rattle.wc_ways.specs.Originals.{Original, asked_of, required_of, wanted_of}
-use Rattle.wc_ways.specs.Ways.{IsImportWay, IsItemWay, IsWayAt}
-use Rattle.wc_ways.specs.Words.{AdapterWords}
+use Rattle.wc_ways.specs.Originals.{Original, asked_of, required_of}
+use Rattle.wc_ways.specs.Ways.{IsImportPath, IsItemPath, IsPathAt, adapter_path}
 
 -- an import that was read
 pub import_read : (xs : List Import) (k : ℕ) (i : Import) → k < length xs → i ≡ get_or xs k i → slice_get (map import_value xs) k ≡ Some (import_value i)
 import_read xs k i lt is = slice_get-map import_value xs k ∙ ap (option_map import_value) (slice_get_read xs (length xs) k i refl lt is)
 
-module _ (say : AdapterWords) (a : Original) (key : List ℕ) (position : ℕ) (j : ImportValue) (at : slice_get a.value.imports position ≡ Some j) where
-  of_this : (way : List ℕ) → IsImportWay say a key position j way → IsWayAt say a key position way
-  of_this way h i e = subst (λ (z : ImportValue). IsImportWay say a key position z way) (same_Some j i (sym at ∙ e)) h
+module _ (a : Original) (key : List ℕ) (position : ℕ) (j : ImportValue) (at : slice_get a.value.imports position ≡ Some j) where
+  of_this : (paths : List PathView) → IsImportPath a key position j paths → IsPathAt a key position paths
+  of_this paths h i e = subst (λ (z : ImportValue). IsImportPath a key position z paths) (same_Some j i (sym at ∙ e)) h
 
-  way_by : (way : List ℕ) (f : Option FunctionName) → f ≡ asked_of a key j
-      → MatchOption f (way ≡ []) (λ g. (x : ItemIndex) → IsImportItem a.value.imports position x → IsItemWay say a g j x way) → IsWayAt say a key position way
-  way_by way f is h =
-      of_this way
-      (subst (λ (z : Option FunctionName). MatchOption z (way ≡ []) (λ g. (x : ItemIndex) → IsImportItem a.value.imports position x → IsItemWay say a g j x way)) is h)
+  path_by : (paths : List PathView) (f : Option FunctionName) → f ≡ asked_of a key j
+      → MatchOption f (paths ≡ []) (λ g. (x : ItemIndex) → IsImportItem a.value.imports position x → IsItemPath a g j x paths) → IsPathAt a key position paths
+  path_by paths f is h =
+      of_this paths
+      (subst (λ (z : Option FunctionName). MatchOption z (paths ≡ []) (λ g. (x : ItemIndex) → IsImportItem a.value.imports position x → IsItemPath a g j x paths)) is h)
 
   -- it is not asked about
-  pub unasked_way : (way : List ℕ) → None ≡ asked_of a key j → way ≡ [] → IsWayAt say a key position way
-  unasked_way way is none = way_by way None is none
+  pub unasked_path : None ≡ asked_of a key j → IsPathAt a key position []
+  unasked_path is = path_by [] None is refl
 
   -- it is this function
-  pub asked_way : {E : Type 0} (r : Result (String Global) E) (f : FunctionName) → Some f ≡ asked_of a key j
-      → IfOk r (λ s. (x : ItemIndex) → IsImportItem a.value.imports position x → IsItemWay say a f j x (string_bytes s))
-      → IfOk r (λ s. IsWayAt say a key position (string_bytes s))
-  asked_way (Ok s) f is h = way_by (string_bytes s) (Some f) is h
-  asked_way (Err e) f is h = tt
+  pub asked_path : (f : FunctionName) (paths : List PathView) → Some f ≡ asked_of a key j
+      → ((x : ItemIndex) → IsImportItem a.value.imports position x → IsItemPath a f j x paths) → IsPathAt a key position paths
+  asked_path f paths is h = path_by paths (Some f) is h
 
 -- where its item is
 module _ (a : Original) (position : ℕ) (j : ImportValue) (at : slice_get a.value.imports position ≡ Some j) (c : ImportChains)
@@ -57,21 +57,19 @@ module _ (a : Original) (position : ℕ) (j : ImportValue) (at : slice_get a.val
   pub in_order : (item_index : ℕ) → slice_get c.imports.items position ≡ Some (Some item_index) → item_index < length c.order.items
   in_order item_index e = index_there (required_of a) a.value c position item_index j are at e
 
-  pub reached_item : {E : Type 0} (say : AdapterWords) (f : FunctionName) (r : Result (String Global) E) (item_index : ℕ) → slice_get c.imports.items position ≡ Some (Some item_index)
-      → IfOk r (λ s. (x : ItemIndex) → slice_get c.order.items item_index ≡ Some x → IsItemWay say a f j x (string_bytes s))
-      → IfOk r (λ s. (x : ItemIndex) → IsImportItem a.value.imports position x → IsItemWay say a f j x (string_bytes s))
-  reached_item say f (Ok s) item_index e h = λ x item. h x (are.imports.at position x (Some item_index) item e)
-  reached_item say f (Err e) item_index h k = tt
+  pub reached_item : {E : Type 0} (f : FunctionName) (item_index : ℕ) (r : Result (Option Path) E) → slice_get c.imports.items position ≡ Some (Some item_index)
+      → IfOk r (λ p. (x : ItemIndex) → slice_get c.order.items item_index ≡ Some x → IsItemPath a f j x (option_to_list (option_map path_view p)))
+      → IfOk r (λ p. (x : ItemIndex) → IsImportItem a.value.imports position x → IsItemPath a f j x (option_to_list (option_map path_view p)))
+  reached_item f item_index (Ok p) e h = λ x item. h x (are.imports.at position x (Some item_index) item e)
+  reached_item f item_index (Err u) e h = tt
 
   -- or it is not reached
-  pub dead_item : (say : AdapterWords) (f : FunctionName) (way : List ℕ) → slice_get c.imports.items position ≡ Some None → way ≡ [] → (x : ItemIndex) → IsImportItem a.value.imports position x
-      → IsItemWay say a f j x way
-  dead_item say f way e none x item = inl (are.imports.at position x None item e, none)
+  pub dead_item : (f : FunctionName) → slice_get c.imports.items position ≡ Some None → (x : ItemIndex) → IsImportItem a.value.imports position x
+      → IsItemPath a f j x []
+  dead_item f e x item = inl (are.imports.at position x None item e, refl)
 
--- the way by the chain that was taken
-pub chain_item : {E : Type 0} (say : AdapterWords) (a : Original) (f : FunctionName) (j : ImportValue) (chains : ImportChains) (item_index : ℕ) (c : Chain) (r : Result (String Global) E)
-    → AreImportChains (required_of a) a.value chains → IsChainAt chains item_index c
-    → IfOk r (λ s. string_bytes s ≡ say (wanted_of a) a.name a.names f c.export.now c.items.items j.module_name j.name)
-    → IfOk r (λ s. (x : ItemIndex) → slice_get chains.order.items item_index ≡ Some x → IsItemWay say a f j x (string_bytes s))
-chain_item say a f j chains item_index c (Ok s) are found h = λ x e. inr (c, found (required_of a) a.value x are e, h)
-chain_item say a f j chains item_index c (Err e) are found h = tt
+-- the path by the chain that was taken
+pub chain_item : (a : Original) (f : FunctionName) (j : ImportValue) (chains : ImportChains) (item_index : ℕ) (c : Chain) (path : PathView)
+    → AreImportChains (required_of a) a.value chains → IsChainAt chains item_index c → path ≡ adapter_path a f c j
+    → (x : ItemIndex) → slice_get chains.order.items item_index ≡ Some x → IsItemPath a f j x (path ∷ [])
+chain_item a f j chains item_index c path are found h x e = inr (c, found (required_of a) a.value x are e, ap (λ z. z ∷ []) h)

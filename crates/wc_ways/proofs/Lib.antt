@@ -5,5 +5,5 @@ mod UserLemmas
 mod OriginalLemmas
 mod ImportLemmas
 mod WalkLemmas
-mod MarkLemmas
 mod GraphLemmas
+mod WaysLemmas

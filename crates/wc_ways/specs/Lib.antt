@@ -7,6 +7,5 @@ pub mod Originals
 pub mod Said
 pub mod Ways
 pub mod Nodes
-pub mod Steps
 pub mod WaysFaults
 pub mod Private

@@ -2,5 +2,4 @@
 pub mod Adapters
 pub mod Graph
 pub mod Imported
-pub mod Modules
 pub mod Users

@@ -1,34 +1,69 @@
--- What is said of the adapters of a component's world, whatever that is.
-use Rattle.std.specs.Prelude.{◌≡◌, ℕ, List, [], MatchOption, Some}
-use Rattle.std.specs.List.{slice_get}
+-- What is said of the modules of a component's world, whatever that is: lists of parts.
+use Rattle.std.specs.Prelude.{◌≡◌, ℕ, List, [], ◌++◌, length, MatchOption, Option, Some, None}
+use Rattle.std.specs.List.{flat_map, slice_get}
 use Rattle.std.specs.Map.{lookup}
 use Rattle.std.specs.Str.{bytes_eq}
 use Rattle.wc_read.specs.Modules.{ModuleValue, SpellsModule}
 use Rattle.wc_read.specs.Names.{GlobalNameValue}
 use Rattle.wc_read.specs.Reading.Names.{AreFunctionNames}
+use Rattle.wc_resolve.specs.Kinds.{ResolveView}
 use Rattle.wc_adapters.specs.Adapters.{AdapterView, LibraryView}
+use Rattle.wc_validate.specs.Imports.Entries.{Records}
 use Rattle.wc_validate.specs.Validate.{ModuleRecord}
 use Rattle.wc_world.specs.Views.{ComponentWorldView, NamedWorldAdapter}
+use Rattle.wc_why.specs.Joined.{AreJoined}
+use Rattle.wc_why.specs.Lines.{importer_text}
 use Rattle.wc_ways.specs.Originals.{Original, original_of}
+use Rattle.wc_ways.specs.Types.{SayingTypes, types_said}
+use Rattle.wc_ways.specs.Words.{adapter_id, main_text}
 
--- a text is said of an adapter as the encoder has it
-abbrev pub Saying : Type 1
-Saying = Original → List ℕ → Type 0
+-- what is said of a module of which only its imports are known: by the types, the key, the name of the adapter, what the module is
+-- called as a node and in a graph, and its imports
+abbrev pub SayingAlone : Type 0 → Type 0
+SayingAlone A = ResolveView → List ℕ → Option (List ℕ) → List ℕ → List ℕ → Records → List A
 
--- it is said of the module that the bytes spell, and the names of its functions
-abbrev pub IsSaidIn : Saying → ComponentWorldView → List ℕ → ModuleRecord → List ℕ → List ℕ → Type 0
-IsSaidIn Is w name info wasm text =
-    (m : ModuleValue) × (names : List GlobalNameValue) × SpellsModule wasm m × AreFunctionNames wasm names × Is (original_of w name info m names) text
+-- parts are said of an adapter as the encoder has it; and that by the key and the adapter's index
+abbrev pub Saying : Type 0 → Type 1
+Saying A = Original → List A → Type 0
 
--- it is said of an adapter that was trimmed, as the encoder has it
-abbrev pub IsSaidOfTrimmed : Saying → ComponentWorldView → List ℕ → ModuleRecord → List ℕ → Type 0
-IsSaidOfTrimmed Is w name info text =
-    MatchOption (lookup (bytes_eq name) w.encoder.adapters) (text ≡ []) (λ (a : AdapterView). IsSaidIn Is w name info a.wasm text)
+abbrev pub SayingAt : Type 0 → Type 1
+SayingAt A = List ℕ → ℕ → Saying A
 
--- it is said of an adapter, and of a library this text
-abbrev pub IsSaidOf : Saying → (NamedWorldAdapter → List ℕ) → ComponentWorldView → NamedWorldAdapter → List ℕ → Type 0
-IsSaidOf Is library w y text = MatchOption y.1.library_info (IsSaidOfTrimmed Is w y.0 y.1.info text) (λ (l : LibraryView). text ≡ library y)
+-- they are said of the module that the bytes spell, and the names of its functions
+abbrev pub IsSaidIn : {A : Type 0} → Saying A → ComponentWorldView → List ℕ → ModuleRecord → List ℕ → List A → Type 0
+IsSaidIn Is w name info wasm parts =
+    (m : ModuleValue) × (names : List GlobalNameValue) × SpellsModule wasm m × AreFunctionNames wasm names × Is (original_of w name info m names) parts
 
--- the same of the adapter at an index
-abbrev pub IsSaidAt : Saying → (NamedWorldAdapter → List ℕ) → ComponentWorldView → ℕ → List ℕ → Type 0
-IsSaidAt Is library w index text = (y : NamedWorldAdapter) → slice_get w.adapters index ≡ Some y → IsSaidOf Is library w y text
+-- they are said of an adapter that was trimmed, as the encoder has it
+abbrev pub IsSaidOfTrimmed : {A : Type 0} → Saying A → ComponentWorldView → List ℕ → ModuleRecord → List A → Type 0
+IsSaidOfTrimmed Is w name info parts =
+    MatchOption (lookup (bytes_eq name) w.encoder.adapters) (parts ≡ []) (λ (a : AdapterView). IsSaidIn Is w name info a.wasm parts)
+
+-- they are said of an adapter, and of a library these
+abbrev pub IsSaidOf : {A : Type 0} → Saying A → (NamedWorldAdapter → List A) → ComponentWorldView → NamedWorldAdapter → List A → Type 0
+IsSaidOf Is library w y parts = MatchOption y.1.library_info (IsSaidOfTrimmed Is w y.0 y.1.info parts) (λ (l : LibraryView). parts ≡ library y)
+
+-- what is said of the main module, and of a library, of which only their imports are known
+abbrev pub main_said : {A : Type 0} → SayingAlone A → ComponentWorldView → List ℕ → List A
+main_said alone w key = alone w.encoder.resolve key None main_text main_text w.info.imports
+
+abbrev pub library_said : {A : Type 0} → SayingAlone A → ComponentWorldView → List ℕ → ℕ → NamedWorldAdapter → List A
+library_said alone w key index y = alone w.encoder.resolve key (Some y.0) (adapter_id index) (importer_text (Some y.0)) y.1.info.imports
+
+-- what is said of the adapter at an index
+abbrev pub IsSaidAt : {A : Type 0} → SayingAlone A → SayingAt A → ComponentWorldView → List ℕ → ℕ → List A → Type 0
+IsSaidAt alone saying w key index parts =
+    (y : NamedWorldAdapter) → slice_get w.adapters index ≡ Some y → IsSaidOf (saying key index) (library_said alone w key index) w y parts
+
+-- of each adapter, in order
+abbrev pub AreAllSaid : {A : Type 0} → SayingAlone A → SayingAt A → ComponentWorldView → List ℕ → List A → Type 0
+AreAllSaid alone saying w key parts = AreJoined (length w.adapters) (IsSaidAt alone saying w key) parts
+
+-- of the main module, then of each adapter, and then of what is imported for its types alone
+abbrev pub IsAllSaid : {A : Type 0} → SayingAlone A → SayingAt A → SayingTypes A → ComponentWorldView → List ℕ → List A → Type 0
+IsAllSaid {A} alone saying typed w key parts =
+    (adapters : List A) × AreAllSaid alone saying w key adapters × (parts ≡ main_said alone w key ++ (adapters ++ types_said typed w key))
+
+-- parts that are as `Is` says were printed
+abbrev pub Says : {A B : Type 0} → (A → List B) → (List A → Type 0) → List B → List B → Type 0
+Says {A} shown Is old new = (parts : List A) × Is parts × (new ≡ old ++ flat_map shown parts)

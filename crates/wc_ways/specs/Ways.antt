@@ -1,7 +1,10 @@
--- The ways to the functions that a component imports, from its main module and through its adapters: in some words, and as lines.
-use Rattle.std.specs.Prelude.{◌≡◌, ◌⊎◌, ℕ, List, [], ◌∷◌, ◌++◌, length, codes, MatchOption, Some}
+-- The paths to what a component imports, from its main module and through its adapters: as lines and as JSON.
+use Rattle.std.specs.Prelude.{◌≡◌, ◌⊎◌, ℕ, List, [], ◌∷◌, ◌++◌, length, map, codes, cond, MatchOption, Option, Some, None}
 use Rattle.std.specs.List.{flat_map, slice_get}
 use Rattle.std.specs.Option.{option_map_or}
+use Rattle.json.specs.Lex.{tokens}
+use Rattle.json.specs.Print.{print}
+use Rattle.json.specs.Tree.{json_tokens}
 use Rattle.wc_json.specs.Escape.{escaped}
 use Rattle.wc_read.specs.Imports.{ImportValue}
 use Rattle.wc_resolve.specs.Kinds.{ResolveView}
@@ -13,59 +16,79 @@ use Rattle.wc_gc.specs.LiveChains.{IsChainTo}
 use Rattle.wc_gc.specs.LiveItems.{IsLive}
 use Rattle.wc_gc.specs.RestrictionLaws.{IsImportItem}
 use Rattle.wc_gc.specs.declared.import_chains.Chain.{Chain}
-use Rattle.wc_world.specs.Views.{ComponentWorldView, NamedWorldAdapter}
-use Rattle.wcwhy_command.specs.Joined.{AreJoined}
+use Rattle.wc_world.specs.Views.{ComponentWorldView}
+use Rattle.wc_why.specs.Joined.{AreJoined}
+use Rattle.wc_why.specs.JsonPaths.{paths_json}
+use Rattle.wc_why.specs.Lines.{path_lines}
+use Rattle.wc_why.specs.Paths.{PathView, StepView, exported, imported, item_step, named, typed}
 use Rattle.wc_ways.specs.Asked.{FunctionName, asked_function}
 use Rattle.wc_ways.specs.Originals.{Original, asked_of, required_of, wanted_of}
-use Rattle.wc_ways.specs.Said.{IsSaidAt}
-use Rattle.wc_ways.specs.Types.{type_lines}
-use Rattle.wc_ways.specs.Words.{AdapterWords, ImportWords, adapter_text, adapter_way, import_way, main_text}
+use Rattle.wc_ways.specs.Said.{IsAllSaid}
+use Rattle.wc_ways.specs.Words.{WantedFunctions, is_wanted}
 
--- the ways to the functions that a module imports, which are their imports alone, in these words
+-- the path to a function that is its import alone
+abbrev pub import_path : Option (List ℕ) → FunctionName → List ℕ → List ℕ → PathView
+import_path adapter f from name = record { interface = f.0; target = named f.1; steps = imported adapter from name ∷ [] }
 
-abbrev pub recorded_way : ResolveView → List ℕ → ImportWords → List ℕ × (List ℕ × ImportView) → List ℕ
-recorded_way r key say x = option_map_or (λ (f : FunctionName). say f x.0 x.1.0) (asked_function r key x.1.0 x.1.1) []
+-- these paths to the functions that are asked about, of those that a module imports
+abbrev pub recorded_path : ResolveView → List ℕ → Option (List ℕ) → List ℕ × (List ℕ × ImportView) → List PathView
+recorded_path r key adapter x = option_map_or (λ (f : FunctionName). import_path adapter f x.0 x.1.0 ∷ []) (asked_function r key x.1.0 x.1.1) []
 
-abbrev pub recorded_ways : ResolveView → List ℕ → ImportWords → Records → List ℕ
-recorded_ways r key say records = flat_map (recorded_way r key say) (imports_in records)
+abbrev pub recorded_paths : ResolveView → List ℕ → Option (List ℕ) → Records → List PathView
+recorded_paths r key adapter records = flat_map (recorded_path r key adapter) (imports_in records)
 
-abbrev pub main_ways : ComponentWorldView → List ℕ → List ℕ
-main_ways w key = recorded_ways w.encoder.resolve key (import_way main_text) w.info.imports
+-- the steps to an export of an adapter: the main module's import of it, if there is one, and the export
+abbrev pub first_steps : WantedFunctions → List ℕ → List ℕ → List StepView
+first_steps wanted adapter export =
+    cond (is_wanted wanted export) (imported None adapter export ∷ exported (Some adapter) export ∷ []) (exported (Some adapter) export ∷ [])
 
--- the way to a function through an adapter, which is this import and item of it, in these words: by the first of the shortest
--- chains from a required export; none, where no required export reaches the item
-abbrev pub IsItemWay : AdapterWords → Original → FunctionName → ImportValue → ItemIndex → List ℕ → Type 0
-IsItemWay say a f i x way =
-    ((¬ (IsLive (required_of a) a.value x)) × (way ≡ []))
-    ⊎ ((c : Chain) × IsChainTo (required_of a) a.value x c
-    × (way ≡ say (wanted_of a) a.name a.names f c.export.now c.items.items i.module_name i.name))
+-- the path to a function through an adapter by a chain: these steps to the export that it begins with, its items, and the import
+abbrev pub adapter_path : Original → FunctionName → Chain → ImportValue → PathView
+adapter_path a f c i =
+    record {
+      interface = f.0;
+      target = named f.1;
+      steps = first_steps (wanted_of a) a.name c.export.now ++ (map (item_step a.names) c.items.items ++ imported (Some a.name) i.module_name i.name ∷ []);
+    }
 
--- the way to an import at a position of the adapter, if it is asked about
-abbrev pub IsImportWay : AdapterWords → Original → List ℕ → ℕ → ImportValue → List ℕ → Type 0
-IsImportWay say a key position i way =
-    MatchOption (asked_of a key i) (way ≡ []) (λ f. (x : ItemIndex) → IsImportItem a.value.imports position x → IsItemWay say a f i x way)
+-- the path to a function, which is this import and item of an adapter: by the first of the shortest chains from a required export;
+-- none, where no required export reaches the item
+abbrev pub IsItemPath : Original → FunctionName → ImportValue → ItemIndex → List PathView → Type 0
+IsItemPath a f i x paths =
+    ((¬ (IsLive (required_of a) a.value x)) × (paths ≡ []))
+    ⊎ ((c : Chain) × IsChainTo (required_of a) a.value x c × (paths ≡ adapter_path a f c i ∷ []))
 
-abbrev pub IsWayAt : AdapterWords → Original → List ℕ → ℕ → List ℕ → Type 0
-IsWayAt say a key position way = (i : ImportValue) → slice_get a.value.imports position ≡ Some i → IsImportWay say a key position i way
+-- the path to an import at a position of the adapter, if it is asked about
+abbrev pub IsImportPath : Original → List ℕ → ℕ → ImportValue → List PathView → Type 0
+IsImportPath a key position i paths =
+    MatchOption (asked_of a key i) (paths ≡ []) (λ f. (x : ItemIndex) → IsImportItem a.value.imports position x → IsItemPath a f i x paths)
 
--- the ways to all imports of an adapter, in the order of the file
-abbrev pub AreOriginalWays : AdapterWords → List ℕ → Original → List ℕ → Type 0
-AreOriginalWays say key a ways = AreJoined (length a.value.imports) (IsWayAt say a key) ways
+abbrev pub IsPathAt : Original → List ℕ → ℕ → List PathView → Type 0
+IsPathAt a key position paths = (i : ImportValue) → slice_get a.value.imports position ≡ Some i → IsImportPath a key position i paths
 
--- the ways to the functions that a library imports
-abbrev pub library_ways : ComponentWorldView → List ℕ → NamedWorldAdapter → List ℕ
-library_ways w key y = recorded_ways w.encoder.resolve key (import_way (adapter_text y.0)) y.1.info.imports
+-- the paths to all imports of an adapter, in the order of the file
+abbrev pub AreOriginalPaths : List ℕ → Original → List PathView → Type 0
+AreOriginalPaths key a paths = AreJoined (length a.value.imports) (IsPathAt a key) paths
 
--- the ways through the adapter at an index
-abbrev pub AreWaysAt : ComponentWorldView → List ℕ → ℕ → List ℕ → Type 0
-AreWaysAt w key index ways = IsSaidAt (AreOriginalWays adapter_way key) (library_ways w key) w index ways
+-- the path to an interface that is imported for its types alone, which has no steps
+abbrev pub typed_path : List ℕ → Option (List ℕ) → List PathView
+typed_path interface user = record { interface = interface; target = typed user; steps = [] } ∷ []
 
--- the lines; or that nothing is imported
+-- the paths to what is asked about: from the main module, and through each adapter in order; then what is imported for its types
+-- alone
+abbrev pub ArePaths : ComponentWorldView → List ℕ → List PathView → Type 0
+ArePaths w key paths = IsAllSaid (λ r k adapter id label records. recorded_paths r k adapter records) (λ k index. AreOriginalPaths k) typed_path w key paths
+
+-- their lines; or that nothing is imported
 abbrev pub or_none : List ℕ → List ℕ → List ℕ
 or_none key [] = escaped key ++ codes ": in the world, not imported\n"
 or_none key (b ∷ bs) = b ∷ bs
 
--- the ways to what is asked about: from the main module, and through each adapter in order; then what is imported for its types
--- alone
 abbrev pub IsWaysText : ComponentWorldView → List ℕ → List ℕ → Type 0
-IsWaysText w key text = (ways : List ℕ) × AreJoined (length w.adapters) (AreWaysAt w key) ways × (text ≡ or_none key (main_ways w key ++ (ways ++ type_lines w key)))
+IsWaysText w key text = (paths : List PathView) × ArePaths w key paths × (text ≡ or_none key (flat_map path_lines paths))
+
+-- the text of their JSON, without spaces and with the shortest escapes, in a line: it is read back as this JSON
+abbrev pub IsWaysJson : ComponentWorldView → List ℕ → List ℕ → Type 0
+IsWaysJson w key text =
+    (paths : List PathView) × ArePaths w key paths × (text ≡ print (json_tokens (paths_json paths)) ++ codes "\n")
+    × (tokens (print (json_tokens (paths_json paths))) ≡ json_tokens (paths_json paths))

@@ -1,26 +1,24 @@
-//! Why a component imports something: the ways through the whole component that lead to the imports of its modules, from
-//! its main module and through its adapters; and which interfaces it imports for their types alone. `ways_text` says them
-//! in lines, `ways_json` as JSON, and `ways_graph` as a graph in the language of Graphviz.
+//! Why a component imports something: the paths through the whole component that lead to the imports of its modules, from
+//! its main module and through its adapters; and which interfaces it imports for their types alone. `ways_text` has them in
+//! lines, `ways_json` as JSON, and `ways_graph` as a graph in the language of Graphviz.
 //!
-//! It is asked about an interface, a package, something of the world itself, or about all (`asks_about`). A way of the main module is its import alone. A way through
+//! It is asked about an interface, a package, something of the world itself, or about all (`asks_about`). A path from the
+//! main module is its import alone. A path through
 //! an adapter is the main module's import of an export of the adapter, if it imports it; the export; the items of the
 //! adapter that lead from it, by the shortest chain (`wc_gc::why_imports`); and the adapter's import.
 #![tactic(auto)]
 
 mod adapters;
 mod asked;
+mod forms;
 mod graph;
 mod keys;
-mod lines;
-mod marks;
-mod nodes;
 mod originals;
+mod paths;
 mod recorded;
-mod steps;
 mod types;
 mod users;
 mod ways;
-mod words;
 
 pub use keys::{asks_about, package_of, package_text};
 pub use ways::{ways_graph, ways_json, ways_text};

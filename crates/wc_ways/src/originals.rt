@@ -1,6 +1,6 @@
 //! An adapter as the encoder has it, before it is trimmed.
 
-ghost use Rattle.std.specs.Prelude.{◌≡◌, IfErr, IfOk, string_bytes};
+ghost use Rattle.std.specs.Prelude.{◌≡◌, IfErr, IfOk, OnOk};
 ghost use Rattle.std.specs.Option.{option_map};
 ghost use Rattle.wc_gc.specs.LiveItems.{IsFault, names_of};
 ghost use Rattle.wc_names.specs.Views.{import_view};
@@ -9,13 +9,13 @@ ghost use Rattle.wc_validate.specs.Validate.{module_record};
 ghost use Rattle.wc_world.specs.WorldViews.{world_view};
 ghost use Rattle.wc_validate.specs.Imports.Instances.{instance_view};
 ghost use Rattle.wc_ways.specs.Originals.{asked_in, recorded_at, recorded_in, wanted_of};
-ghost use Rattle.wc_ways.specs.Private.Adapters.{AreChainsFor, IsNameableIn, IsSaidFor, IsSaidOfWalk, IsWalk, function_value, original_in, required_in};
+ghost use Rattle.wc_ways.specs.Private.Adapters.{AreChainsFor, IsNameableIn, IsSaidFor, IsWalk, function_value, original_in, required_in};
+ghost use Rattle.wc_ways.specs.Said.{Says};
 ghost use Rattle.wc_ways.specs.WaysFaults.{search_input};
 ghost use Rattle.wc_ways.specs.Words.{is_wanted};
 
 use crate::asked::{Function, asked_function};
-use crate::graph::original_graph;
-use crate::lines::original_ways;
+use crate::forms::Form;
 use std::alloc::{AllocError, Global};
 use wc_gc::{GcFault, ImportChains, why_imports};
 use wc_maps::{Map, OrderedMap, Set};
@@ -24,14 +24,6 @@ use wc_read::laws::modules_unique;
 use wc_read::{FuncType, Import, Module, function_names, read_module};
 use wc_validate::{ImportInstance, ImportMap, ValidatedModule};
 use wc_world::{ComponentWorld, required_exports};
-
-/// In which form ways are said.
-#[derive(Clone, Copy)]
-pub(crate) enum Form {
-    Lines,
-    Graph,
-    Json,
-}
 
 /// An adapter of a component's world that was trimmed, and what is asked about.
 #[derive(Clone, Copy)]
@@ -49,7 +41,6 @@ pub(crate) struct Adapter<'a, 'w> {
 /// An adapter as the encoder has it, with the chains to what it imports.
 #[derive(Clone, Copy)]
 pub(crate) struct Walk<'a, 'w, 'r> {
-    pub(crate) form: Form,
     pub(crate) adapter: &'a Adapter<'a, 'w>,
     pub(crate) original: &'a Module<'r>,
     /// The names of its functions.
@@ -59,59 +50,65 @@ pub(crate) struct Walk<'a, 'w, 'r> {
     pub(crate) wanted: &'a Map<String, FuncType>,
 }
 
-/// The ways through an adapter that has these bytes before it is trimmed.
-pub(crate) fn said_in(
+/// Says what leads to imports of an adapter that has these bytes before it is trimmed.
+pub(crate) fn put_in<F: Form>(
     alloc: Global,
-    form: Form,
     adapter: &Adapter<'_, '_>,
     wasm: &[u8],
-) -> Result<String, GcFault>
+    out: &mut F,
+) -> Result<(), GcFault>
     requires { IsNameableIn adapter.now }
-    ensures said { IfOk result (λ s. IsSaidFor form adapter.now wasm.now (string_bytes s)) }
+    ensures said { OnOk result (Says F.shown (IsSaidFor F.saying adapter.now wasm.now)
+        (F.printed out.old) (F.printed out.new)) }
+    ensures kept { OnOk result (F.before out.new ≡ F.before out.old) }
     ensures fault { IfErr result (IsFault (search_input (world_view adapter.now.world.now)
         adapter.now.name.now (module_record adapter.now.info.now) wasm.now)) }
 {
     let main = &adapter.world.info;
     match required_exports(alloc, main, adapter.name, adapter.info) {
-        Ok(required) => said_for(alloc, form, adapter, wasm, &required),
+        Ok(required) => put_for(alloc, adapter, wasm, &required, out),
         Err(AllocError) => Err(GcFault::Memory),
     }
 }
 
-/// The ways through an adapter that has these bytes, and of which these exports are required.
-fn said_for(
+/// Says what leads to imports of an adapter that has these bytes, and of which these exports are required.
+fn put_for<F: Form>(
     alloc: Global,
-    form: Form,
     adapter: &Adapter<'_, '_>,
     wasm: &[u8],
     required: &Set<String>,
-) -> Result<String, GcFault>
+    out: &mut F,
+) -> Result<(), GcFault>
     requires nameable { IsNameableIn adapter.now }
     requires required { names_of required.now.keys ≡ required_in adapter.now }
-    ensures said { IfOk result (λ s. IsSaidFor form adapter.now wasm.now (string_bytes s)) }
+    ensures said { OnOk result (Says F.shown (IsSaidFor F.saying adapter.now wasm.now)
+        (F.printed out.old) (F.printed out.new)) }
+    ensures kept { OnOk result (F.before out.new ≡ F.before out.old) }
     ensures fault { IfErr result (IsFault (search_input (world_view adapter.now.world.now)
         adapter.now.name.now (module_record adapter.now.info.now) wasm.now)) }
 {
     match why_imports(alloc, wasm, required) {
-        Ok(chains) => match said_with(alloc, form, adapter, wasm, &chains) {
-            Ok(said) => Ok(said),
+        Ok(chains) => match put_with(alloc, adapter, wasm, &chains, out) {
+            Ok(()) => Ok(()),
             Err(AllocError) => Err(GcFault::Memory),
         },
         Err(fault) => Err(fault),
     }
 }
 
-/// The ways through an adapter that has these bytes, and in which these are the chains.
-fn said_with(
+/// Says what leads to imports of an adapter that has these bytes, and in which these are the chains.
+fn put_with<F: Form>(
     alloc: Global,
-    form: Form,
     adapter: &Adapter<'_, '_>,
     wasm: &[u8],
     chains: &ImportChains<'_>,
-) -> Result<String, AllocError>
+    out: &mut F,
+) -> Result<(), AllocError>
     requires nameable { IsNameableIn adapter.now }
     requires chains { AreChainsFor adapter.now wasm.now chains.now }
-    ensures { IfOk result (λ s. IsSaidFor form adapter.now wasm.now (string_bytes s)) }
+    ensures said { OnOk result (Says F.shown (IsSaidFor F.saying adapter.now wasm.now)
+        (F.printed out.old) (F.printed out.new)) }
+    ensures kept { OnOk result (F.before out.new ≡ F.before out.old) }
 {
     // The bytes are those of a module: there is no fault but that memory runs out.
     modules_unique();
@@ -124,26 +121,13 @@ fn said_with(
     let imports = &adapter.world.info.imports;
     let wanted = imports.required_from_adapter(alloc, adapter.name)?;
     let walk = Walk {
-        form,
         adapter,
         original: &original,
         names: &names,
         chains,
         wanted: &wanted,
     };
-    said_of(alloc, &walk)
-}
-
-/// The ways through an adapter whose module was read.
-fn said_of(alloc: Global, walk: &Walk<'_, '_, '_>) -> Result<String, AllocError>
-    requires { IsWalk walk.now }
-    ensures { IfOk result (λ s. IsSaidOfWalk walk.now (string_bytes s)) }
-{
-    match walk.form {
-        Form::Lines => original_ways(alloc, walk),
-        Form::Graph => original_graph(alloc, walk),
-        Form::Json => original_ways(alloc, walk),
-    }
+    out.put_walk(alloc, &walk)
 }
 
 /// The function that an import of an adapter is, if it stays, and is one that is asked about.

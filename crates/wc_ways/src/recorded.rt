@@ -1,85 +1,96 @@
-//! The ways to the functions that a module imports, which are their imports alone, as lines and as JSON.
+//! The paths to the functions that a module imports, which are their imports alone.
 
-ghost use Rattle.std.specs.Prelude.{◌≡◌, All, IfOk, string_bytes};
+ghost use Rattle.std.specs.Prelude.{◌≡◌, ◌++◌, All, IfOk, OnOk};
+ghost use Rattle.std.specs.List.{flat_map};
+ghost use Rattle.std.specs.Option.{option_map};
 ghost use Rattle.wc_names.specs.Views.{import_view};
 ghost use Rattle.wc_plan.specs.Calls.{IsNameable};
 ghost use Rattle.wc_validate.specs.Imports.Iter.{import_shown};
 ghost use Rattle.wc_validate.specs.Imports.Map.{imports_in};
+ghost use Rattle.wc_why.specs.Paths.{path_view, text_of};
 ghost use Rattle.wc_world.specs.Slots.{imports_of};
-ghost use Rattle.wc_ways.specs.Private.Modules.{import_words};
 ghost use Rattle.wc_ways.specs.Private.Adapters.{function_value};
-ghost use Rattle.wc_ways.specs.Ways.{recorded_way, recorded_ways};
+ghost use Rattle.wc_ways.specs.Ways.{import_path, recorded_path, recorded_paths};
 
 use crate::asked::{Function, asked_function};
-use crate::steps::import_object;
-use crate::words::import_way;
 use std::alloc::{AllocError, Global};
 use wc_names::Import;
 use wc_resolve::Resolve;
 use wc_validate::ImportMap;
+use wc_why::{Path, PathPrinter, Step, Target};
 
-/// Whose imports are said, and in which words.
+/// What is asked of the imports of a module.
 #[derive(Clone, Copy)]
-pub(crate) enum Importer<'a> {
-    /// As lines, which have this text.
-    Lines(&'a str),
-    /// As JSON: those of the adapter of this name; without one those of the main module.
-    Json(Option<&'a str>),
+pub(crate) struct Question<'a> {
+    pub(crate) resolve: &'a Resolve,
+    /// The key of an interface, or `all`.
+    pub(crate) key: &'a str,
+    /// The name of the adapter that imports; `None` for the main module.
+    pub(crate) adapter: Option<&'a str>,
 }
 
-/// The ways to the functions that are asked about, of those that a module imports.
-pub(crate) fn recorded_ways(
+/// Prints the paths to the functions that are asked about, of those that a module imports.
+pub(crate) fn recorded_paths<P: PathPrinter>(
     alloc: Global,
-    resolve: &Resolve,
-    key: &str,
-    importer: Importer<'_>,
+    question: Question<'_>,
     imports: &ImportMap,
-) -> Result<String, AllocError>
-    requires { All (IsNameable resolve.now) (imports_of (imports_in imports.now)) }
-    ensures { IfOk result (λ s. string_bytes s
-        ≡ recorded_ways resolve.now key.now (import_words importer.entry) imports.now) }
+    out: &mut P,
+) -> Result<(), AllocError>
+    requires { All (IsNameable question.resolve.now) (imports_of (imports_in imports.now)) }
+    ensures printed { OnOk result (P.printed out.new ≡ P.printed out.old ++ flat_map P.parts
+        (recorded_paths question.entry.resolve.now question.entry.key.now
+        (option_map text_of question.entry.adapter) imports.now)) }
+    ensures kept { OnOk result (P.before out.new ≡ P.before out.old) }
 {
-    let mut ways = String::new(alloc);
     for (from, name, import) in imports.imports() {
-        let way = recorded_way(alloc, resolve, key, importer, (from, name, import))?;
-        ways.push_str(&way)?;
+        recorded_path(alloc, question, (from, name, import), out)?;
     }
-    Ok(ways)
+    Ok(())
 }
 
-/// The way to the function that an import is, if it is one that is asked about.
-fn recorded_way(
+/// Prints the path to the function that an import is, if it is one that is asked about.
+fn recorded_path<P: PathPrinter>(
     alloc: Global,
-    resolve: &Resolve,
-    key: &str,
-    importer: Importer<'_>,
+    question: Question<'_>,
     recorded: (&str, &str, &Import),
-) -> Result<String, AllocError>
-    requires { IsNameable resolve.now (import_view recorded.2.now) }
-    ensures { IfOk result (λ s. string_bytes s
-        ≡ recorded_way resolve.now key.now (import_words importer.entry)
-        (import_shown recorded.entry)) }
+    out: &mut P,
+) -> Result<(), AllocError>
+    requires { IsNameable question.resolve.now (import_view recorded.2.now) }
+    ensures printed { OnOk result (P.printed out.new ≡ P.printed out.old ++ flat_map P.parts
+        (recorded_path question.entry.resolve.now question.entry.key.now
+        (option_map text_of question.entry.adapter) (import_shown recorded.entry))) }
+    ensures kept { OnOk result (P.before out.new ≡ P.before out.old) }
 {
     let (from, name, import) = recorded;
-    match asked_function(alloc, resolve, key, name, import)? {
-        Some(function) => import_said(alloc, importer, &function, from, name),
-        None => Ok(String::new(alloc)),
+    match asked_function(alloc, question.resolve, question.key, name, import)? {
+        Some(function) => {
+            let path = import_path(alloc, question.adapter, &function, from, name)?;
+            out.path(alloc, &path)
+        }
+        None => Ok(()),
     }
 }
 
-/// A function whose way is an import alone.
-fn import_said(
+/// The path to a function that is its import alone.
+fn import_path<'p>(
     alloc: Global,
-    importer: Importer<'_>,
-    function: &Function<'_>,
-    from: &str,
-    name: &str,
-) -> Result<String, AllocError>
-    ensures { IfOk result (λ s. string_bytes s ≡ import_words importer.entry
+    adapter: Option<&'p str>,
+    function: &'p Function<'_>,
+    from: &'p str,
+    name: &'p str,
+) -> Result<Path<'p>, AllocError>
+    ensures { IfOk result (λ p. path_view p ≡ import_path (option_map text_of adapter.entry)
         (function_value function.now) from.now name.now) }
 {
-    match importer {
-        Importer::Lines(importer) => import_way(alloc, importer, function, from, name),
-        Importer::Json(adapter) => import_object(alloc, adapter, function, from, name),
-    }
+    let mut steps = Vec::new(alloc);
+    steps.push(Step::Import {
+        adapter,
+        module: from,
+        name,
+    })?;
+    Ok(Path {
+        interface: &function.interface,
+        target: Target::Name(function.name),
+        steps,
+    })
 }

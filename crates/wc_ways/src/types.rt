@@ -1,24 +1,23 @@
 //! The interfaces that a component imports for their types alone.
 
-ghost use Rattle.std.specs.Prelude.{◌≡◌, IfOk, string_bytes};
+ghost use Rattle.std.specs.Prelude.{◌≡◌, ◌++◌, ◌∷◌, [], OnOk, string_bytes};
+ghost use Rattle.std.specs.List.{flat_map};
 ghost use Rattle.std.specs.Option.{option_map};
+ghost use Rattle.wc_why.specs.Paths.{path_view, text_of};
 ghost use Rattle.wc_world.specs.WorldViews.{imported_view, live_view, world_view};
-ghost use Rattle.wc_ways.specs.Steps.{type_object};
-ghost use Rattle.wc_ways.specs.Types.{has_live_types, type_box, type_line, type_text, typed_name, used_text};
-ghost use Rattle.wc_ways.specs.Private.Adapters.{AreUsersIn, typed_said, types_said, types_words};
-ghost use Rattle.wc_ways.specs.Private.Modules.{adapter_name};
+ghost use Rattle.wc_ways.specs.Types.{has_live_types, typed_name, typed_said, types_said};
+ghost use Rattle.wc_ways.specs.Ways.{typed_path};
+ghost use Rattle.wc_ways.specs.Private.Adapters.{AreUsersIn};
 ghost use Rattle.wc_ways.specs.Private.Users.{imported_shown};
 
 use crate::asked::is_asked;
-use crate::originals::Form;
-use crate::steps::{text_json, text_or_null};
+use crate::forms::Form;
 use crate::users::{Users, user_of, users_in};
 use std::alloc::{AllocError, Global};
-use wc_json::escaped;
 use wc_maps::{Map, Set};
 use wc_resolve::{InterfaceId, TypeId};
+use wc_why::{Path, Target};
 use wc_world::{ComponentWorld, ImportedInterface};
-use wcwhy_command::{graph_text, word};
 
 /// A component's world, what is asked about of it, and the first interface that uses types of each.
 #[derive(Clone, Copy)]
@@ -29,14 +28,16 @@ pub(crate) struct AskedTypes<'a, 'w> {
     users: &'a Users,
 }
 
-/// What is said of the interfaces that are asked about and are imported for their types alone, in the world's order.
-pub(crate) fn types_said(
+/// Says which interfaces that are asked about are imported for their types alone, in the world's order.
+pub(crate) fn put_types<F: Form>(
     alloc: Global,
-    form: Form,
     world: &ComponentWorld<'_>,
     key: &str,
-) -> Result<String, AllocError>
-    ensures { IfOk result (λ s. string_bytes s ≡ types_said form (world_view world.now) key.now) }
+    out: &mut F,
+) -> Result<(), AllocError>
+    ensures said { OnOk result (F.printed out.new ≡ F.printed out.old
+        ++ flat_map F.shown (types_said F.typed (world_view world.now) key.now)) }
+    ensures kept { OnOk result (F.before out.new ≡ F.before out.old) }
 {
     let users = users_in(alloc, world)?;
     let asked = AskedTypes {
@@ -44,37 +45,42 @@ pub(crate) fn types_said(
         key,
         users: &users,
     };
-    all_typed(alloc, form, &asked)
+    put_all_typed(alloc, &asked, out)
 }
 
-/// What is said of all of them.
-fn all_typed(alloc: Global, form: Form, asked: &AskedTypes<'_, '_>) -> Result<String, AllocError>
-    requires { AreUsersIn asked.now }
-    ensures { IfOk result (λ s. string_bytes s
-        ≡ types_said form (world_view asked.now.world.now) asked.now.key.now) }
-{
-    let mut text = String::new(alloc);
-    for (name, imported) in asked.world.import_map.iter() {
-        let said = typed_said(alloc, form, asked, (name, imported))?;
-        text.push_str(&said)?;
-    }
-    Ok(text)
-}
-
-/// What is said of an interface, if it is asked about and imported for its types alone.
-fn typed_said(
+/// Says it of all of them.
+fn put_all_typed<F: Form>(
     alloc: Global,
-    form: Form,
+    asked: &AskedTypes<'_, '_>,
+    out: &mut F,
+) -> Result<(), AllocError>
+    requires { AreUsersIn asked.now }
+    ensures said { OnOk result (F.printed out.new ≡ F.printed out.old ++ flat_map F.shown
+        (types_said F.typed (world_view asked.now.world.now) asked.now.key.now)) }
+    ensures kept { OnOk result (F.before out.new ≡ F.before out.old) }
+{
+    for (name, imported) in asked.world.import_map.iter() {
+        put_if_typed(alloc, asked, (name, imported), out)?;
+    }
+    Ok(())
+}
+
+/// Says it of an interface, if it is asked about and imported for its types alone.
+fn put_if_typed<F: Form>(
+    alloc: Global,
     asked: &AskedTypes<'_, '_>,
     imported: (&Option<String>, &ImportedInterface),
-) -> Result<String, AllocError>
+    out: &mut F,
+) -> Result<(), AllocError>
     requires { AreUsersIn asked.now }
-    ensures { IfOk result (λ s. string_bytes s ≡ typed_said form (world_view asked.now.world.now)
-        asked.now.key.now (imported_shown imported.entry)) }
+    ensures said { OnOk result (F.printed out.new ≡ F.printed out.old ++ flat_map F.shown
+        (typed_said F.typed (world_view asked.now.world.now) asked.now.key.now
+        (imported_shown imported.entry))) }
+    ensures kept { OnOk result (F.before out.new ≡ F.before out.old) }
 {
     match typed_name(asked.world, asked.key, imported.0, imported.1) {
-        Some((name, id)) => types_words(alloc, form, name, user_of(asked.users, id)),
-        None => Ok(String::new(alloc)),
+        Some((name, id)) => out.put_typed(alloc, name, user_of(asked.users, id)),
+        None => Ok(()),
     }
 }
 
@@ -111,69 +117,13 @@ fn has_live_types(live: &Map<InterfaceId, Set<TypeId>>, id: InterfaceId) -> bool
     live.contains_key(&id)
 }
 
-/// What is said of an interface that is imported for its types alone, and of the first that uses them.
-fn types_words(
-    alloc: Global,
-    form: Form,
-    name: &str,
-    user: Option<&str>,
-) -> Result<String, AllocError>
-    ensures { IfOk result (λ s. string_bytes s
-        ≡ types_words form name.now (adapter_name user.entry)) }
+/// The path to an interface that is imported for its types alone.
+pub(crate) fn typed_path<'p>(alloc: Global, interface: &'p str, user: Option<&'p str>) -> Path<'p>
+    ensures { path_view result ∷ [] ≡ typed_path interface.now (option_map text_of user.entry) }
 {
-    match form {
-        Form::Lines => type_line(alloc, name, user),
-        Form::Graph => type_box(alloc, name, user),
-        Form::Json => type_object(alloc, name, user),
+    Path {
+        interface,
+        target: Target::Types { used_by: user },
+        steps: Vec::new(alloc),
     }
-}
-
-/// The line `INTERFACE: for its types, used by INTERFACE`.
-fn type_line(alloc: Global, name: &str, user: Option<&str>) -> Result<String, AllocError>
-    ensures { IfOk result (λ s. string_bytes s ≡ type_line name.now (adapter_name user.entry)) }
-{
-    let text = type_text(alloc, name, user)?;
-    format!(in alloc; "{text}\n")
-}
-
-/// The node of such an interface.
-fn type_box(alloc: Global, name: &str, user: Option<&str>) -> Result<String, AllocError>
-    ensures { IfOk result (λ s. string_bytes s ≡ type_box name.now (adapter_name user.entry)) }
-{
-    let text = type_text(alloc, name, user)?;
-    let label = graph_text(alloc, &text)?;
-    let name = word(alloc, name)?;
-    let id = graph_text(alloc, &name)?;
-    format!(in alloc; "  \"{id}\" [label=\"{label}\", shape=box];\n")
-}
-
-/// `INTERFACE: for its types`, and who uses them.
-fn type_text(alloc: Global, name: &str, user: Option<&str>) -> Result<String, AllocError>
-    ensures { IfOk result (λ s. string_bytes s ≡ type_text name.now (adapter_name user.entry)) }
-{
-    let name = word(alloc, name)?;
-    let used = used_text(alloc, user)?;
-    format!(in alloc; "{name}: for its types{used}")
-}
-
-/// Who uses types, after a comma.
-fn used_text(alloc: Global, user: Option<&str>) -> Result<String, AllocError>
-    ensures { IfOk result (λ s. string_bytes s ≡ used_text (adapter_name user.entry)) }
-{
-    match user {
-        Some(user) => {
-            let user = word(alloc, user)?;
-            format!(in alloc; ", used by {user}")
-        }
-        None => Ok(String::new(alloc)),
-    }
-}
-
-/// Such an interface as JSON, after a comma: a way without a name and without steps, with who uses the types.
-fn type_object(alloc: Global, name: &str, user: Option<&str>) -> Result<String, AllocError>
-    ensures { IfOk result (λ s. string_bytes s ≡ type_object name.now (adapter_name user.entry)) }
-{
-    let name = text_json(alloc, name)?;
-    let user = text_or_null(alloc, user)?;
-    format!(in alloc; ",{{\"interface\":{name},\"name\":null,\"steps\":[],\"used_by\":{user}}}")
 }

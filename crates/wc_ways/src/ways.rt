@@ -1,35 +1,35 @@
-//! The ways to the functions that a component imports.
+//! The paths to the functions that a component imports.
 
-ghost use Rattle.std.specs.Prelude.{◌≡◌, [], IfErr, IfOk, string_bytes};
+ghost use Rattle.std.specs.Prelude.{◌≡◌, ◌++◌, [], IfErr, IfOk, OnOk, string_bytes};
+ghost use Rattle.std.specs.List.{flat_map};
 ghost use Rattle.wc_plan.specs.Fault.{AreNameable};
 ghost use Rattle.wc_world.specs.WorldViews.{world_view};
-ghost use Rattle.wc_ways.specs.Private.Adapters.{main_said};
-ghost use Rattle.wc_ways.specs.Ways.{IsWaysText, or_none};
+ghost use Rattle.wc_ways.specs.Said.{IsAllSaid, Says, main_said};
+ghost use Rattle.wc_ways.specs.Ways.{IsWaysJson, IsWaysText, or_none};
 ghost use Rattle.wc_ways.specs.WaysFaults.{IsWaysFault};
 ghost use Rattle.wc_ways.specs.Nodes.{IsWaysGraph};
-ghost use Rattle.wc_ways.specs.Steps.{IsWaysJson};
 
-use crate::adapters::{Module, all_said, module_said};
-use crate::originals::Form;
-use crate::steps::list_line;
-use crate::types::types_said;
+use crate::adapters::put_adapters;
+use crate::forms::{Form, Graph, Module};
+use crate::types::put_types;
 use std::alloc::{AllocError, Global};
 use wc_gc::GcFault;
 use wc_json::escaped;
+use wc_why::{begin_paths, end_paths};
 use wc_world::ComponentWorld;
 
-/// The ways to what the modules of a component import of what its world imports, as lines: of what `key` asks about
+/// The paths to what the modules of a component import of what its world imports, as lines: of what `key` asks about
 /// (`asks_about`): an interface, a package, or a function or a type of the world itself; of all where it is `all`; or of
 /// all that is the world's own where it is `$root`. A key without a version asks about each version.
 ///
 /// The imports of the main module come first, and then those of each adapter, in order: functions, drops of resources,
 /// and built-ins for a future or a stream of a function that is imported. Built-ins for exports, and what modules of a
-/// component share, are none. Of each there is a line `INTERFACE NAME`, and then a line for each step of the way to it,
+/// component share, are none. Of each there is a line `INTERFACE NAME`, and then a line for each step of the path to it,
 /// after two blanks. INTERFACE is `$root` for what is the world's own; NAME is that of the function, and of another
 /// import the name that it has in its module:
 ///
 /// - of the main module `main imports MODULE NAME` alone;
-/// - of an adapter `main imports ADAPTER EXPORT`, if the main module imports the export where the way begins;
+/// - of an adapter `main imports ADAPTER EXPORT`, if the main module imports the export where the path begins;
 ///   `adapter ADAPTER exports EXPORT`; a line for each item that leads from it to the import, in the adapter as the encoder
 ///   has it, by the shortest chain (`wc_gc::why_imports`) of the exports for which it was trimmed; and
 ///   `adapter ADAPTER imports MODULE NAME`;
@@ -56,17 +56,14 @@ pub fn ways_text(alloc: Global, world: &ComponentWorld<'_>, key: &str) -> Result
         (string_bytes s)) }
     ensures fault { IfErr result (IsWaysFault (world_view world.now)) }
 {
-    let mut text = main_said(alloc, Form::Lines, world, key)?;
-    let ways = all_said(alloc, Form::Lines, world, key)?;
-    let types = types_said(alloc, Form::Lines, world, key)?;
-    text.push_str(&ways)?;
-    text.push_str(&types)?;
+    let mut text = String::new(alloc);
+    put_all(alloc, world, key, &mut text)?;
     Ok(text_or_none(alloc, key, text)?)
 }
 
-/// The ways of `ways_text` as JSON, in one line: an object whose member `ways` is the list of them, in its order. Each is an
+/// The paths of `ways_text` as JSON, in one line: an object whose member `ways` is the list of them, in its order. Each is an
 /// object with `interface` and `name`, the interface of the import and its name, and `steps`, the list of the steps of the
-/// way to it. An interface that is imported for its types alone has null for `name`, no steps, and a fourth member, `used_by`:
+/// path to it. An interface that is imported for its types alone has null for `name`, no steps, and a fourth member, `used_by`:
 /// the interface that uses them, or null. A step is an object whose first member is `kind`:
 ///
 /// - `import`, with `adapter`, `module` and `name`: that adapter, or library, imports it; null stands for the main module;
@@ -86,22 +83,19 @@ pub fn ways_json(alloc: Global, world: &ComponentWorld<'_>, key: &str) -> Result
     ensures json { IfOk result (λ v. IsWaysJson (world_view world.now) key.now v.items) }
     ensures fault { IfErr result (IsWaysFault (world_view world.now)) }
 {
-    let mut ways = main_said(alloc, Form::Json, world, key)?;
-    let more = all_said(alloc, Form::Json, world, key)?;
-    let types = types_said(alloc, Form::Json, world, key)?;
-    ways.push_str(&more)?;
-    ways.push_str(&types)?;
-    Ok(list_line(alloc, ways.as_bytes())?)
+    let mut out = begin_paths(alloc)?;
+    put_all(alloc, world, key, &mut out)?;
+    Ok(end_paths(out)?)
 }
 
-/// The ways of `ways_text` as a graph, in the language of Graphviz: the main module, each adapter and each library as a cluster, with
-/// an arrow from the main module to each export where a way begins, if it imports it; in an adapter the items of all ways
+/// The paths of `ways_text` as a graph, in the language of Graphviz: the main module, each adapter and each library as a cluster, with
+/// an arrow from the main module to each export where a path begins, if it imports it; in an adapter the items of all paths
 /// together, which are a tree, with an arrow to each from the item that first names it, or from the export that does; and
 /// a node for each import that is asked about, with arrows from the items, or modules, that import it. An interface that is
 /// imported for its types alone is a node without arrows. Texts are escaped as in the lines, and then as Graphviz has to
 /// read them between quotes. Where nothing is imported that is asked about, no import is in the graph.
 ///
-/// It takes time and memory linear in the modules: of many long ways it has each item once.
+/// It takes time and memory linear in the modules: of many long paths it has each item once.
 ///
 /// # Errors
 ///
@@ -112,10 +106,12 @@ pub fn ways_graph(alloc: Global, world: &ComponentWorld<'_>, key: &str) -> Resul
         (string_bytes s)) }
     ensures fault { IfErr result (IsWaysFault (world_view world.now)) }
 {
-    let main = main_said(alloc, Form::Graph, world, key)?;
-    let adapters = all_said(alloc, Form::Graph, world, key)?;
-    let types = types_said(alloc, Form::Graph, world, key)?;
-    Ok(format!(in alloc; "digraph wcplan {{\n{main}{adapters}{types}}}\n")?)
+    let mut graph = Graph {
+        text: String::new(alloc),
+    };
+    put_all(alloc, world, key, &mut graph)?;
+    let text = &graph.text;
+    Ok(format!(in alloc; "digraph wcplan {{\n{text}}}\n")?)
 }
 
 /// The lines; or the line that nothing is imported.
@@ -137,15 +133,40 @@ fn none_text(alloc: Global, key: &str) -> Result<String, AllocError>
     format!(in alloc; "{key}: in the world, not imported\n")
 }
 
-/// The ways of the main module, which are its imports alone.
-fn main_said(
+/// Says what leads to imports of the main module, which are its imports alone, and of each adapter; and then what is
+/// imported for its types alone.
+fn put_all<F: Form>(
     alloc: Global,
-    form: Form,
     world: &ComponentWorld<'_>,
     key: &str,
-) -> Result<String, AllocError>
+    out: &mut F,
+) -> Result<(), GcFault>
     requires { AreNameable (world_view world.now) }
-    ensures { IfOk result (λ s. string_bytes s ≡ main_said form (world_view world.now) key.now) }
+    ensures said { OnOk result (Says F.shown
+        (IsAllSaid F.alone F.saying F.typed (world_view world.now) key.now)
+        (F.printed out.old) (F.printed out.new)) }
+    ensures kept { OnOk result (F.before out.new ≡ F.before out.old) }
+    ensures fault { IfErr result (IsWaysFault (world_view world.now)) }
+{
+    put_main(alloc, world, key, out)?;
+    put_adapters(alloc, world, key, out)?;
+    match put_types(alloc, world, key, out) {
+        Ok(()) => Ok(()),
+        Err(AllocError) => Err(GcFault::Memory),
+    }
+}
+
+/// Says what leads to imports of the main module.
+fn put_main<F: Form>(
+    alloc: Global,
+    world: &ComponentWorld<'_>,
+    key: &str,
+    out: &mut F,
+) -> Result<(), AllocError>
+    requires { AreNameable (world_view world.now) }
+    ensures said { OnOk result (F.printed out.new ≡ F.printed out.old
+        ++ flat_map F.shown (main_said F.alone (world_view world.now) key.now)) }
+    ensures kept { OnOk result (F.before out.new ≡ F.before out.old) }
 {
     let module = Module {
         name: "main",
@@ -153,5 +174,6 @@ fn main_said(
         adapter: None,
         imports: &world.info.imports,
     };
-    module_said(alloc, form, world, key, module)
+    let metadata = world.encoder.metadata();
+    out.put_alone(alloc, &metadata.resolve, key, module)
 }

@@ -42,8 +42,7 @@ use Rattle.wc_world.specs.Views.{ComponentWorldView, NamedWorldAdapter}
 use Rattle.wc_world.specs.World.{IsWorldOf}
 use Rattle.wc_world.specs.declared.fault.WorldFault.TheVariants.{Memory as world_memory}
 use Rattle.wc_gc.specs.declared.fault.GcFault.TheVariants.{Memory as gc_memory}
-use Rattle.wc_ways.specs.Steps.{IsWaysJson}
-use Rattle.wc_ways.specs.Ways.{IsWaysText}
+use Rattle.wc_ways.specs.Ways.{IsWaysJson, IsWaysText}
 use Rattle.wc_ways.specs.WaysFaults.{IsWaysFault}
 use Rattle.wc_ways.specs.Nodes.{IsWaysGraph}
 use Rattle.wc_selection.specs.KeyNames.{request_keys}

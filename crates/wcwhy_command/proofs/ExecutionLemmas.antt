@@ -4,15 +4,12 @@ use Rattle.std.proofs.lemmas.List.{map-append, take_more}
 use Rattle.std.specs.Borrow.{Bor}
 use Rattle.indexmap.specs.IndexSet.{insert_key}
 use Rattle.wc_gc.proofs.NameSetLemmas.{same_text, set_more}
-use Rattle.wc_read.specs.Laws.{HasOneValue}
 use Rattle.wc_read.specs.Modules.{ModuleValue, SpellsModule}
 use Rattle.wc_read.specs.Names.{GlobalNameValue}
 use Rattle.wc_read.specs.Reading.Names.{AreFunctionNames}
 use Rattle.wc_texts.specs.Names.{first_occurrences}
-use Rattle.wc_gc.specs.LiveItems.{IsFault, IsLivenessCause, TrimInput, names_of}
-use Rattle.wc_gc.specs.LiveChains.{AreImportChains, AreWhyImports}
+use Rattle.wc_gc.specs.LiveItems.{IsFault, IsLivenessCause, names_of}
 use Rattle.wc_gc.specs.TrimPlace.{IsExplained}
-use Rattle.wc_gc.specs.declared.import_chains.ImportChains.{ImportChains}
 use Rattle.wc_gc.specs.declared.trim_place.TrimPlace.{TrimPlace}
 use Rattle.wc_gc.specs.declared.fault.GcFault.{GcFault}
 use Rattle.wc_gc.specs.declared.fault.GcFault.TheVariants.{Memory as gc_memory}
@@ -41,11 +38,6 @@ adapter_cause c bytes names out f place same still h at = (
 pub no_cause : (c : CommandView) (bytes : List ℕ) (names : List (List ℕ)) → names ≡ first_occurrences c.exports
     → ((f : GcFault) → ¬ (IsLivenessCause (record { bytes = bytes; required = names }) f)) → HasNoCause c bytes
 no_cause c bytes names same none = subst (λ (ns : List (List ℕ)). (f : GcFault) → ¬ (IsLivenessCause (record { bytes = bytes; required = ns }) f)) same none
-
--- the chains are those of the module that was read
-pub chains_of_read : (one : HasOneValue SpellsModule) (w : TrimInput) (m : ModuleValue) (c : ImportChains) → SpellsModule w.bytes m → AreWhyImports w c
-    → AreImportChains w.required m c
-chains_of_read one w m c spelled (n, also, chains) = subst (λ (k : ModuleValue). AreImportChains w.required k c) (one w.bytes n m also spelled) chains
 
 module _ (c : CommandView) (bytes : List ℕ) (m : ModuleValue) (spelled : SpellsModule bytes m) (out : Printing → Type 0) where
   pub printed_of : {T : Type 0} (names : List GlobalNameValue) (r : Result T WhyFault) → AreFunctionNames bytes names → OnOk r (ArePrinted c m names out)

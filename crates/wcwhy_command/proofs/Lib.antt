@@ -1,9 +1,8 @@
-pub mod JoinedLemmas
-pub mod ItemLemmas
-pub mod LineLemmas
-pub mod ExecutionLemmas
+mod JoinedLemmas
+mod ItemLemmas
+mod LineLemmas
+mod ExecutionLemmas
 mod AskedLemmas
 mod RunLemmas
-pub mod MarkLemmas
 mod PatternLemmas
 mod GraphLemmas

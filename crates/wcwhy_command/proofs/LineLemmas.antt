@@ -1,9 +1,5 @@
 -- What is printed of an import, by whether it is asked for and where its item is.
-use Rattle.std.proofs.Common.{◌≡◌, ℕ, List, map, Bool, Option, Result, Ok, Err, IfOk, String, Global, string_bytes, nat_eq, option_map, true, Some, None, sym, ◌∙◌, ap, subst, inl, inr}
-use Rattle.std.proofs.lemmas.Map.Made.{lookup-map_values}
-use Rattle.std.specs.Borrow.{Bor}
-use Rattle.std.specs.Map.{lookup}
-use Rattle.wc_read.specs.declared.operators.Space.TheVariants.{Funcs}
+use Rattle.std.proofs.Common.{◌≡◌, ℕ, List, Bool, Result, Ok, Err, IfOk, String, Global, string_bytes, true, Some, None, sym, ◌∙◌, ap, subst, inl, inr}
 use Rattle.wc_gc.specs.LiveChains.{IsChainTo}
 use Rattle.wc_gc.specs.declared.import_chains.Chain.{Chain}
 use Rattle.std.proofs.lemmas.Option.{same_Some}
@@ -14,10 +10,11 @@ use Rattle.wc_read.specs.Names.{GlobalNameValue}
 use Rattle.wc_gc.specs.Decoded.{ItemIndex}
 use Rattle.wc_gc.specs.LiveChains.{AreImportChains}
 use Rattle.wc_gc.specs.declared.import_chains.ImportChains.{ImportChains}
-use Rattle.wcwhy_command.specs.Arguments.{PatternView, text_of}
-use Rattle.wcwhy_command.specs.Lines.{IsChainText, IsLineText, IsTextOf, chain_text, name_in, unreached_text}
+use Rattle.wc_why.specs.Lines.{path_lines}
+use Rattle.wcwhy_command.specs.Arguments.{PatternView}
+use Rattle.wcwhy_command.specs.Lines.{IsLineText, IsPathText, IsTextOf, import_path, unreached_text}
 use Rattle.wcwhy_command.specs.Patterns.{are_asked, is_shown}
-use Rattle.wcwhy_command.proofs.ItemLemmas.{got_contains}
+use Rattle.wc_why.proofs.ItemLemmas.{got_contains}
 
 module _ (required : List (List ℕ)) (m : ModuleValue) (names : List GlobalNameValue) (patterns : List PatternView) (position : ℕ) (j : ImportValue) (text : List ℕ)
     (at : slice_get m.imports position ≡ Some j) where
@@ -26,7 +23,7 @@ module _ (required : List (List ℕ)) (m : ModuleValue) (names : List GlobalName
 
   module _ (c : ImportChains) (a : AreImportChains required m c) (shown : is_shown patterns j ≡ true) where
     pub reached_line : (index : ℕ) → slice_get c.imports.items position ≡ Some (Some index)
-        → ((x : ItemIndex) → slice_get c.order.items index ≡ Some x → IsChainText required m names j x text)
+        → ((x : ItemIndex) → slice_get c.order.items index ≡ Some x → IsPathText required m names j x text)
         → IsLineText required m names patterns position text
     reached_line index e chain = of_this (inr (
       shown,
@@ -41,18 +38,18 @@ module _ (required : List (List ℕ)) (m : ModuleValue) (names : List GlobalName
 
 -- the lines of an import, of which it is known what was answered for them
 
-pub chain_lines : {E : Type 0} (r : Result (String Global) E) (required : List (List ℕ)) (m : ModuleValue) (names : List GlobalNameValue) (i : ImportValue)
+pub path_by_chain : {E : Type 0} (r : Result (String Global) E) (required : List (List ℕ)) (m : ModuleValue) (names : List GlobalNameValue) (i : ImportValue)
     (chains : ImportChains) (index : ℕ) (c : Chain) → AreImportChains required m chains
     → ((needed : List (List ℕ)) (n : ModuleValue) (x : ItemIndex) → AreImportChains needed n chains → slice_get chains.order.items index ≡ Some x → IsChainTo needed n x c)
-    → IfOk r (λ t. string_bytes t ≡ chain_text names i c)
-    → IfOk r (λ t. (x : ItemIndex) → slice_get chains.order.items index ≡ Some x → IsChainText required m names i x (string_bytes t))
-chain_lines (Ok t) required m names i chains index c a found h = λ x e. (c, found required m x a e, h)
-chain_lines (Err e) required m names i chains index c a found h = tt
+    → IfOk r (λ t. string_bytes t ≡ path_lines (import_path names i c))
+    → IfOk r (λ t. (x : ItemIndex) → slice_get chains.order.items index ≡ Some x → IsPathText required m names i x (string_bytes t))
+path_by_chain (Ok t) required m names i chains index c a found h = λ x e. (c, found required m x a e, h)
+path_by_chain (Err e) required m names i chains index c a found h = tt
 
 module _ (required : List (List ℕ)) (m : ModuleValue) (names : List GlobalNameValue) (patterns : List PatternView) (position : ℕ) (j : ImportValue)
     (at : slice_get m.imports position ≡ Some j) (c : ImportChains) (a : AreImportChains required m c) (shown : is_shown patterns j ≡ true) where
   pub reached_lines : {E : Type 0} (r : Result (String Global) E) (index : ℕ) → slice_get c.imports.items position ≡ Some (Some index)
-      → IfOk r (λ t. (x : ItemIndex) → slice_get c.order.items index ≡ Some x → IsChainText required m names j x (string_bytes t))
+      → IfOk r (λ t. (x : ItemIndex) → slice_get c.order.items index ≡ Some x → IsPathText required m names j x (string_bytes t))
       → IfOk r (λ t. IsLineText required m names patterns position (string_bytes t))
   reached_lines (Ok t) index e h = reached_line required m names patterns position j (string_bytes t) at c a shown index e h
   reached_lines (Err f) index e h = tt
@@ -62,8 +59,3 @@ module _ (required : List (List ℕ)) (m : ModuleValue) (names : List GlobalName
   unreached_lines (Ok t) asked e same h =
       unreached_line required m names patterns position j (string_bytes t) at c a shown e (h ∙ ap (λ b. unreached_text b j) same)
   unreached_lines (Err f) asked e same h = tt
-
--- the name of a function, as a map has it
-pub name_found : (names : List (ℕ × Bor (List ℕ))) (x : ItemIndex) (r : Option (Bor (List ℕ))) → x.0 ≡ Funcs → r ≡ lookup (nat_eq x.1) names
-    → option_map text_of r ≡ name_in (map (λ e. (e.0, e.1.now)) names) x
-name_found names (space, index) r e f = rw e (ap (option_map text_of) f ∙ sym (lookup-map_values (λ (b : Bor (List ℕ)). b.now) (nat_eq index) names))

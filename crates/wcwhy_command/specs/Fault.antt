@@ -14,7 +14,7 @@ use Rattle.wc_program.specs.Files.{problem_text}
 use Rattle.wc_program.specs.declared.files.FileProblem.{FileProblem}
 use Rattle.wcwhy_command.specs.Arguments.{PatternView, pattern_view}
 use Rattle.wcwhy_command.specs.Patterns.{near_import, near_pattern}
-use Rattle.wcwhy_command.specs.Texts.{word}
+use Rattle.wc_why.specs.Texts.{word}
 use Rattle.wcwhy_command.specs.declared.fault.WhyFault.{WhyFault}
 use Rattle.wcwhy_command.specs.declared.fault.WhyFault.TheVariants.{Memory, CannotRead, Adapter, NoImport, Output}
 

@@ -3,10 +3,8 @@ pub mod Reading
 pub mod Usage
 pub mod Texts
 pub mod Patterns
-pub mod Joined
 pub mod Lines
 pub mod Graph
-pub mod Marks
 pub mod Fault
 pub mod Program
 pub mod Private

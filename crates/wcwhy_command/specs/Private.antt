@@ -2,4 +2,3 @@
 pub mod Reasons
 pub mod Asked
 pub mod Execution
-pub mod Marks

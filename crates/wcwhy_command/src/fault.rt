@@ -8,13 +8,13 @@ ghost use Rattle.wcwhy_command.specs.Fault.{NeedsText, adapter_text, given_word,
 
 use crate::arguments::ImportPattern;
 use crate::patterns::{near_import, near_pattern};
-use crate::texts::word;
 use std::alloc::{AllocError, Global};
 use wc_gc::{GcFault, TrimPlace};
 use wc_json::escaped;
 use wc_program::{FileProblem, problem_text};
 use wc_read::Import;
 use wc_texts::{OUT_OF_MEMORY, PutFailed, Refused, text_of};
+use wc_why::word;
 
 /// Why the program could not do what its arguments say. `run_command` says which of several causes is named; `Memory`
 /// may come in place of any.

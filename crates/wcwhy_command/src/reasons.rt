@@ -10,7 +10,7 @@ use wc_read::Module;
 pub(crate) struct Reasons<'w, 'r> {
     /// The names of the required exports.
     pub(crate) required: &'w Set<String>,
-    /// The chains from these to all items that they reach.
+    /// The chains from these to all items that they reach, which paths are made of.
     pub(crate) chains: &'w ImportChains<'r>,
     /// The adapter.
     pub(crate) adapter: &'w Module<'r>,
@@ -23,6 +23,6 @@ pub(crate) struct Reasons<'w, 'r> {
 pub(crate) struct Found<'w, 'r> {
     /// The names of the required exports.
     pub(crate) required: &'w Set<String>,
-    /// The chains from these to all items that they reach.
+    /// The chains from these to all items that they reach, which paths are made of.
     pub(crate) chains: &'w ImportChains<'r>,
 }

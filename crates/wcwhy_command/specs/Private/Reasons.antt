@@ -7,8 +7,8 @@ use Rattle.wc_read.specs.Names.{GlobalNameValue, name_entries}
 use Rattle.wc_gc.specs.LiveItems.{names_of, trim_input}
 use Rattle.wc_gc.specs.LiveChains.{AreImportChains, AreWhyImports}
 use Rattle.wcwhy_command.specs.Arguments.{CommandView, PatternView}
-use Rattle.wcwhy_command.specs.Graph.{IsGraph, IsImportNode, IsNodeIn}
-use Rattle.wcwhy_command.specs.Joined.{AreJoined}
+use Rattle.wcwhy_command.specs.Graph.{IsGraph, IsImportNode}
+use Rattle.wc_why.specs.Joined.{AreJoined}
 use Rattle.wcwhy_command.specs.Lines.{AreLines, IsLineText}
 use Rattle.wcwhy_command.specs.Program.{HasNoCause, IsReasonsText}
 use Rattle.wcwhy_command.specs.declared.reasons.Found.{Found}
@@ -44,17 +44,11 @@ IsLineOf r patterns position text = IsLineText (required_in r) (adapter_in r) (n
 abbrev pub IsGraphOf : Reasons → List PatternView → List ℕ → Type 0
 IsGraphOf r patterns text = IsGraph (required_in r) (adapter_in r) (names_in r) patterns text
 
-abbrev pub IsItemOf : Reasons → List Bool → ℕ → List ℕ → Type 0
-IsItemOf r marks index text = IsNodeIn r.chains.now (names_in r) marks index text
-
-abbrev pub AreItemsOf : Reasons → List Bool → List ℕ → Type 0
-AreItemsOf r marks text = AreJoined (length r.chains.now.order.items) (IsItemOf r marks) text
-
 abbrev pub IsNodeOf : Reasons → List PatternView → ℕ → List ℕ → Type 0
 IsNodeOf r patterns position text = IsImportNode r.chains.now (adapter_in r).imports patterns position text
 
-abbrev pub AreNodesOf : Reasons → List PatternView → List ℕ → Type 0
-AreNodesOf r patterns text = AreJoined (length (adapter_in r).imports) (IsNodeOf r patterns) text
+abbrev pub AreImportNodesOf : Reasons → List PatternView → List ℕ → Type 0
+AreImportNodesOf r patterns text = AreJoined (length (adapter_in r).imports) (IsNodeOf r patterns) text
 
 abbrev pub IsTextOfReasons : Reasons → Bool → List PatternView → List ℕ → Type 0
 IsTextOfReasons r dot patterns text = IsReasonsText dot (required_in r) (adapter_in r) (names_in r) patterns text

@@ -2,7 +2,8 @@ use Rattle.wc_gc.specs.LiveItems.{trim_input}
 use Rattle.wc_program.specs.Screen.{Becomes, output_ends}
 use Rattle.wc_read.specs.Modules.{module_value}
 use Rattle.wcwhy_command.specs.Arguments.{command_view}
-use Rattle.wcwhy_command.proofs.ExecutionLemmas.{chains_of_read, printed_of, some_cause_of}
+use Rattle.wc_why.proofs.ItemLemmas.{chains_of_read}
+use Rattle.wcwhy_command.proofs.ExecutionLemmas.{printed_of, some_cause_of}
 use Rattle.wcwhy_command.proofs.execution.print_found.Goals as goal
 
 pub print_adapter-requires-clause-chains : goal.print_adapter-requires-clause-chains

@@ -1,7 +1,8 @@
 use Rattle.std.proofs.Common.{◌∙◌, Some, ap, sym}
 use Rattle.wc_read.specs.Imports.{import_value}
 use Rattle.wcwhy_command.specs.Private.Reasons.{adapter_in, names_in, required_in}
-use Rattle.wcwhy_command.proofs.ItemLemmas.{import_at, index_read, index_there}
+use Rattle.wc_why.proofs.ItemLemmas.{index_there}
+use Rattle.wcwhy_command.proofs.ItemLemmas.{import_at, index_read}
 use Rattle.wcwhy_command.proofs.LineLemmas.{reached_lines, unreached_lines}
 use Rattle.wcwhy_command.proofs.lines.import_text.Goals as goal
 

@@ -1,5 +1,5 @@
 use Rattle.std.proofs.Common.{◌≡◌}
-use Rattle.wcwhy_command.specs.Joined.{AreJoined}
+use Rattle.wc_why.specs.Joined.{AreJoined}
 use Rattle.wcwhy_command.specs.Private.Reasons.{IsLineOf, PutsSome}
 use Rattle.wcwhy_command.proofs.lines.put_lines.Given as goal
 

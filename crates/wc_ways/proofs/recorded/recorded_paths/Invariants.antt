@@ -1,0 +1,17 @@
+use Rattle.std.proofs.Common.{◌≡◌, ◌++◌, All, option_map}
+use Rattle.std.specs.List.{flat_map}
+use Rattle.wc_validate.specs.Imports.Iter.{imports_left}
+use Rattle.wc_validate.specs.Imports.Map.{imports_in}
+use Rattle.wc_world.specs.Slots.{imports_of}
+use Rattle.wc_plan.specs.Calls.{IsNameable}
+use Rattle.wc_why.specs.Paths.{text_of}
+use Rattle.wc_ways.specs.Ways.{recorded_path}
+use Rattle.wc_ways.proofs.recorded.recorded_paths.Given as goal
+
+abbrev pub invariant-loop-from : goal.invariant-loop-from
+invariant-loop-from g l = record {
+  made : g.P.PathPrinter.printed l.out ++ flat_map (λ x. flat_map g.P.PathPrinter.parts (recorded_path l.question.resolve.now l.question.key.now (option_map text_of l.question.adapter) x)) (imports_left l.from-iterator)
+      ≡ g.P.PathPrinter.printed l.fn.out ++ flat_map (λ x. flat_map g.P.PathPrinter.parts (recorded_path l.question.resolve.now l.question.key.now (option_map text_of l.question.adapter) x)) (imports_in l.imports);
+  kept : g.P.PathPrinter.before l.out ≡ g.P.PathPrinter.before l.fn.out;
+  nameable : All (IsNameable l.question.resolve.now) (imports_of (imports_left l.from-iterator));
+}

@@ -1,0 +1,196 @@
+//! In which form it is said why something is imported: by paths that are printed, or as a graph.
+
+ghost use Rattle.std.specs.Prelude.{◌≡◌, ◌++◌, ℕ, List, All, OnOk, Option};
+ghost use Rattle.std.specs.List.{flat_map};
+ghost use Rattle.std.specs.Option.{option_map};
+ghost use Rattle.wc_plan.specs.Calls.{IsNameable};
+ghost use Rattle.wc_resolve.specs.Kinds.{ResolveView};
+ghost use Rattle.wc_validate.specs.Imports.Entries.{Records};
+ghost use Rattle.wc_validate.specs.Imports.Map.{imports_in};
+ghost use Rattle.wc_why.specs.Paths.{text_of};
+ghost use Rattle.wc_world.specs.Slots.{imports_of};
+ghost use Rattle.wc_ways.specs.Originals.{Original};
+ghost use Rattle.wc_ways.specs.Said.{Says};
+ghost use Rattle.wc_ways.specs.Private.Adapters.{IsWalk, key_in, original_in};
+
+use crate::graph::{module_graph, original_graph, typed_node};
+use crate::originals::Walk;
+use crate::paths::original_paths;
+use crate::recorded::{Question, recorded_paths};
+use crate::types::typed_path;
+use std::alloc::{AllocError, Global};
+use wc_resolve::Resolve;
+use wc_validate::ImportMap;
+use wc_why::PathPrinter;
+
+/// A module of which only its imports are known: what it is called, in a graph and as its node, and its imports.
+#[derive(Clone, Copy)]
+pub(crate) struct Module<'a> {
+    pub(crate) name: &'a str,
+    pub(crate) id: &'a str,
+    /// The name of the adapter; `None` for the main module.
+    pub(crate) adapter: Option<&'a str>,
+    pub(crate) imports: &'a ImportMap,
+}
+
+/// What takes what is said of modules, one after another.
+pub(crate) trait Form {
+    // What is said is a list of these, and of each of them some of those are printed.
+    ghost Part: { Type 0 };
+
+    ghost Shown: { Type 0 };
+
+    ghost shown: { Part → List Shown };
+
+    // What was printed, and what stood there before.
+    ghost printed: { Self → List Shown };
+
+    ghost before: { Self → List ℕ };
+
+    // What is said of a module of which only its imports are known.
+    ghost alone: { ResolveView → List ℕ → Option (List ℕ) → List ℕ → List ℕ → Records → List Part };
+
+    // What is said of an adapter that was trimmed, by the key and the adapter's index.
+    ghost saying: { List ℕ → ℕ → Original → List Part → Type 0 };
+
+    // What is said of an interface that is imported for its types alone, by its name and that of the first that uses them.
+    ghost typed: { List ℕ → Option (List ℕ) → List Part };
+
+    /// Says what leads to imports of a module of which only its imports are known.
+    fn put_alone(
+        &mut self,
+        alloc: Global,
+        resolve: &Resolve,
+        key: &str,
+        module: Module<'_>,
+    ) -> Result<(), AllocError>
+        requires { All (IsNameable resolve.now) (imports_of (imports_in module.imports.now)) }
+        ensures said { OnOk result (printed self.new ≡ printed self.old ++ flat_map shown
+            (alone resolve.now key.now (option_map text_of module.entry.adapter)
+            module.entry.id.now module.entry.name.now module.entry.imports.now)) }
+        ensures kept { OnOk result (before self.new ≡ before self.old) };
+
+    /// Says what leads to imports of an adapter.
+    fn put_walk(&mut self, alloc: Global, walk: &Walk<'_, '_, '_>) -> Result<(), AllocError>
+        requires { IsWalk walk.now }
+        ensures said { OnOk result (Says shown
+            (saying (key_in walk.now) walk.now.adapter.now.index (original_in walk.now))
+            (printed self.old) (printed self.new)) }
+        ensures kept { OnOk result (before self.new ≡ before self.old) };
+
+    /// Says that an interface is imported for its types alone.
+    fn put_typed(
+        &mut self,
+        alloc: Global,
+        interface: &str,
+        user: Option<&str>,
+    ) -> Result<(), AllocError>
+        ensures said { OnOk result (printed self.new ≡ printed self.old
+            ++ flat_map shown (typed interface.now (option_map text_of user.entry))) }
+        ensures kept { OnOk result (before self.new ≡ before self.old) };
+}
+
+/// The paths, printed one after another.
+impl<P: PathPrinter> Form for P {
+    ghost use Rattle.wc_why.specs.Paths.{PathView};
+    ghost use Rattle.wc_ways.specs.Ways.{AreOriginalPaths, recorded_paths, typed_path};
+
+    ghost Part = { PathView };
+
+    ghost Shown = { P.Part };
+
+    ghost shown = { P.parts };
+
+    ghost printed = { P.printed };
+
+    ghost before = { P.before };
+
+    ghost alone = { λ r key adapter id label records. recorded_paths r key adapter records };
+
+    ghost saying = { λ key index. AreOriginalPaths key };
+
+    ghost typed = { typed_path };
+
+    fn put_alone(
+        &mut self,
+        alloc: Global,
+        resolve: &Resolve,
+        key: &str,
+        module: Module<'_>,
+    ) -> Result<(), AllocError> {
+        let question = Question {
+            resolve,
+            key,
+            adapter: module.adapter,
+        };
+        recorded_paths(alloc, question, module.imports, self)
+    }
+
+    fn put_walk(&mut self, alloc: Global, walk: &Walk<'_, '_, '_>) -> Result<(), AllocError> {
+        original_paths(alloc, walk, self)
+    }
+
+    fn put_typed(
+        &mut self,
+        alloc: Global,
+        interface: &str,
+        user: Option<&str>,
+    ) -> Result<(), AllocError> {
+        let path = typed_path(alloc, interface, user);
+        self.path(alloc, &path)
+    }
+}
+
+/// A graph in the language of Graphviz.
+#[derive(Drop)]
+pub(crate) struct Graph {
+    /// Its clusters, and the arrows between them.
+    pub(crate) text: String,
+}
+
+impl Form for Graph {
+    ghost use Rattle.std.specs.Prelude.{ℕ, [], ◌∷◌, string_bytes};
+    ghost use Rattle.wc_ways.specs.Nodes.{IsOriginalGraph, module_graph, typed_node};
+
+    ghost Part = { ℕ };
+
+    ghost Shown = { ℕ };
+
+    ghost shown = { λ b. b ∷ [] };
+
+    ghost printed = { λ g. string_bytes g.text };
+
+    ghost before = { λ _. [] };
+
+    ghost alone = { λ r key adapter id label records. module_graph r key id label records };
+
+    ghost saying = { IsOriginalGraph };
+
+    ghost typed = { typed_node };
+
+    fn put_alone(
+        &mut self,
+        alloc: Global,
+        resolve: &Resolve,
+        key: &str,
+        module: Module<'_>,
+    ) -> Result<(), AllocError> {
+        let graph = module_graph(alloc, resolve, key, module)?;
+        self.text.push_str(&graph)
+    }
+
+    fn put_walk(&mut self, alloc: Global, walk: &Walk<'_, '_, '_>) -> Result<(), AllocError> {
+        let graph = original_graph(alloc, walk)?;
+        self.text.push_str(&graph)
+    }
+
+    fn put_typed(
+        &mut self,
+        alloc: Global,
+        interface: &str,
+        user: Option<&str>,
+    ) -> Result<(), AllocError> {
+        let node = typed_node(alloc, interface, user)?;
+        self.text.push_str(&node)
+    }
+}

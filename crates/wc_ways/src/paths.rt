@@ -1,0 +1,159 @@
+//! The paths through an adapter.
+
+ghost use Rattle.std.specs.Prelude.{◌≡◌, ◌<◌, IfOk, OnOk, Some, length, map};
+ghost use Rattle.std.specs.List.{slice_get};
+ghost use Rattle.std.specs.Option.{option_map, option_to_list};
+ghost use Rattle.wc_gc.specs.Decoded.{ItemIndex};
+ghost use Rattle.wc_gc.specs.RestrictionLaws.{IsImportItem};
+ghost use Rattle.wc_read.specs.Imports.{import_value};
+ghost use Rattle.wc_why.specs.Paths.{path_view, step_view};
+ghost use Rattle.wc_ways.specs.Originals.{wanted_of};
+ghost use Rattle.wc_ways.specs.Private.Adapters.{IsWalk, function_value, key_in, original_in};
+ghost use Rattle.wc_ways.specs.Said.{Says};
+ghost use Rattle.wc_ways.specs.Ways.{AreOriginalPaths, IsItemPath, IsPathAt, adapter_path, first_steps};
+
+use crate::asked::Function;
+use crate::originals::{Walk, asked_import, is_wanted};
+use std::alloc::{AllocError, Global};
+use wc_gc::Chain;
+use wc_read::Import;
+use wc_why::{Path, PathPrinter, Step, Target, push_items};
+
+/// Prints the paths to all imports of an adapter that are asked about, in the order of the file.
+pub(crate) fn original_paths<P: PathPrinter>(
+    alloc: Global,
+    walk: &Walk<'_, '_, '_>,
+    out: &mut P,
+) -> Result<(), AllocError>
+    requires { IsWalk walk.now }
+    ensures said { OnOk result (Says P.parts
+        (AreOriginalPaths (key_in walk.now) (original_in walk.now))
+        (P.printed out.old) (P.printed out.new)) }
+    ensures kept { OnOk result (P.before out.new ≡ P.before out.old) }
+{
+    for position in 0..walk.original.imports.len() {
+        path_at(alloc, walk, position, out)?;
+    }
+    Ok(())
+}
+
+/// Prints the path to the import at a position, if it is asked about and reached.
+fn path_at<P: PathPrinter>(
+    alloc: Global,
+    walk: &Walk<'_, '_, '_>,
+    position: usize,
+    out: &mut P,
+) -> Result<(), AllocError>
+    requires walk { IsWalk walk.now }
+    requires there { position < length walk.now.original.now.imports.items }
+    ensures said { OnOk result (Says P.parts
+        (IsPathAt (original_in walk.now) (key_in walk.now) position)
+        (P.printed out.old) (P.printed out.new)) }
+    ensures kept { OnOk result (P.before out.new ≡ P.before out.old) }
+{
+    let import = &walk.original.imports[position];
+    let Some(function) = asked_import(alloc, walk.adapter, import)? else {
+        return Ok(());
+    };
+    match item_path(alloc, walk, position, import, &function)? {
+        Some(path) => out.path(alloc, &path),
+        None => Ok(()),
+    }
+}
+
+/// The path to the import at a position, which is this function, if it is reached.
+fn item_path<'p>(
+    alloc: Global,
+    walk: &'p Walk<'_, '_, '_>,
+    position: usize,
+    import: &'p Import<'_>,
+    function: &'p Function<'_>,
+) -> Result<Option<Path<'p>>, AllocError>
+    requires walk { IsWalk walk.now }
+    requires there { slice_get (original_in walk.now).value.imports position
+        ≡ Some (import_value import.now) }
+    ensures { IfOk result (λ p. (x : ItemIndex) → IsImportItem (original_in walk.now).value.imports
+        position x → IsItemPath (original_in walk.now) (function_value function.now)
+        (import_value import.now) x (option_to_list (option_map path_view p))) }
+{
+    match walk.chains.imports[position] {
+        Some(index) => reached_path(alloc, walk, index, import, function),
+        None => Ok(None),
+    }
+}
+
+/// The path to an import, which is this function, and whose item is at an index among those that are reached.
+fn reached_path<'p>(
+    alloc: Global,
+    walk: &'p Walk<'_, '_, '_>,
+    index: usize,
+    import: &'p Import<'_>,
+    function: &'p Function<'_>,
+) -> Result<Option<Path<'p>>, AllocError>
+    requires walk { IsWalk walk.now }
+    requires there { index < length walk.now.chains.now.order.items }
+    ensures { IfOk result (λ p. (x : ItemIndex)
+        → slice_get walk.now.chains.now.order.items index ≡ Some x
+        → IsItemPath (original_in walk.now) (function_value function.now)
+        (import_value import.now) x (option_to_list (option_map path_view p))) }
+{
+    let chain = walk.chains.chain(alloc, index)?;
+    let path = chain_path(alloc, walk, import, function, &chain)?;
+    Ok(Some(path))
+}
+
+/// The path to an import, which is this function, by a chain: the main module's import of the export that the chain begins
+/// with, if there is one, the export, the items of the chain, and the import.
+fn chain_path<'p>(
+    alloc: Global,
+    walk: &'p Walk<'_, '_, '_>,
+    import: &'p Import<'_>,
+    function: &'p Function<'_>,
+    chain: &Chain<'p>,
+) -> Result<Path<'p>, AllocError>
+    requires { IsWalk walk.now }
+    ensures { IfOk result (λ p. path_view p ≡ adapter_path (original_in walk.now)
+        (function_value function.now) chain.now (import_value import.now)) }
+{
+    let mut steps = first_steps(alloc, walk, chain.export)?;
+    push_items(walk.names, &chain.items, &mut steps)?;
+    steps.push(Step::Import {
+        adapter: Some(walk.adapter.name),
+        module: import.module,
+        name: import.name,
+    })?;
+    Ok(Path {
+        interface: &function.interface,
+        target: Target::Name(function.name),
+        steps,
+    })
+}
+
+/// The steps to an export of the adapter: the main module's import of it, if there is one, and the export.
+fn first_steps<'p>(
+    alloc: Global,
+    walk: &'p Walk<'_, '_, '_>,
+    export: &'p str,
+) -> Result<Vec<Step<'p>>, AllocError>
+    requires { IsWalk walk.now }
+    ensures { IfOk result (λ v. map step_view v.items
+        ≡ first_steps (wanted_of (original_in walk.now)) (original_in walk.now).name export.now) }
+{
+    let adapter = walk.adapter.name;
+    let mut steps = Vec::new(alloc);
+    let last = Step::Export {
+        adapter: Some(adapter),
+        name: export,
+    };
+    if !is_wanted(walk, export) {
+        steps.push(last)?;
+        return Ok(steps);
+    }
+    steps.push(Step::Import {
+        adapter: None,
+        module: adapter,
+        name: export,
+    })?;
+    steps.push(last)?;
+    Ok(steps)
+}

@@ -1,0 +1,6 @@
+pub mod MarkLemmas
+pub mod JoinedLemmas
+pub mod PathLemmas
+pub mod ItemLemmas
+pub mod TokenLemmas
+pub mod GraphLemmas

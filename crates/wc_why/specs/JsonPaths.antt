@@ -1,0 +1,68 @@
+-- Paths as JSON.
+use Rattle.std.specs.Prelude.{ℕ, List, [], ◌∷◌, ◌++◌, map, codes, Option}
+use Rattle.json.specs.Json.{Json, null, string}
+use Rattle.json.specs.Token.{Token, begin_array, begin_object, end_array, end_object, key}
+use Rattle.wc_json.specs.Shapes.{array_of, nullable_json, number_json, object_of}
+use Rattle.wc_read.specs.declared.operators.Space.{Space}
+use Rattle.wc_why.specs.Lines.{space_name}
+use Rattle.wc_why.specs.Paths.{PathView, StepView, TargetView, named, typed, imported, exported, passed}
+
+-- a text; null for none
+abbrev pub text_or_null : Option (List ℕ) → Json
+text_or_null text = nullable_json string text
+
+-- the steps of paths, each an object whose first member is its kind
+
+abbrev pub import_json : Option (List ℕ) → List ℕ → List ℕ → Json
+import_json adapter from name =
+    object_of (
+    (codes "kind", string (codes "import")) ∷ (codes "adapter", text_or_null adapter) ∷ (codes "module", string from)
+    ∷ (codes "name", string name) ∷ []
+    )
+
+abbrev pub export_json : Option (List ℕ) → List ℕ → Json
+export_json adapter name =
+    object_of ((codes "kind", string (codes "export")) ∷ (codes "adapter", text_or_null adapter) ∷ (codes "name", string name) ∷ [])
+
+abbrev pub item_json : Space → ℕ → Option (List ℕ) → Json
+item_json space index name =
+    object_of (
+    (codes "kind", string (codes "item")) ∷ (codes "space", string (space_name space)) ∷ (codes "index", number_json index)
+    ∷ (codes "name", text_or_null name) ∷ []
+    )
+
+abbrev pub step_json : StepView → Json
+step_json (imported adapter from name) = import_json adapter from name
+step_json (exported adapter name) = export_json adapter name
+step_json (passed space index name) = item_json space index name
+
+-- a path: the interface, what of it the path leads to, and its steps
+
+abbrev pub named_json : List ℕ → List ℕ → List StepView → Json
+named_json interface name steps =
+    object_of ((codes "interface", string interface) ∷ (codes "name", string name) ∷ (codes "steps", array_of (map step_json steps)) ∷ [])
+
+abbrev pub typed_json : List ℕ → Option (List ℕ) → List StepView → Json
+typed_json interface user steps =
+    object_of (
+    (codes "interface", string interface) ∷ (codes "name", null) ∷ (codes "steps", array_of (map step_json steps))
+    ∷ (codes "used_by", text_or_null user) ∷ []
+    )
+
+abbrev pub target_json : List ℕ → TargetView → List StepView → Json
+target_json interface (named name) steps = named_json interface name steps
+target_json interface (typed user) steps = typed_json interface user steps
+
+abbrev pub path_json : PathView → Json
+path_json p = target_json p.interface p.target p.steps
+
+-- the tokens of a list of paths: those before the paths, and all, from those that come before its end
+abbrev pub begun_tokens : List Token
+begun_tokens = begin_object ∷ key (codes "ways") ∷ begin_array ∷ []
+
+abbrev pub ended_tokens : List Token → List Token
+ended_tokens ts = ts ++ end_array ∷ end_object ∷ []
+
+-- paths, in order
+abbrev pub paths_json : List PathView → Json
+paths_json paths = object_of ((codes "ways", array_of (map path_json paths)) ∷ [])

@@ -1,0 +1,23 @@
+//! Why a module imports something: the path to an import, as a value of steps, and what prints paths: as lines, as JSON
+//! and as a graph in the language of Graphviz.
+//!
+//! A `Path` leads to one import by its `Step`s. It is made once, from a chain of `wc_gc::why_imports` (`push_items`), and
+//! given to a `PathPrinter`: a `String` takes the lines of paths, a `json::Writer` takes them as JSON. A graph is drawn of
+//! the tree that all chains of a module are in (`Tree`), with the items that are on paths to what is asked for (`marks_of`).
+#![tactic(auto)]
+
+mod graph;
+mod json_paths;
+mod lines;
+mod marks;
+mod paths;
+mod texts;
+
+pub use graph::{
+    NodeNames, Tree, arrow_text, export_id, item_id, item_nodes, target_box, target_node,
+};
+pub use json_paths::{begin_paths, end_paths};
+pub use lines::{importer_text, item_text, push_path, target_text};
+pub use marks::marks_of;
+pub use paths::{Path, PathPrinter, Step, Target, push_items};
+pub use texts::{graph_text, two_words, word};

@@ -1,0 +1,210 @@
+//! Paths as lines.
+
+ghost use Rattle.std.specs.Prelude.{◌≡◌, ◌++◌, IfOk, OnOk, map, string_bytes};
+ghost use Rattle.std.specs.List.{flat_map};
+ghost use Rattle.std.specs.Option.{option_map};
+ghost use Rattle.wc_why.specs.Lines.{export_line, import_line, importer_text, item_text, path_lines, space_name, step_line, target_text, types_text, used_text};
+ghost use Rattle.wc_why.specs.Paths.{path_view, step_view, target_view, text_of};
+
+use crate::paths::{Path, PathPrinter, Step, Target};
+use crate::texts::{two_words, word};
+use std::alloc::{AllocError, Global};
+use wc_json::escaped;
+use wc_read::Space;
+
+/// The lines of a path (`push_path`).
+impl PathPrinter for String {
+    ghost use Rattle.std.specs.Prelude.{ℕ, [], string_bytes};
+    ghost use Rattle.wc_why.specs.Lines.{path_lines};
+
+    ghost Part = { ℕ };
+
+    ghost parts = { path_lines };
+
+    ghost printed = { string_bytes };
+
+    ghost before = { λ _. [] };
+
+    fn path(&mut self, alloc: Global, path: &Path<'_>) -> Result<(), AllocError> {
+        push_path(alloc, path, self)
+    }
+}
+
+/// Appends the line of what a path leads to (`target_text`), and then a line for each step, after two blanks:
+///
+/// - `main imports MODULE NAME`, or `adapter ADAPTER imports MODULE NAME`;
+/// - `export NAME`, or `adapter ADAPTER exports NAME`;
+/// - an item as `item_text` has it.
+///
+/// Texts from outside are escaped (`wc_json::escaped`), and a blank in them is `\u{20}`; but in the name of an item, and of
+/// an export of a module that stands alone, which end their lines, it stays.
+///
+/// # Errors
+///
+/// `AllocError`: an allocation failed. Some of the lines may have been appended.
+pub fn push_path(alloc: Global, path: &Path<'_>, text: &mut String) -> Result<(), AllocError>
+    ensures { OnOk result (string_bytes text.new
+        ≡ string_bytes text.old ++ path_lines (path_view path.now)) }
+{
+    let target = target_text(alloc, path.interface, path.target)?;
+    text.push_str(&target)?;
+    text.push_str("\n")?;
+    push_steps(alloc, &path.steps, text)
+}
+
+/// What a path leads to: `INTERFACE NAME`; or `INTERFACE: for its types`, and after it `, used by INTERFACE`, if one uses
+/// them. Each text is a word (`word`).
+///
+/// # Errors
+///
+/// `AllocError`: an allocation failed.
+pub fn target_text(alloc: Global, interface: &str, target: Target<'_>) -> Result<String, AllocError>
+    ensures { IfOk result (λ s. string_bytes s
+        ≡ target_text interface.now (target_view target.entry)) }
+{
+    match target {
+        Target::Name(name) => two_words(alloc, interface, name),
+        Target::Types { used_by } => types_text(alloc, interface, used_by),
+    }
+}
+
+/// `INTERFACE: for its types`, and which interface uses them, if one does.
+fn types_text(alloc: Global, interface: &str, user: Option<&str>) -> Result<String, AllocError>
+    ensures { IfOk result (λ s. string_bytes s
+        ≡ types_text interface.now (option_map text_of user.entry)) }
+{
+    let interface = word(alloc, interface)?;
+    let used = used_text(alloc, user)?;
+    format!(in alloc; "{interface}: for its types{used}")
+}
+
+/// Which interface uses types, after a comma, if one does.
+fn used_text(alloc: Global, user: Option<&str>) -> Result<String, AllocError>
+    ensures { IfOk result (λ s. string_bytes s ≡ used_text (option_map text_of user.entry)) }
+{
+    match user {
+        Some(user) => {
+            let user = word(alloc, user)?;
+            format!(in alloc; ", used by {user}")
+        }
+        None => Ok(String::new(alloc)),
+    }
+}
+
+/// Appends the lines of steps, in order.
+fn push_steps(alloc: Global, steps: &[Step<'_>], text: &mut String) -> Result<(), AllocError>
+    ensures { OnOk result (string_bytes text.new
+        ≡ string_bytes text.old ++ flat_map step_line (map step_view steps.now)) }
+{
+    for step in steps {
+        let line = step_line(alloc, *step)?;
+        text.push_str(&line)?;
+    }
+    Ok(())
+}
+
+/// The line of a step.
+fn step_line(alloc: Global, step: Step<'_>) -> Result<String, AllocError>
+    ensures { IfOk result (λ s. string_bytes s ≡ step_line (step_view step.entry)) }
+{
+    match step {
+        Step::Import {
+            adapter,
+            module,
+            name,
+        } => import_line(alloc, adapter, module, name),
+        Step::Export { adapter, name } => export_line(alloc, adapter, name),
+        Step::Item { space, index, name } => {
+            let item = item_text(alloc, space, index, name)?;
+            format!(in alloc; "  {item}\n")
+        }
+    }
+}
+
+/// The line of an import.
+fn import_line(
+    alloc: Global,
+    adapter: Option<&str>,
+    from: &str,
+    name: &str,
+) -> Result<String, AllocError>
+    ensures { IfOk result (λ s. string_bytes s
+        ≡ import_line (option_map text_of adapter.entry) from.now name.now) }
+{
+    let importer = importer_text(alloc, adapter)?;
+    let names = two_words(alloc, from, name)?;
+    format!(in alloc; "  {importer} imports {names}\n")
+}
+
+/// Whose imports these are: `main`, or `adapter ADAPTER`, the name as a word.
+///
+/// # Errors
+///
+/// `AllocError`: an allocation failed.
+pub fn importer_text(alloc: Global, adapter: Option<&str>) -> Result<String, AllocError>
+    ensures { IfOk result (λ s. string_bytes s ≡ importer_text (option_map text_of adapter.entry)) }
+{
+    match adapter {
+        Some(name) => {
+            let name = word(alloc, name)?;
+            format!(in alloc; "adapter {name}")
+        }
+        None => String::from_str(alloc, "main"),
+    }
+}
+
+/// The line of an export.
+fn export_line(alloc: Global, adapter: Option<&str>, name: &str) -> Result<String, AllocError>
+    ensures { IfOk result (λ s. string_bytes s
+        ≡ export_line (option_map text_of adapter.entry) name.now) }
+{
+    match adapter {
+        Some(adapter) => {
+            let adapter = word(alloc, adapter)?;
+            let name = word(alloc, name)?;
+            format!(in alloc; "  adapter {adapter} exports {name}\n")
+        }
+        None => {
+            let name = escaped(alloc, name)?;
+            format!(in alloc; "  export {name}\n")
+        }
+    }
+}
+
+/// An item: its kind (`type`, `func`, `table`, `memory` or `global`), its index, and its name, if it has one, escaped
+/// (`wc_json::escaped`).
+///
+/// # Errors
+///
+/// `AllocError`: an allocation failed.
+pub fn item_text(
+    alloc: Global,
+    space: Space,
+    index: u32,
+    name: Option<&str>,
+) -> Result<String, AllocError>
+    ensures { IfOk result (λ s. string_bytes s
+        ≡ item_text space index (option_map text_of name.entry)) }
+{
+    let space = space_name(space);
+    match name {
+        Some(name) => {
+            let name = escaped(alloc, name)?;
+            format!(in alloc; "{space} {index} {name}")
+        }
+        None => format!(in alloc; "{space} {index}"),
+    }
+}
+
+/// The word for an item of a space.
+pub(crate) fn space_name(space: Space) -> &'static str
+    ensures { result.now ≡ space_name space }
+{
+    match space {
+        Space::Types => "type",
+        Space::Funcs => "func",
+        Space::Tables => "table",
+        Space::Memories => "memory",
+        Space::Globals => "global",
+    }
+}
