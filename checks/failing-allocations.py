@@ -57,9 +57,8 @@ WHOLE = {
 # a file can't be read or written.
 PROGRAMS = {"wcplan", "wcplan_failing", "wcplan_mute", "wcwhy", "wcwhy_failing", "run_program"}
 STORE = ("error wcplan: cannot make directory ", "error wcplan: cannot write ", "error wcwhy: cannot read ", "printed wctrim: cannot write ")
-# How a line ends that says that memory ran out, also where it is JSON.
-ENDED = re.compile(r'out of memory(","place":null\})?$')
-
+# How a line ends that says that memory ran out, also where it is JSON, with the module of an adapter or without.
+ENDED = re.compile(r'out of memory(","place":(null|\{[^{}]*\})\})?$')
 
 
 def build(folder):
@@ -164,6 +163,9 @@ def is_memory(row, lines):
     if len(expected) + len(actual) != len(lines) - 2 or not actual:
         return False
     if row.call in PROGRAMS and actual[0].startswith(STORE):
+        return True
+    # standard error takes nothing, so the line cannot be seen
+    if row.call == "wcplan_mute" and actual == ["status 1"]:
         return True
     for place, line in enumerate(actual):
         if ENDED.search(line):

@@ -47,9 +47,11 @@ def includes(archive):
 
 
 def run(words, **how):
-    ran = subprocess.run([str(it) for it in words], capture_output=True, text=True, check=False, **how)
+    """What a command says, on standard output and standard error."""
+    streams = {"stdout": subprocess.PIPE, "stderr": subprocess.STDOUT}
+    ran = subprocess.run([str(it) for it in words], **streams, text=True, check=False, **how)
     if ran.returncode:
-        raise unproved.NotMade("%s\n%s%s" % (" ".join(map(str, words)), ran.stdout, ran.stderr))
+        raise unproved.NotMade("%s\n%s" % (" ".join(map(str, words)), ran.stdout))
     return ran.stdout
 
 
