@@ -20,7 +20,8 @@ It prints a line for each thing that is wrong, and ends with status 1 where ther
   function is on the page unless it is of a type;
   under "What is promised" each function has the clauses that are named after it; under "What functions require" is each
   function with a `requires`, and no other;
-- sources, definitions and lemmas say at their head what is in them.
+- sources, definitions and lemmas say at their head what is in them;
+- docs in sources name the thing: their first line doesn't begin with "What" or "The same".
 """
 
 import argparse
@@ -410,9 +411,7 @@ def check_public(document, crate):
     spans = [span for _, _, text in texts_of(document) for span in re.findall(r"`([^`]+)`", text)]
     named = {word for span in spans for word in re.findall(r"\w+", span)}
     for path in sorted(crate.silent):
-        # its contracts say it: readers of bytes, which only crates of this repository call
-        if crate.name != "wc_read" or path.split("::")[0] not in ("Reader", "Spelled"):
-            fault(document, 1, f"{path} has no doc in its source")
+        fault(document, 1, f"{path} has no doc in its source")
     for path in sorted(crate.public):
         if path not in crate.members and not named & set(path.split("::")):
             fault(document, 1, f"{path} is not on the page")
@@ -435,6 +434,15 @@ def check_heads(crate):
         is_list = os.path.basename(file) == "Lib.antt" or not re.search(r"^(?!pub mod )\S", text, re.M)
         if not is_list and not text.startswith("-- "):
             fault(file, 1, "no line `--` says what is in it")
+
+
+def check_beginnings():
+    """The docs of sources begin with the thing that they are about."""
+    for file in files("crates", "*", "src", "**", "*.rt") + files("rust", "nuigatre", "src", "*.rs"):
+        lines = read(file).split("\n")
+        for number, (before, line) in enumerate(zip(["", *lines], lines), 1):
+            if re.match(r"\s*//[/!] (What|The same)\b(?!.*\?)", line) and not re.match(r"\s*//[/!] \S", before):
+                fault(file, number, f"a doc that doesn't name its thing: {line.strip()}")
 
 
 def check_crate(crate, is_library):
@@ -498,6 +506,7 @@ def main():
     check_top()
     check_list()
     check_dates()
+    check_beginnings()
     for crate in crates:
         check_crate(crate, crate.name in public)
     for line in faults:

@@ -61,8 +61,8 @@ ALIKE = [
     ("wc_why::Puts wc_record::Puts", "what a writer has: each in its crate's words"),
     ("wc_adapters::argument_view wc_validate::instance_entry",
      "a name and a view: the views are different definitions of different types"),
-    ("wc_resolve::IsMemoryRefusal wc_validate::IsMemoryRefusal wc_world::IsMemoryRefusal wc_plan::IsMemoryRefusal wctrim_command::IsMemoryRefusal",
-     "refusals of five types: of worlds, of a module, of a component's world, of a plan, of a command"),
+    ("wc_resolve::IsMemoryRefusal wc_validate::IsMemoryRefusal wc_gc::IsMemoryRefusal wc_world::IsMemoryRefusal wc_plan::IsMemoryRefusal wctrim_command::IsMemoryRefusal",
+     "refusals of six types: of worlds, of a module, of a trim, of a component's world, of a plan, of a command"),
     ("wc_validate::IsRefusedAt wc_world::IsRefusedAt", "a refusal of a module, and one of a world"),
     ("wc_json::innermost wc_json::first_path wc_options::first", "the first of a list: of what is open, of paths, of values"),
     ("wc_dedupe::new_name wc_dedupe::import_name", "the name of a rename and that of an import: records of two types"),
@@ -246,8 +246,8 @@ def statements(crate):
     """The lemmas of a crate, in the files of its proofs that have lemmas."""
     for path in files_of(crate, "proofs", "Lemmas.antt"):
         text = path.read_text(encoding="utf-8")
-        names, section = imported(text), ""
-        for lines in plain_parts(text):
+        names, section, parts = imported(text), "", list(plain_parts(text))
+        for number, lines in enumerate(parts):
             head = re.match(r"module _ (.*?)(?: where)?$", lines[0])
             section, indent = (" ".join(lines).partition("where")[0].removeprefix("module _"), 2) if head else ("", 0)
             if lines[0].startswith(("use ", "mod ", "pub use ", "pub mod ")):
@@ -261,6 +261,11 @@ def statements(crate):
                     while at < len(lines) and len(lines[at]) - len(lines[at].lstrip()) > indent:
                         stated += " " + lines[at].strip()
                         at += 1
+                    # what an abbreviation is belongs to what it states
+                    if "abbrev" in found[2]:
+                        rest = lines[at:] + [line for part in parts[number + 1:] for line in part]
+                        own = itertools.takewhile(lambda line: line.split()[0] == found[3] or line.startswith(found[1] + "  "), rest)
+                        stated += " = " + " ".join(line.strip() for line in own)
                     # what has a type that states nothing is a definition of the file's own
                     if not found[3][0].isupper() and re.search("[→≡≢<≤↔]", stated) and not stated.endswith("Type 0"):
                         yield Statement(crate, path, found[3], section + " → " + stated, names)

@@ -6,17 +6,21 @@
     checks/trust.py --check    compares them with those of docs/TRUST.md; status 1 where they differ
 
 It begins with the names in the clauses of `new`, and follows what each definition cites: names of its own file, and
-those that its file takes from another one by `use`. Definitions of the kit are not followed. A file counts with the
-lines of the definitions that are reached, and of the comments before them; not with its other lines. Files stand after
-those that they cite. What is cited of the types of the sources is listed by its source files.
+those that its file takes from another one by `use`. A clause sees of a value what the view in the `impl Model` of its
+type says; so the view is followed of each type whose value is of a definition that is reached. Definitions of the kit
+are listed, and not followed. A file counts with the lines of the definitions that are reached, and of the comments before
+them; not with its other lines. Files stand after those that they cite. What is cited of the types of the sources is
+listed by its source files.
 """
 import argparse
+import functools
 import pathlib
 import re
 import sys
+import textwrap
 
 sys.path.append(str(pathlib.Path(__file__).resolve().parent.parent / "tools"))
-from repository import TOP, parts_of, put_between, used_by_crates
+from repository import TOP, crates_below, parts_of, put_between, used_by_crates
 
 CRATES = TOP / "crates"
 PAGE = TOP / "docs" / "TRUST.md"
@@ -76,6 +80,7 @@ class Specs:
 class Walk:
     def __init__(self, is_left_out=lambda crate, file, name: False):
         self.specs, self.reached, self.order, self.declared = {}, set(), [], set()
+        self.kit, self.views = set(), set()
         self.is_left_out = is_left_out
 
     def file(self, crate, file):
@@ -91,7 +96,10 @@ class Walk:
     def visit(self, crate, file, name):
         if self.is_left_out(crate, file, name):
             return
-        if file.startswith("declared.") and (CRATES / crate).exists():
+        if not (CRATES / crate).exists():
+            self.kit.add((crate, file, name))
+            return
+        if file.startswith("declared."):
             self.declared.add((crate, file.split(".")[1]))
             return
         specs = self.file(crate, file)
@@ -104,6 +112,21 @@ class Walk:
         for target in self.cited(specs, name):
             self.visit(*target)
         self.order.append((crate, file, name))
+
+    def visit_views(self, models):
+        """Follows the view of each model whose value is of a definition that is reached, until no other one is."""
+        left = list(models)
+        while ready := [it for it in left if self.reached & {self.owner(target) for target in it.value}]:
+            for it in ready:
+                self.views.add((it.crate, it.source))
+                for target in it.view:
+                    self.visit(*target)
+            left = [it for it in left if it not in ready]
+
+    def owner(self, target):
+        crate, file, name = target
+        specs = self.file(crate, file) if (CRATES / crate).exists() else None
+        return crate, file, specs.owners.get(name, name) if specs else name
 
     @staticmethod
     def cited(specs, name):
@@ -131,11 +154,46 @@ def headline():
     return [target for name, target in scope.items() if name in words]
 
 
+class View:
+    """An `impl Model`: what its value is of, and what its view cites."""
+
+    def __init__(self, crate, source, before, block):
+        self.crate, self.source = crate, source
+        scope = {}
+        for line in (before + block).splitlines():
+            if line.strip().startswith("ghost use "):
+                scope.update(citations([line.strip()])[0])
+        self.value = self.cited(scope, r"ghost Value = \{(.*?)\};", block)
+        self.view = self.cited(scope, r"ghost view = \{(.*?)\};", block)
+
+    @staticmethod
+    def cited(scope, pattern, block):
+        found = re.search(pattern, block, re.DOTALL)
+        words = set(re.findall(r"[^\s(){}\[\],;.]+", found.group(1) if found else ""))
+        return [target for name, target in scope.items() if name in words]
+
+
+@functools.cache
+def models():
+    """The models of the crates that the headline's crate stands on, and its own."""
+    found = []
+    for crate in crates_below("wc_world"):
+        sources = CRATES / crate / "src"
+        for path in sorted(sources.rglob("*.rt")):
+            text = path.read_text()
+            for block in re.finditer(r"^impl.* Model for .*?^}", text, re.DOTALL | re.MULTILINE):
+                heads = "\n".join(line for line in text.splitlines() if line.startswith("ghost use "))
+                found.append(View(crate, str(path.relative_to(sources)), heads + "\n", block.group()))
+    return found
+
+
 # What a first reading leaves out: words for it, and whether a definition is of it.
 CUTS = {
     "the writer's text": lambda crate, file, name: crate == "wc_write",
     "the reading functions": lambda crate, file, name: crate == "wc_read" and file.split(".")[0] == "Reading",
     "how names are read": lambda crate, file, name: crate == "wc_names" and name in ("IsRule", "IsExportRule"),
+    "names and producers": lambda crate, file, name: crate == "wc_read" and file in ("Names", "Producers"),
+    "the added code": lambda crate, file, name: (crate, file) == ("wc_gc", "AddedCode"),
 }
 
 
@@ -150,6 +208,7 @@ def walked(*left_out):
     walk = Walk(*left_out)
     for target in headline():
         walk.visit(*target)
+    walk.visit_views(models())
     return walk
 
 
@@ -191,7 +250,22 @@ def tables(walk):
         types = sorted(file for at, file in walk.declared if at == crate)
         if types:
             parts.append("\nTypes of the sources: " + ", ".join(f"`{file}.rt`" for file in types) + ".\n")
+        views = sorted(file for at, file in walk.views if at == crate)
+        if views:
+            parts.append("\nViews of its types: " + ", ".join(f"`{file}`" for file in views) + ".\n")
+    parts.append("\n" + kit(walk))
     return "".join(parts)
+
+
+def kit(walk):
+    """The definitions of the kit that are cited, by their crates."""
+    by_crate = {}
+    for crate, _, name in walk.kit:
+        by_crate.setdefault(crate, set()).add(name.replace("◌", "_"))
+    ordered = sorted(by_crate, key=lambda it: -len(by_crate[it]))
+    counts = ", ".join(f"{len(by_crate[it])} of `{it}`" for it in ordered)
+    lists = "\n\n".join("\n".join(textwrap.wrap(f"{it}: " + " ".join(sorted(by_crate[it])), 118)) for it in ordered)
+    return f"## The kit: {counts}\n\n```\n{lists}\n```\n"
 
 
 def main():

@@ -38,22 +38,23 @@
 extern "C" {
 #endif
 
-/* What nuigatre_abi has to answer, for the library to be of this header's form of calls, messages and answers. */
-#define NUIGATRE_ABI 7
+/* The number that nuigatre_abi returns, if the library is of this header's form of calls, messages and answers. */
+#define NUIGATRE_ABI 8
 
 /* The library's symbols have that number, so that two forms can be parts of one program. A library as `rt lib` makes it,
  * before rust/symbols.py, has the names alone: then define NUIGATRE_PLAIN_SYMBOLS. */
 #ifndef NUIGATRE_PLAIN_SYMBOLS
-#define nuigatre_dedupe nuigatre7_dedupe
-#define nuigatre_trim nuigatre7_trim
-#define nuigatre_why nuigatre7_why
-#define nuigatre_world nuigatre7_world
-#define nuigatre_plan nuigatre7_plan
-#define nuigatre_planned_world nuigatre7_planned_world
-#define nuigatre_validate nuigatre7_validate
-#define nuigatre_validated_module nuigatre7_validated_module
-#define nuigatre_fault_text nuigatre7_fault_text
-#define nuigatre_abi nuigatre7_abi
+#define nuigatre_dedupe nuigatre8_dedupe
+#define nuigatre_trim nuigatre8_trim
+#define nuigatre_why nuigatre8_why
+#define nuigatre_world nuigatre8_world
+#define nuigatre_plan nuigatre8_plan
+#define nuigatre_planned_world nuigatre8_planned_world
+#define nuigatre_validate nuigatre8_validate
+#define nuigatre_validated_module nuigatre8_validated_module
+#define nuigatre_scan nuigatre8_scan
+#define nuigatre_fault_text nuigatre8_fault_text
+#define nuigatre_abi nuigatre8_abi
 #endif
 
 /* Bytes that are read. */
@@ -62,7 +63,7 @@ typedef struct nuigatre_slice {
     size_t length;
 } nuigatre_slice;
 
-/* What a call answers. */
+/* The answer of a call. */
 typedef struct nuigatre_answer {
     /* Which kind of answer it is: one of the numbers of nuigatre_status. */
     uint32_t status;
@@ -99,7 +100,8 @@ enum nuigatre_status {
 enum nuigatre_call {
     NUIGATRE_DEDUPE_CALL = 0,
     NUIGATRE_TRIM_CALL = 1,
-    NUIGATRE_WHY_CALL = 2
+    NUIGATRE_WHY_CALL = 2,
+    NUIGATRE_SCAN_CALL = 3
 };
 
 /* Renames imports so that no two share a module and a name: the first keeps its name, and each that is there again
@@ -189,6 +191,18 @@ nuigatre_answer nuigatre_validated_module(uint64_t seed0, uint64_t seed1, const 
                                           const uint8_t *adapter, size_t adapter_length, const uint8_t *required,
                                           size_t required_length, uint8_t *out, size_t out_length);
 
+/* Lists what a module imports and exports, with types, and how its functions are named. Bodies of functions, elements and
+ * data are not read.
+ *
+ * NUIGATRE_DONE: `out` has a JSON object. Its members `imports` and `exports` are lists of objects, in the order of the
+ * module. Each has a `name`, a `kind`, which is `func`, `table`, `memory` or `global`, and a `type`. An import has the name
+ * of its `module` too, and an export the `index` of its item among all of the kind. `function_names` lists the names that
+ * name sections give functions, each with `index` and `name`.
+ * NUIGATRE_FAULT: a fault of nuigatre_read_fault. `out` has a JSON object that says at which byte the module stops to be
+ * right.
+ * NUIGATRE_TOO_SMALL, NUIGATRE_MEMORY. */
+nuigatre_answer nuigatre_scan(const uint8_t *wasm, size_t wasm_length, uint8_t *out, size_t out_length);
+
 /* Gives the text of a fault of a call on bytes, by the number that it answers: `call` is one of nuigatre_call. The text of a
  * fault that is carried is there too, as in `Read: NotWasm`; the name of a missing export is not.
  *
@@ -249,7 +263,7 @@ enum nuigatre_gc_fault {
     NUIGATRE_GC_TOO_LARGE = 11
 };
 
-/* What is wrong with a JSON value. */
+/* A mistake in a JSON value. */
 enum nuigatre_problem {
     NUIGATRE_PROBLEM_MISSING = 0,
     NUIGATRE_PROBLEM_NOT_AN_OBJECT = 1,
@@ -271,7 +285,7 @@ enum nuigatre_json_fault {
     NUIGATRE_JSON_WRONG = 3 /* carries a nuigatre_problem */
 };
 
-/* What is not well-formed of worlds, interfaces, types and packages. */
+/* A rule that worlds, interfaces, types or packages break. */
 enum nuigatre_resolve_fault {
     NUIGATRE_RESOLVE_ID_RANGE = 1,
     NUIGATRE_RESOLVE_CYCLE = 2,

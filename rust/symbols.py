@@ -1,5 +1,5 @@
 #!/usr/bin/env python3
-"""Gives the symbols of a static library of crates/nuigatre the number of its form, as `nuigatre7_trim` for `nuigatre_trim`.
+"""Gives the symbols of a static library of crates/nuigatre the number of its form, as `nuigatre8_trim` for `nuigatre_trim`.
 
     rust/symbols.py ARCHIVE
 

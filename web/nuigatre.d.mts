@@ -62,6 +62,32 @@ export interface Chains {
   imports: (number | null)[];
 }
 
+/** A type of functions. Types of values are `i32`, `i64`, `f32`, `f64`, `v128`, `funcref`, `externref` and the like, or objects. */
+export interface FuncType {
+  params: ValType[];
+  results: ValType[];
+}
+
+/** A type of values; an object is one of references to functions of a type of the module. */
+export type ValType = string | { nullable: boolean; index: number };
+
+/** An item of a module with its type. */
+export type Typed =
+  | { kind: "func"; type: FuncType }
+  | { kind: "table"; type: { element_type: ValType; table64: boolean; initial: number; maximum: number | null } }
+  | { kind: "memory"; type: { memory64: boolean; shared: boolean; initial: number; maximum: number | null; page_size_log2: number | null } }
+  | { kind: "global"; type: { content_type: ValType; mutable: boolean } };
+
+/** What a module imports and exports, and how its functions are named. */
+export interface Scan {
+  /** In the order of the module. */
+  imports: ({ module: string; name: string } & Typed)[];
+  /** In the order of the module; `index` is that of the item among all of its kind, imported ones first. */
+  exports: ({ name: string; index: number } & Typed)[];
+  /** The names that name sections give functions, by their indices. */
+  function_names: { index: number; name: string }[];
+}
+
 /** An adapter of a component. */
 export interface Adapter {
   /** The name under which the main module imports it. */
@@ -159,6 +185,8 @@ export class Nuigatre {
   trim(adapter: Bytes, required: Iterable<string>, settings?: { realloc?: string | null; pageSizeLog2?: number }): Uint8Array;
   /** Says why an adapter imports what it does, where its exports of these names are required. */
   why(adapter: Bytes, required: Iterable<string>): Chains;
+  /** Lists what a module imports and exports, with types, and how its functions are named. */
+  scan(module: Bytes): Scan;
   /** Makes the world of a component. */
   world(component: Component): World;
   /** Makes the plan of a component: what each function that its core modules import needs. */
@@ -171,5 +199,5 @@ export class Nuigatre {
    *  returns what it imports and exports. */
   validatedModule(component: Component, adapter?: string | null, required?: Iterable<RequiredFunction>): ModuleRecord;
   /** The text of a fault of a call on bytes by its number; null if there is none. */
-  faultText(call: "dedupe" | "trim" | "why", number: number): string | null;
+  faultText(call: "dedupe" | "trim" | "why" | "scan", number: number): string | null;
 }

@@ -246,6 +246,11 @@ export class Nuigatre {
     return parsed(this.#call("why", { wasm: bytesOf(adapter), required: [...names] }).bytes);
   }
 
+  scan(module) {
+    const wasm = bytesOf(module);
+    return parsed(this.#call("scan", { wasm }, 2 * wasm.length + ROOM).bytes);
+  }
+
   world(component) {
     const given = messageOf(component);
     return this.#modules(this.#call("world", given, given.modules.length + 4 * ROOM));

@@ -17,13 +17,13 @@
 #include <string.h>
 #include <sys/mman.h>
 
-#define CALLS 7
+#define CALLS 8
 #define STATUSES 6
 #define PAGE 4096u
 // what an arena has room for
 #define ROOM (1u << 20)
 
-static const char *const names_of_calls[CALLS] = {"dedupe", "trim", "why", "world", "plan", "validate", "planned_world"};
+static const char *const names_of_calls[CALLS] = {"dedupe", "trim", "why", "world", "plan", "validate", "planned_world", "scan"};
 
 // The heap: the blocks that are held, and which allocation fails.
 
@@ -225,6 +225,9 @@ static buffer message_of(const example *of, buffer worlds, const size_t lengths[
     return made;
 }
 
+// The number of a call on bytes, for nuigatre_fault_text; negative for other calls.
+static int number_of(size_t call) { return call < 3 ? (int)call : call == 7 ? NUIGATRE_SCAN_CALL : -1; }
+
 static question make_question(const example *of) {
     // those of the adapter of examples/wcplan, and none
     static const char *const exports[] = {"length_of", "read_text", "is-ready", "length_of", "read_text", ""};
@@ -238,7 +241,7 @@ static question make_question(const example *of) {
                              : copy_of(of->modules[at].bytes, of->modules[at].length);
         for (size_t more = one_in(2) ? 0 : 1 + below(3); more > 0; more--) damage_bytes(&modules[at]);
     }
-    if (made.call < 3) {
+    if (number_of(made.call) >= 0) {
         made.modules = copy_of(modules[1].bytes, modules[1].length);
         made.name_count = below(4);
         for (size_t at = 0; at < made.name_count; at++) {
@@ -304,6 +307,8 @@ static nuigatre_answer ask(const question *of, size_t room) {
         return nuigatre_plan(seed0, seed1, message, message_length, modules, modules_length, out, room);
     case 6:
         return nuigatre_planned_world(seed0, seed1, message, message_length, modules, modules_length, out, room);
+    case 7:
+        return nuigatre_scan(modules, modules_length, out, room);
     default:
         return nuigatre_validate(seed0, seed1, message, message_length, modules, modules_length, of->has_name, name,
                                  name_length, out, room);
@@ -347,13 +352,13 @@ static const char *wrong_beside(nuigatre_answer a, nuigatre_answer b, const buff
 }
 
 // What is wrong with the text of a fault of a call on bytes; NULL for nothing.
-static const char *wrong_text(size_t call, uint32_t number) {
+static const char *wrong_text(uint32_t call, uint32_t number) {
     uint8_t text[64];
-    nuigatre_answer asked = nuigatre_fault_text((uint32_t)call, number, NULL, 0);
+    nuigatre_answer asked = nuigatre_fault_text(call, number, NULL, 0);
     if (asked.status != NUIGATRE_TOO_SMALL || asked.length == 0 || asked.length > sizeof text) return "a fault without a text";
-    nuigatre_answer given = nuigatre_fault_text((uint32_t)call, number, text, asked.length);
+    nuigatre_answer given = nuigatre_fault_text(call, number, text, asked.length);
     if (given.status != NUIGATRE_DONE || given.length != asked.length) return "another text of a fault";
-    nuigatre_answer none = nuigatre_fault_text((uint32_t)call, number + (1u << 16), text, sizeof text);
+    nuigatre_answer none = nuigatre_fault_text(call, number + (1u << 16), text, sizeof text);
     if (none.status != NUIGATRE_NO_SUCH_FAULT || none.length != 0) return "the text of no fault";
     return held == 0 ? NULL : "blocks of a text that were not given back";
 }
@@ -367,7 +372,9 @@ static const char *wrong_with(const question *of) {
     const char *wrong = wrong_by_itself(of->call, first, room);
     if (wrong != NULL) return wrong;
     long allocations = count_of_allocations;
-    if (of->call < 3 && first.status == NUIGATRE_FAULT && (wrong = wrong_text(of->call, first.fault)) != NULL) return wrong;
+    int bytes_call = number_of(of->call);
+    if (bytes_call >= 0 && first.status == NUIGATRE_FAULT && (wrong = wrong_text((uint32_t)bytes_call, first.fault)) != NULL)
+        return wrong;
     nuigatre_answer full = ask(of, first.length);
     if ((wrong = wrong_by_itself(of->call, full, first.length)) != NULL) return wrong;
     counts[of->call][full.status]++;

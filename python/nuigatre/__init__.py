@@ -22,7 +22,7 @@ from ._calls import FAULTS, NUMBERS, STATUSES
 from ._library import ROOM, Answer, NoLibrary, asked, is_proved
 
 __all__ = ["Adapter", "BadArgument", "Chains", "Error", "Fault", "Function", "Item", "NoLibrary", "OutOfMemory", "Rename", "World",
-           "dedupe", "fault_text", "is_proved", "plan", "planned_world", "trim", "validate", "validated_module", "why", "world"]
+           "dedupe", "fault_text", "is_proved", "plan", "planned_world", "scan", "trim", "validate", "validated_module", "why", "world"]
 
 # what a message begins with: the worlds come next
 HEAD = b'{"resolve":'
@@ -184,6 +184,18 @@ def why(adapter: Bytes, required: Iterable[str]) -> Chains:
     return Chains(items, found["finders"], found["exports"], found["imports"])
 
 
+def scan(wasm: Bytes) -> dict[str, Any]:
+    """Lists what a module imports and exports, with types, and how its functions are named.
+
+    :return: an object with ``imports``, each with ``module``, ``name``, ``kind`` and ``type``; ``exports``, each with ``name``,
+        ``kind``, ``index`` and ``type``; and ``function_names``, each with ``index`` and ``name``. A kind is ``func``,
+        ``table``, ``memory`` or ``global``; an index is that of the item among all of its kind.
+    """
+    content = bytes(wasm)
+    found: dict[str, Any] = json.loads(call("scan", {"wasm": content}, 2 * len(content) + ROOM).content)
+    return found
+
+
 def world(worlds: Worlds, world: str | int, main: Bytes, adapters: Iterable[Adapter] = (), **options: Any) -> World:
     """Makes the world of a component.
 
@@ -233,7 +245,7 @@ def validated_module(worlds: Worlds, world: str | int, main: Bytes, adapters: It
 
 
 def fault_text(call: str, number: int) -> str | None:
-    """The text of a fault of ``dedupe``, ``trim`` or ``why`` by its number; None if there is none."""
+    """The text of a fault of ``dedupe``, ``trim``, ``why`` or ``scan`` by its number; None if there is none."""
     answer = asked("fault_text", {"call": NUMBERS[call], "number": _within(number, 32)})
     if answer.status == STATUSES["MEMORY"]:
         raise OutOfMemory("out of memory")

@@ -47,6 +47,33 @@ def test_why_gives_the_chain_to_an_import(examples):
     assert chain.to_import(1) is None
 
 
+# imports and exports of each kind; `wasm-objdump -x` lists the same
+KINDS = bytes.fromhex(
+    "0061736d0100000001070160027f7e017d02260403656e760166000003656e760174017001010203656e76016d02000303656e760167037e01"
+    "030201000719040372756e0001036d656d020003746162010003676c6f03000a05010300000b0013046e616d65010c0200036c6f6701046d61696e")
+
+
+def test_scan_lists_imports_and_exports_of_each_kind_and_names_of_functions():
+    func = {"params": ["i32", "i64"], "results": ["f32"]}
+    table = {"element_type": "funcref", "table64": False, "initial": 1, "maximum": 2}
+    memory = {"memory64": False, "shared": False, "initial": 3, "maximum": None, "page_size_log2": None}
+    of_global = {"content_type": "i64", "mutable": True}
+    assert nuigatre.scan(KINDS) == {
+        "imports": [{"module": "env", "name": "f", "kind": "func", "type": func},
+                    {"module": "env", "name": "t", "kind": "table", "type": table},
+                    {"module": "env", "name": "m", "kind": "memory", "type": memory},
+                    {"module": "env", "name": "g", "kind": "global", "type": of_global}],
+        "exports": [{"name": "run", "kind": "func", "index": 1, "type": func},
+                    {"name": "mem", "kind": "memory", "index": 0, "type": memory},
+                    {"name": "tab", "kind": "table", "index": 0, "type": table},
+                    {"name": "glo", "kind": "global", "index": 0, "type": of_global}],
+        "function_names": [{"index": 0, "name": "log"}, {"index": 1, "name": "main"}]}
+    with pytest.raises(Fault, match="^Truncated$") as cut:
+        nuigatre.scan(KINDS[:12])
+    assert (cut.value.call, cut.value.number, cut.value.place) == (
+        "scan", 3, {"kind": "bytes", "adapter": None, "offset": 12, "section": None})
+
+
 def test_a_world_and_its_plan_are_those_of_the_examples(examples, notes):
     made = nuigatre.planned_world(*notes())
     assert made.main == examples("wcplan/main.wasm")
@@ -140,6 +167,7 @@ def test_damaged_modules_and_messages_end_each_call(examples, notes):
         calls = [lambda: nuigatre.dedupe(wasm),
                  lambda: nuigatre.trim(wasm, required, realloc=drawn.choice([None, "cabi_realloc"]), page_size_log2=drawn.randint(0, 17)),
                  lambda: nuigatre.why(wasm, required),
+                 lambda: nuigatre.scan(wasm),
                  lambda: nuigatre.planned_world(*notes(worlds, wasm if drawn.random() < 0.3 else None))]
         for call in calls:
             try:

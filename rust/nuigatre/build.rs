@@ -1,4 +1,4 @@
-//! Links `libnuigatre.a`, or `libnuigatre7.a`, with the number of the form: that of the folder `NUIGATRE_LIB_DIR`; else the one that `rt lib` makes in `crates/nuigatre`;
+//! Links `libnuigatre.a`, or `libnuigatre8.a`, with the number of the form: that of the folder `NUIGATRE_LIB_DIR`; else the one that `rt lib` makes in `crates/nuigatre`;
 //! else the one that `rust/check --unproved` makes. One that is missing, or whose calls have another form than this crate
 //! knows, is an error that says what makes it; one that is older than its sources, or not proved, is a warning. Where
 //! `DOCS_RS` is set nothing is linked, so `cargo doc` needs none.
@@ -85,7 +85,7 @@ fn how_to_make(checkout: Option<&Path>) -> String {
     )
 }
 
-/// The numbers of forms that symbols with this end have, as `nuigatre7_abi`; `None` for one without a number.
+/// The numbers of forms that symbols with this end have, as `nuigatre8_abi`; `None` for one without a number.
 fn forms<'a>(bytes: &'a [u8], end: &'a [u8]) -> impl Iterator<Item = Option<u32>> + 'a {
     const NAME: &[u8] = b"nuigatre";
     let starts = bytes

@@ -63,6 +63,44 @@ test("why gives the chain to an import", () => {
   assert.equal(chain[0], "func");
 });
 
+// imports and exports of each kind; `wasm-objdump -x` lists the same
+const KINDS = Buffer.from(
+  "0061736d0100000001070160027f7e017d02260403656e760166000003656e760174017001010203656e76016d02000303656e760167037e01" +
+    "030201000719040372756e0001036d656d020003746162010003676c6f03000a05010300000b0013046e616d65010c0200036c6f6701046d61696e",
+  "hex",
+);
+
+test("scan lists imports and exports of each kind, and names of functions", () => {
+  const func = { params: ["i32", "i64"], results: ["f32"] };
+  const table = { element_type: "funcref", table64: false, initial: 1, maximum: 2 };
+  const memory = { memory64: false, shared: false, initial: 3, maximum: null, page_size_log2: null };
+  const global = { content_type: "i64", mutable: true };
+  assert.deepEqual(library.scan(KINDS), {
+    imports: [
+      { module: "env", name: "f", kind: "func", type: func },
+      { module: "env", name: "t", kind: "table", type: table },
+      { module: "env", name: "m", kind: "memory", type: memory },
+      { module: "env", name: "g", kind: "global", type: global },
+    ],
+    exports: [
+      { name: "run", kind: "func", index: 1, type: func },
+      { name: "mem", kind: "memory", index: 0, type: memory },
+      { name: "tab", kind: "table", index: 0, type: table },
+      { name: "glo", kind: "global", index: 0, type: global },
+    ],
+    function_names: [
+      { index: 0, name: "log" },
+      { index: 1, name: "main" },
+    ],
+  });
+  const kinds = (list) => list.map(({ kind, ...it }) => ({ ...it, kind: kind === "func" ? "function" : kind }));
+  const module = new WebAssembly.Module(adapter), { imports, exports } = library.scan(adapter);
+  assert.deepEqual(kinds(imports).map(({ type, ...it }) => it), WebAssembly.Module.imports(module));
+  assert.deepEqual(kinds(exports).map(({ type, index, ...it }) => it), WebAssembly.Module.exports(module));
+  const cut = thrown(() => library.scan(KINDS.subarray(0, 12)));
+  assert.deepEqual([cut.call, cut.text, cut.number, cut.place.kind, cut.place.offset], ["scan", "Truncated", 3, "bytes", 12]);
+});
+
 test("a component's world and plan are those of the examples", () => {
   const { record, main, adapters } = library.plannedWorld(notes());
   same(main, example("wcplan/main.wasm"));

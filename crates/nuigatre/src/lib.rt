@@ -30,6 +30,7 @@ ghost use Rattle.wc_calls.specs.ExportNames.{texts};
 ghost use Rattle.wc_calls.specs.FaultTexts.{IsFaultText};
 ghost use Rattle.wc_calls.specs.ImportChains.{IsWhyFault, IsWhyText};
 ghost use Rattle.wc_calls.specs.PlannedWorlds.{IsPlannedWorldAnswer};
+ghost use Rattle.wc_calls.specs.Scanning.{IsScanFault, IsScanText};
 ghost use Rattle.wc_calls.specs.Trimming.{AreArguments, IsTrimmingFault};
 ghost use Rattle.wc_calls.specs.ValidatedModules.{IsNoneAskedOf, IsRecordAnswer, IsRecordFaultOf};
 ghost use Rattle.wc_calls.specs.Validation.{IsNoModuleOf, IsValidOf, IsValidationFaultOf};
@@ -37,7 +38,8 @@ ghost use Rattle.nuigatre.specs.Arguments.{optional_name, settings_of};
 
 use std::alloc::Global;
 use wc_calls::{
-    Answer, dedupe, fault_text, plan, planned_world, trim, validate, validated_module, why, world,
+    Answer, dedupe, fault_text, plan, planned_world, scan, trim, validate, validated_module, why,
+    world,
 };
 use wc_maps::Seed;
 
@@ -267,8 +269,26 @@ pub extern "C" fn nuigatre_validated_module(
     validated_module(alloc, seed, message, modules, adapter, required, out)
 }
 
-/// Writes the text of a fault of `nuigatre_dedupe` (`call` is 0), `nuigatre_trim` (1) or `nuigatre_why` (2), by the number that
-/// the call answers: `wc_calls::fault_text`.
+/// Lists what a module imports and exports, with types, and how its functions are named: `wc_calls::scan`.
+#[unsafe(no_mangle)]
+pub extern "C" fn nuigatre_scan(alloc: Global, wasm: &[u8], out: &mut [u8]) -> Answer
+    ensures done { result.status ≡ done
+        → IsPut (IsScanText wasm.now) result.length out.old out.new }
+    ensures too_small { result.status ≡ too_small
+        → IsTooLong (IsScanText wasm.now) result.length out.old }
+    ensures fault { result.status ≡ failed → IsScanFault wasm.now result out.old out.new }
+    ensures module_length { result.module_length ≡ 0 }
+    ensures unchanged { result.status ≢ done → result.status ≢ failed → out.new ≡ out.old }
+    ensures statuses { (result.status ≤ 5) × (result.status ≢ same)
+        × (result.status ≢ bad_argument) }
+    ensures position { result.position ≡ 0 }
+    ensures others { AreOthersOfTextZero result }
+{
+    scan(alloc, wasm, out)
+}
+
+/// Writes the text of a fault of `nuigatre_dedupe` (`call` is 0), `nuigatre_trim` (1), `nuigatre_why` (2) or `nuigatre_scan`
+/// (3), by the number that the call answers: `wc_calls::fault_text`.
 #[unsafe(no_mangle)]
 pub extern "C" fn nuigatre_fault_text(
     alloc: Global,
@@ -292,12 +312,12 @@ pub extern "C" fn nuigatre_fault_text(
 }
 
 /// The form of the calls, messages and answers.
-const ABI: u32 = 7;
+const ABI: u32 = 8;
 
 /// The number of the form of these calls, their messages and answers. It goes up with each change that a caller can see.
 #[unsafe(no_mangle)]
 pub extern "C" fn nuigatre_abi() -> u32
-    ensures { result ≡ 7 }
+    ensures { result ≡ 8 }
 {
     ABI
 }

@@ -13,4 +13,5 @@ mod OptionTableLemmas
 mod PlannedWorldLemmas
 mod RefusalLemmas
 mod RequiredFunctionLemmas
+mod ScanningLemmas
 mod ValidatedModuleLemmas

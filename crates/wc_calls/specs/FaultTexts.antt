@@ -5,14 +5,16 @@ use Rattle.wc_dedupe.specs.declared.fault.DedupeFault.{DedupeFault}
 use Rattle.wc_gc.specs.Fault.{gc_fault_number, gc_fault_text}
 use Rattle.wc_gc.specs.declared.fault.GcFault.{GcFault}
 use Rattle.wc_gc.specs.declared.fault.GcFault.TheVariants.{MissingExport}
-use Rattle.wc_calls.specs.MemoryFaults.{dedupe_is_memory, gc_is_memory}
+use Rattle.wc_read.specs.Fault.{read_fault_number, read_fault_text}
+use Rattle.wc_read.specs.declared.fault.ReadFault.{ReadFault}
+use Rattle.wc_calls.specs.MemoryFaults.{dedupe_is_memory, gc_is_memory, read_is_memory}
 
 -- the text of a fault of trimming, without the name that it carries
 abbrev pub unnamed_text : GcFault → List ℕ
 unnamed_text (MissingExport name) = codes "adapter module does not have export"
 unnamed_text f = gc_fault_text f
 
--- a fault of renaming has this number and this text; one of trimming has. It neither is nor carries a Memory
+-- a fault of renaming has this number and this text; one of trimming has, or one of reading. It neither is nor carries a Memory
 
 abbrev pub IsDedupeText : ℕ → List ℕ → Type 0
 IsDedupeText number text =
@@ -20,6 +22,9 @@ IsDedupeText number text =
 
 abbrev pub IsTrimText : ℕ → List ℕ → Type 0
 IsTrimText number text = (f : GcFault) × (gc_is_memory f ≡ false) × (gc_fault_number f ≡ number) × (text ≡ unnamed_text f)
+
+abbrev pub IsReadText : ℕ → List ℕ → Type 0
+IsReadText number text = (f : ReadFault) × (read_is_memory f ≡ false) × (read_fault_number f ≡ number) × (text ≡ read_fault_text f)
 
 -- the calls on bytes, by their numbers; two of them answer faults of trimming
 
@@ -32,7 +37,11 @@ trim_call = 1
 abbrev pub why_call : ℕ
 why_call = 2
 
+abbrev pub scan_call : ℕ
+scan_call = 3
+
 -- a fault of a call has this number and this text
 abbrev pub IsFaultText : ℕ → ℕ → List ℕ → Type 0
 IsFaultText call number text =
     ((call ≡ dedupe_call) × IsDedupeText number text) ⊎ (((call ≡ trim_call) ⊎ (call ≡ why_call)) × IsTrimText number text)
+    ⊎ ((call ≡ scan_call) × IsReadText number text)

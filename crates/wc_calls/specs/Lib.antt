@@ -16,6 +16,7 @@ pub mod Private
 pub mod Renames
 pub mod Renaming
 pub mod RequiredFunctions
+pub mod Scanning
 pub mod Trimming
 pub mod ValidatedModules
 pub mod Validation

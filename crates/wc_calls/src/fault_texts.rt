@@ -1,6 +1,6 @@
 //! The texts of the faults of calls on bytes, by the numbers that the calls answer.
 
-ghost use Rattle.std.specs.Prelude.{◌≡◌, ◌≢◌, ◌≤◌, ◌⊎◌, ℕ, List, IfNone, IfSome, false};
+ghost use Rattle.std.specs.Prelude.{◌≡◌, ◌≢◌, ◌⊎◌, ℕ, List, IfNone, IfSome, false};
 ghost use Rattle.wc_dedupe.specs.Fault.{dedupe_fault_number};
 ghost use Rattle.wc_dedupe.specs.declared.fault.DedupeFault.{DedupeFault as dedupe_fault};
 ghost use Rattle.wc_gc.specs.Fault.{gc_fault_number};
@@ -9,7 +9,7 @@ ghost use Rattle.wc_read.specs.Fault.{read_fault_number};
 ghost use Rattle.wc_read.specs.declared.fault.ReadFault.{ReadFault as read_fault};
 ghost use Rattle.wc_texts.specs.FaultNumbers.{carrying};
 ghost use Rattle.wc_calls.specs.Answers.{AreOthersZero, IsPut, IsTooLong, done, no_such_fault, out_of_memory, too_small};
-ghost use Rattle.wc_calls.specs.FaultTexts.{IsDedupeText, IsFaultText, IsTrimText, unnamed_text};
+ghost use Rattle.wc_calls.specs.FaultTexts.{IsDedupeText, IsFaultText, IsReadText, IsTrimText, unnamed_text};
 ghost use Rattle.wc_calls.specs.MemoryFaults.{dedupe_is_memory, gc_is_memory, read_is_memory};
 
 use crate::answers::{Answer, MEMORY, NO_SUCH_FAULT, answer_without_bytes, put};
@@ -27,6 +27,9 @@ pub const TRIM_CALL: u32 = 1;
 
 /// The call `why`.
 pub const WHY_CALL: u32 = 2;
+
+/// The call `scan`.
+pub const SCAN_CALL: u32 = 3;
 
 /// The fault of reading that has this number.
 fn read_fault(number: u32) -> Option<ReadFault>
@@ -189,8 +192,28 @@ fn trim_text(alloc: Global, number: u32, out: &mut [u8]) -> Answer
     }
 }
 
-/// Writes the text of a fault of a call on bytes, by the number that the call answers. `call` is `DEDUPE_CALL`, `TRIM_CALL` or `WHY_CALL`. The
-/// text is that which `Display` of the fault prints, with that of a fault which it carries: `Read: NotWasm`. A name that
+/// Writes the text of the fault of reading that has a number.
+fn read_text(alloc: Global, number: u32, out: &mut [u8]) -> Answer
+    ensures done { result.status ≡ done → IsPut (IsReadText number) result.length out.old out.new }
+    ensures too_small { result.status ≡ too_small
+        → IsTooLong (IsReadText number) result.length out.old }
+    ensures unknown { result.status ≡ no_such_fault
+        → (text : List ℕ) → ¬ (IsReadText number text) }
+    ensures unchanged { result.status ≢ done → out.new ≡ out.old }
+    ensures statuses { (result.status ≡ done) ⊎ (result.status ≡ too_small)
+        ⊎ (result.status ≡ out_of_memory) ⊎ (result.status ≡ no_such_fault) }
+    ensures no_module { result.module_length ≡ 0 }
+    ensures others { AreOthersZero result }
+{
+    match read_fault(number) {
+        Some(fault) => put_text(alloc, &fault, out),
+        None => answer_without_bytes(NO_SUCH_FAULT),
+    }
+}
+
+/// Writes the text of a fault of a call on bytes, by the number that the call answers. `call` is `DEDUPE_CALL`, `TRIM_CALL`,
+/// `WHY_CALL` or `SCAN_CALL`. The text is that which `Display` of the fault prints, with that of a fault which it carries:
+/// `Read: NotWasm`. A name that
 /// the fault carries is left out: the call answers where it is among those that were passed.
 ///
 /// - `DONE`: the front of `out` has the text, `length` bytes of UTF-8.
@@ -217,6 +240,7 @@ pub fn fault_text(alloc: Global, call: u32, number: u32, out: &mut [u8]) -> Answ
         DEDUPE_CALL => dedupe_text(alloc, number, out),
         TRIM_CALL => trim_text(alloc, number, out),
         WHY_CALL => trim_text(alloc, number, out),
+        SCAN_CALL => read_text(alloc, number, out),
         _ => answer_without_bytes(NO_SUCH_FAULT),
     }
 }

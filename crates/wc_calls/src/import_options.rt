@@ -1,4 +1,4 @@
-//! Which canonical options lowered functions have, by a list of a message.
+//! The canonical options of lowered functions, by a list of a message.
 
 ghost use Rattle.std.specs.Prelude.{◌≡◌, IfOk, map};
 ghost use Rattle.std.specs.Map.{lookup};

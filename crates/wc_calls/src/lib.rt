@@ -1,8 +1,8 @@
 //! The calls on modules as calls on slices, for a caller that shares no other types: `dedupe` renames the repeated
 //! imports of a module, `trim` cuts an adapter to what its exports reach, `why` says why it imports what it does, and `world`
 //! makes the world of a component, which is described in JSON; `plan` makes its plan, `planned_world` both, `validate`
-//! validates one of its modules, and `validated_module` says what is recorded of it. `fault_text` gives the text of a fault
-//! of the first three by its number. Each writes its answer to the front of a buffer of the caller's, and returns an
+//! validates one of its modules, and `validated_module` says what is recorded of it. `scan` lists what a module imports and
+//! exports. `fault_text` gives the text of a fault of `dedupe`, `trim`, `why` or `scan` by its number. Each writes its answer to the front of a buffer of the caller's, and returns an
 //! `Answer`, which is numbers alone.
 //! No call requires anything of its arguments. The maps of all but `dedupe` hash under a seed that is passed: whoever
 //! chooses names shouldn't know it.
@@ -46,6 +46,7 @@ mod refusals;
 mod renames;
 mod renaming;
 mod required_functions;
+mod scanning;
 mod trimming;
 mod validated_modules;
 mod validation;
@@ -53,11 +54,12 @@ mod validation;
 pub use answers::{Answer, BAD_ARGUMENT, DONE, FAULT, MEMORY, NO_SUCH_FAULT, SAME, TOO_SMALL};
 pub use component_plans::plan;
 pub use component_worlds::world;
-pub use fault_texts::{DEDUPE_CALL, TRIM_CALL, WHY_CALL, fault_text};
+pub use fault_texts::{DEDUPE_CALL, SCAN_CALL, TRIM_CALL, WHY_CALL, fault_text};
 pub use import_chains::why;
 pub use message_fault::MessageFault;
 pub use planned_worlds::planned_world;
 pub use renaming::dedupe;
+pub use scanning::scan;
 pub use trimming::trim;
 pub use validated_modules::validated_module;
 pub use validation::validate;

@@ -15,7 +15,7 @@ use wc_validate::ValidateFault;
 use wc_world::WorldFault;
 
 /// Whether a reader's fault is that an allocation failed.
-fn read_is_memory(fault: ReadFault) -> bool
+pub(crate) fn read_is_memory(fault: ReadFault) -> bool
     ensures { result ≡ read_is_memory fault }
 {
     match fault {

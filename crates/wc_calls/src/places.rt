@@ -1,4 +1,4 @@
-//! What faults are about, as JSON; no bytes where that is nothing.
+//! The places of faults, as JSON; no bytes where a fault has none.
 
 ghost use Rattle.std.specs.Prelude.{◌≡◌, IfOk, None};
 ghost use Rattle.wc_record.specs.Places.{bytes_json, trim_place_json};
@@ -44,7 +44,7 @@ pub(crate) fn read_place_text(
     }
 }
 
-/// What the refusal of a message is about.
+/// The place of the refusal of a message.
 pub(crate) fn refusal_text(alloc: Global, refused: &RefusedMessage) -> Result<Vec<u8>, AllocError>
     ensures { IfOk result (λ v. v.items ≡ refusal_text refused.now.fault refused.now.place) }
 {
@@ -68,7 +68,7 @@ fn message_place_text(alloc: Global, place: &MessagePlace) -> Result<Vec<u8>, Al
     }
 }
 
-/// What a fault without a place is about.
+/// The subject of a fault that comes without a place.
 fn unplaced_text(alloc: Global, fault: &MessageFault) -> Result<Vec<u8>, AllocError>
     ensures { IfOk result (λ v. v.items ≡ unplaced_text fault.now) }
 {
@@ -82,7 +82,7 @@ fn unplaced_text(alloc: Global, fault: &MessageFault) -> Result<Vec<u8>, AllocEr
     }
 }
 
-/// What a fault of a component's world is about that has no place.
+/// The subject of a fault of a component's world that comes without a place.
 fn unplaced_world_text(alloc: Global, fault: &WorldFault) -> Result<Vec<u8>, AllocError>
     ensures { IfOk result (λ v. v.items ≡ unplaced_world_text fault.now) }
 {

@@ -1,4 +1,4 @@
-//! Why a message is refused, and what that is about.
+//! Refusals of messages: the fault, and its place.
 
 ghost use Rattle.std.specs.Option.{option_map};
 ghost use Rattle.std.specs.Prelude.{◌≡◌};
@@ -17,7 +17,7 @@ use wc_resolve::{Part, ResolveFault};
 use wc_texts::Refused;
 use wc_world::{WorldFault, WorldPlace};
 
-/// What a fault of a message is about.
+/// The place of a fault of a message.
 #[derive(Drop)]
 pub(crate) enum MessagePlace {
     /// A byte or a path of the message.
@@ -28,13 +28,13 @@ pub(crate) enum MessagePlace {
     Part(Part),
     /// A byte of the main module.
     Bytes(ReadPlace),
-    /// What is in a module.
+    /// A place in a module.
     World(WorldPlace),
     /// A function that a module imports.
     Plan(PlanPlace),
 }
 
-/// Why a message is refused, and what that is about.
+/// The refusal of a message: the fault, and its place.
 pub(crate) type RefusedMessage = Refused<MessageFault, MessagePlace>;
 
 impl From<MessageFault> for Refused<MessageFault, MessagePlace> {

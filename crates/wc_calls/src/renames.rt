@@ -3,19 +3,19 @@
 ghost use Rattle.std.specs.Prelude.{◌≡◌, ◌++◌, OnOk, IfOk};
 ghost use Rattle.std.specs.List.{flat_map};
 ghost use Rattle.wc_write.specs.Text.{number_text, name_text};
-ghost use Rattle.wc_dedupe.specs.Renames.{rename_view, rename_values};
+ghost use Rattle.wc_dedupe.specs.Renames.{rename_view};
 ghost use Rattle.wc_calls.specs.Renames.{rename_text, renames_text};
 
 use std::alloc::{AllocError, Global};
-use wc_dedupe::Rename;
+use wc_dedupe::{Rename, RenameList};
 use wc_read::codes::MORE_BYTES;
 
 /// How many numbers have seven bits.
 const SEVEN_BITS: u64 = 128;
 
 /// The text of renames: how many they are, and of each the module, the original name and the new one.
-pub(crate) fn renames_text(alloc: Global, renames: &[Rename]) -> Result<Vec<u8>, AllocError>
-    ensures { IfOk result (λ text. text.items ≡ renames_text (rename_values renames.now)) }
+pub(crate) fn renames_text(alloc: Global, renames: &RenameList) -> Result<Vec<u8>, AllocError>
+    ensures { IfOk result (λ text. text.items ≡ renames_text renames.now) }
 {
     let mut text = Vec::new(alloc);
     put_number(&mut text, renames.len() as u64)?;
@@ -24,24 +24,24 @@ pub(crate) fn renames_text(alloc: Global, renames: &[Rename]) -> Result<Vec<u8>,
 }
 
 /// Appends renames, one after another.
-fn put_renames(out: &mut Vec<u8>, renames: &[Rename]) -> Result<(), AllocError>
+fn put_renames(out: &mut Vec<u8>, renames: &RenameList) -> Result<(), AllocError>
     ensures { OnOk result (out.new.items
-        ≡ out.old.items ++ flat_map rename_text (rename_values renames.now)) }
+        ≡ out.old.items ++ flat_map rename_text renames.now) }
 {
-    for rename in renames {
-        put_rename(out, rename)?;
+    for index in 0..renames.len() {
+        put_rename(out, renames.at(index))?;
     }
     Ok(())
 }
 
 /// Appends a rename.
-fn put_rename(out: &mut Vec<u8>, rename: &Rename) -> Result<(), AllocError>
+fn put_rename(out: &mut Vec<u8>, rename: Rename<'_>) -> Result<(), AllocError>
     ensures { OnOk result (out.new.items
-        ≡ out.old.items ++ rename_text (rename_view rename.now)) }
+        ≡ out.old.items ++ rename_text (rename_view rename.entry)) }
 {
-    put_name(out, rename.module.as_str())?;
-    put_name(out, rename.original.as_str())?;
-    put_name(out, rename.name.as_str())
+    put_name(out, rename.module)?;
+    put_name(out, rename.original)?;
+    put_name(out, rename.name)
 }
 
 /// Appends a name: its length in bytes, and its bytes.

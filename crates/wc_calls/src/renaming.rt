@@ -3,7 +3,6 @@
 ghost use Rattle.std.specs.Prelude.{◌≡◌, ◌≢◌, ◌≤◌, ◌⊎◌, ◌<◌, ◌++◌, [], None, false, length};
 ghost use Rattle.wc_read.specs.Sections.{IsComponent};
 ghost use Rattle.wc_dedupe.specs.Dedupe.{IsDeduped};
-ghost use Rattle.wc_dedupe.specs.Renames.{rename_values};
 ghost use Rattle.wc_calls.specs.Renames.{renames_text};
 ghost use Rattle.wc_record.specs.Places.{bytes_json};
 ghost use Rattle.wc_calls.specs.Answers.{AreOthersOfTextZero, HasNoBytes, HasNoFault, IsFaultPut, IsFront, IsBytesStatus, IsPut, IsTooLong, done, failed, too_small, same, bad_argument, out_of_memory};
@@ -18,7 +17,7 @@ use crate::places::read_place_text;
 use crate::renames::renames_text;
 use std::alloc::Global;
 use std::borrow::CowSlice;
-use wc_dedupe::{DedupeFault, ModuleImportMap, Rename};
+use wc_dedupe::{DedupeFault, ModuleImportMap, RenameList};
 use wc_read::ReadPlace;
 use wc_texts::Refused;
 
@@ -85,13 +84,13 @@ fn answer_refused_module(
 }
 
 /// Writes a renamed module, and then its renames.
-fn put_renamed(alloc: Global, bytes: &[u8], renames: &[Rename], out: &mut [u8]) -> Answer
+fn put_renamed(alloc: Global, bytes: &[u8], renames: &RenameList, out: &mut [u8]) -> Answer
     ensures length { (result.status ≡ done) ⊎ (result.status ≡ too_small)
-        → result.length ≡ length (bytes.now ++ renames_text (rename_values renames.now)) }
+        → result.length ≡ length (bytes.now ++ renames_text renames.now) }
     ensures module_length { (result.status ≡ done) ⊎ (result.status ≡ too_small)
         → result.module_length ≡ length bytes.now }
     ensures done { result.status ≡ done
-        → IsFront (bytes.now ++ renames_text (rename_values renames.now)) out.old out.new }
+        → IsFront (bytes.now ++ renames_text renames.now) out.old out.new }
     ensures too_small { result.status ≡ too_small → length out.old < result.length }
     ensures unchanged { result.status ≢ done → out.new ≡ out.old }
     ensures statuses { IsBytesStatus result.status }

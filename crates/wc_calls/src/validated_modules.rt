@@ -30,7 +30,7 @@ use wc_maps::Seed;
 use wc_record::module_to_json;
 use wc_validate::ValidatedModule;
 
-/// What is recorded of a module, as JSON.
+/// The record of a module, as JSON.
 fn record_text(alloc: Global, module: &ValidatedModule) -> Result<Vec<u8>, RefusedMessage>
     ensures text { IfOk result (λ v. v.items ≡ module_text (module_record module.now)) }
     ensures fault { IfErr result (IsWithoutPlace Memory) }
@@ -38,7 +38,7 @@ fn record_text(alloc: Global, module: &ValidatedModule) -> Result<Vec<u8>, Refus
     Ok(module_to_json(alloc, module)?)
 }
 
-/// What is recorded of the main module, as JSON.
+/// The record of the main module, as JSON.
 fn main_text(alloc: Global, encoder: &ComponentEncoder) -> Result<Vec<u8>, RefusedMessage>
     ensures text { IfOk result (λ v. IsRecordText encoder.now None [] v.items) }
     ensures fault { IfErr result (λ x. IsMainCause encoder.now x.fault) }
@@ -50,7 +50,7 @@ fn main_text(alloc: Global, encoder: &ComponentEncoder) -> Result<Vec<u8>, Refus
     }
 }
 
-/// Answers what is recorded of the main module.
+/// Answers with the record of the main module.
 fn answer_main(alloc: Global, encoder: &ComponentEncoder, out: &mut [u8]) -> Answer
     ensures done { result.status ≡ done
         → IsPut (IsRecordText encoder.now None []) result.length out.old out.new }
@@ -70,7 +70,7 @@ fn answer_main(alloc: Global, encoder: &ComponentEncoder, out: &mut [u8]) -> Ans
     }
 }
 
-/// What is recorded of an adapter or a library, as JSON.
+/// The record of an adapter or a library, as JSON.
 fn input_text(alloc: Global, input: AdapterInput<'_>) -> Result<Vec<u8>, RefusedMessage>
     ensures text { IfOk result (λ v. IsInputText input.entry v.items) }
     ensures fault { IfErr result (IsInputRefusal input.entry) }
@@ -81,7 +81,7 @@ fn input_text(alloc: Global, input: AdapterInput<'_>) -> Result<Vec<u8>, Refused
     }
 }
 
-/// Answers what is recorded of an adapter or a library.
+/// Answers with the record of an adapter or a library.
 fn answer_input(alloc: Global, input: AdapterInput<'_>, out: &mut [u8]) -> Answer
     ensures done { result.status ≡ done
         → IsPut (IsInputText input.entry) result.length out.old out.new }

@@ -36,14 +36,14 @@ pub(crate) struct AdapterInput<'a> {
     pub adapter: &'a Adapter,
 }
 
-/// An encoder, and what is recorded of its main module, which is valid.
+/// An encoder, and the record of its main module, which is valid.
 #[derive(Clone, Copy)]
 struct ValidMain<'a> {
     encoder: &'a ComponentEncoder,
     validated: &'a ValidatedModule,
 }
 
-/// What is recorded of the main module.
+/// Validates the main module, and returns its record.
 pub(crate) fn main_record(
     alloc: Global,
     encoder: &ComponentEncoder,
@@ -60,7 +60,7 @@ pub(crate) fn main_record(
     }
 }
 
-/// What is recorded of an adapter or a library.
+/// Validates an adapter or a library, and returns its record.
 pub(crate) fn input_record(
     alloc: Global,
     input: AdapterInput<'_>,

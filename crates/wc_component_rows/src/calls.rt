@@ -18,7 +18,10 @@ use wc_module_rows::validation::described_modules::described_of;
 use wc_resolve::Resolve;
 use wc_texts::Refused;
 use wc_validate::ValidateFault;
-use wc_world::{ComponentWorld, ImportOptions, ModulePlace, PlainOptions, WorldFault, WorldPlace};
+use wc_world::{
+    ComponentWorld, ImportOptions, ModulePlace, PlainOptions, RequiredOptions, WorldFault,
+    WorldPlace,
+};
 
 /// A fault; and after PageSize the adapter, and the bytes in its pages and in the main module's.
 fn put_fault(fault: &WorldFault, out: &mut Lines) {
@@ -148,13 +151,14 @@ fn answer_world<'a>(alloc: Global, row: &'a Row<'a>, out: &mut Lines) -> Result<
 
 fn answer_options<'a>(alloc: Global, row: &'a Row<'a>, out: &mut Lines) -> Result<(), Stop<'a>> {
     match resolve_of(alloc, &row.input) {
-        Ok(resolve) => plain_options(alloc, &resolve, row, out),
+        Ok(resolve) => function_options(alloc, &resolve, row, out),
         Err(stop) => Err(stop),
     }
 }
 
-/// `plain_options ABI func NAME: FUNCTION`: the bits of the options that the function needs.
-fn plain_options<'a>(
+/// `plain_options ABI func NAME: FUNCTION`: the bits of the options that the function needs where it is lowered;
+/// `export_options ABI func NAME: FUNCTION`: where it is lifted.
+fn function_options<'a>(
     alloc: Global,
     resolve: &Resolve,
     row: &'a Row<'a>,
@@ -167,7 +171,11 @@ fn plain_options<'a>(
     if !resolve.has_function(&function) {
         return Err(Stop::Missing("a function that is not usable"));
     }
-    let required = PlainOptions.for_import(alloc, resolve, &function, abi)?;
+    let required = if row.call == "export_options" {
+        RequiredOptions::for_export(alloc, resolve, &function, abi)?
+    } else {
+        PlainOptions.for_import(alloc, resolve, &function, abi)?
+    };
     let bits = required.bits();
     writeln!(out, "{bits}");
     Ok(())
@@ -178,7 +186,7 @@ pub(crate) fn answer(alloc: Global, row: &Row<'_>, out: &mut Lines) -> bool {
     let mut lines = Lines::new(alloc);
     let answered = match row.call {
         "component_world" => answer_world(alloc, row, &mut lines),
-        "plain_options" => answer_options(alloc, row, &mut lines),
+        "plain_options" | "export_options" => answer_options(alloc, row, &mut lines),
         "world_faults" => put_faults(alloc, &mut lines),
         _ => return false,
     };

@@ -1,5 +1,5 @@
 -- A module's parts under the names of a renaming.
-use Rattle.std.proofs.Common.{◌≡◌, ℕ, ◌+◌, List, [], ◌∷◌, ◌++◌, length, map, take, drop, Option, Result, Err, refl, sym, ◌∙◌, ap, subst, arith, inl, inr, true, false, eqb-true}
+use Rattle.std.proofs.Common.{◌≡◌, ℕ, ◌+◌, List, [], ◌∷◌, ◌++◌, length, take, drop, Option, Result, Err, refl, sym, ◌∙◌, ap, subst, arith, inl, inr, true, false, eqb-true}
 use Rattle.std.specs.Prelude.{◌≢◌, ◌==◌, All, Any}
 use Rattle.std.proofs.lemmas.Bool.{false≢true}
 use Rattle.std.proofs.Math.ListN.{length-append}
@@ -97,13 +97,13 @@ cause_of_write bytes write_memory large = tt
 cause_of_write bytes write_large large = large refl
 
 -- where bytes are left and where not
-pub some_of : {X : Type 0} (f : X → RenameView) (xs : List X) (rs : List RenameView) → map f xs ≡ rs → false ≡ (length xs == 0) → rs ≢ []
-some_of f [] rs e t none = false≢true t
-some_of f (x ∷ xs) rs e t none = absurd cc
+pub some_of : {X : Type 0} (xs rs : List X) → xs ≡ rs → false ≡ (length xs == 0) → rs ≢ []
+some_of [] rs e t none = false≢true t
+some_of (x ∷ xs) rs e t none = absurd cc
 
-pub none_of : {X : Type 0} (f : X → RenameView) (xs : List X) (rs : List RenameView) → map f xs ≡ rs → true ≡ (length xs == 0) → rs ≡ []
-none_of f [] rs e t = sym e
-none_of f (x ∷ xs) rs e t = let h : length (x ∷ xs) ≡ 0 = eqb-true (length (x ∷ xs)) 0 (sym t) in absurd (omega arith)
+pub none_of : {X : Type 0} (xs rs : List X) → xs ≡ rs → true ≡ (length xs == 0) → rs ≡ []
+none_of [] rs e t = sym e
+none_of (x ∷ xs) rs e t = let h : length (x ∷ xs) ≡ 0 = eqb-true (length (x ∷ xs)) 0 (sym t) in absurd (omega arith)
 
 -- a fault that is not Component comes from no component
 pub no_component : {T : Type 0} (bytes : List ℕ) (f : ReadFault) → (IsComponent bytes → ◌≡◌ {A = Result T ReadFault} (Err f) (Err read_component)) → f ≢ read_component → ¬ (IsComponent bytes)

@@ -1,5 +1,6 @@
 pub mod NamePositionLemmas
 pub mod NameKeyLemmas
+pub mod RenameTextLemmas
 pub mod OrderLemmas
 pub mod DistinctLemmas
 pub mod DifferentKeyLemmas

@@ -11,13 +11,11 @@ use Rattle.std.specs.declared.cmp.Ordering.{Ordering}
 use Rattle.std.specs.declared.cmp.Ordering.TheVariants.{Less, Equal, Greater}
 use Rattle.std.proofs.lemmas.Bool.{true≢false, cases_Bool, cases_order}
 use Rattle.std.proofs.lemmas.Cmp.{nat_cmp_total, on_total, then_total, tied_itself}
-use Rattle.std.proofs.lemmas.List.{length-map, get_or_default}
+use Rattle.std.proofs.lemmas.List.{get_or_default}
 use Rattle.std.proofs.lemmas.List.Sorted.{searchable_from_sorted}
 use Rattle.std.proofs.lemmas.Option.{slice_get-map, slice_get_within}
 use Rattle.std.proofs.lemmas.Slice.Eq.{bytes_eq-Decides}
-use Rattle.wc_dedupe.specs.Renames.{rename_view, rename_values}
 use Rattle.wc_dedupe.specs.Renaming.{ImportName, RenameView, Renamed, renames_of, is_rename_to, original_in}
-use Rattle.wc_dedupe.specs.declared.renaming.Rename.{Rename}
 use Rattle.wc_dedupe.specs.Private.NameKeys.{NameKey, IsKeyOf, AreKeys, name_key}
 use Rattle.wc_dedupe.specs.Private.NamePositions.{names_cmp}
 use Rattle.wc_dedupe.specs.Private.RenameOrder.{new_name, name_at, numbered_cmp, key_cmp, IsNameOrder, LeadBack, Finds}
@@ -54,15 +52,11 @@ renamed_at renames e of = by (slice_get renames e.1) refl
         let same : new_name r ≡ of.0 = cc in
         (r, is, of.2 ∙ ap name_key (sym same))
 
-pub name_order : (renames : List Rename) (keys order : List NameKey) → AreKeys (map new_name (rename_values renames)) (length renames) keys → IsPermutation keys order
-    → IsSortedBy (λ (e f : NameKey). is_lt (key_cmp (rename_values renames) e f.0 (name_at (rename_values renames) f.1))) order → IsNameOrder (rename_values renames) order
+pub name_order : (renames : List RenameView) (keys order : List NameKey) → AreKeys (map new_name renames) (length renames) keys → IsPermutation keys order
+    → IsSortedBy (λ (e f : NameKey). is_lt (key_cmp renames e f.0 (name_at renames f.1))) order → IsNameOrder renames order
 name_order renames keys order made moved rises =
-    let sorted = keys_sorted (map new_name (rename_values renames)) (length renames) keys order moved made in
-    record {
-      of = λ e c. renamed_at (rename_values renames) e (sorted.of e c);
-      all = λ i h. sorted.all i (omega (arith, h, length-map renames rename_view));
-      rises = rises;
-    }
+    let sorted = keys_sorted (map new_name renames) (length renames) keys order moved made in
+    record { of = λ e c. renamed_at renames e (sorted.of e c); all = sorted.all; rises = rises }
 
 -- what a search finds
 

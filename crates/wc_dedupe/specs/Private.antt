@@ -3,3 +3,4 @@ pub mod Numbers
 pub mod RenameOrder
 pub mod NamePositions
 pub mod NameKeys
+pub mod RenameLists

@@ -1,4 +1,4 @@
-//! Why dedupe refuses bytes.
+//! Faults of dedupe: the reasons why it refuses bytes.
 
 ghost use Rattle.std.specs.Prelude.{◌≡◌, ◌≤◌};
 ghost use Rattle.wc_dedupe.specs.declared.fault.DedupeFault.TheVariants.{Memory, TooLarge};

@@ -41,8 +41,10 @@ mod name_keys;
 mod name_positions;
 mod numbers;
 mod parsed_sections;
+mod rename_list;
 mod rename_order;
 mod renaming;
 
 pub use fault::DedupeFault;
-pub use renaming::{ModuleImportMap, Rename};
+pub use rename_list::{Rename, RenameList};
+pub use renaming::ModuleImportMap;

@@ -4,11 +4,11 @@ ghost use Rattle.std.specs.Prelude.{◌≡◌, ◌≢◌, ◌↔◌, ◌++◌, l
 ghost use Rattle.wc_read.specs.Imports.{import_values};
 ghost use Rattle.wc_read.specs.Sections.{section_value, IsComponent};
 ghost use Rattle.wc_dedupe.specs.Private.NamePositions.{names_of};
-ghost use Rattle.wc_dedupe.specs.Renames.{rename_values};
 ghost use Rattle.wc_dedupe.specs.Renaming.{originals};
 ghost use Rattle.wc_dedupe.specs.ParsedSections.{ParsedSectionValue, parsed_section_value, parsed_values, SpellsParsedSection, AreSpelled, SpellsParsedSections, imports_in, imports_of, renamed_section, renamed_sections, parsed_section_text, parsed_module_text, import_count, Fits, IsTooLarge};
 
-use crate::renaming::{Rename, renamed_imports};
+use crate::rename_list::RenameList;
+use crate::renaming::renamed_imports;
 use std::alloc::{AllocError, Global};
 use wc_read::codes::IMPORT_ID;
 use wc_read::{Import, MODULE_HEADER, ReadFault, Section, frames, laws, read_imports};
@@ -105,15 +105,15 @@ pub fn write_sections(
     size: usize,
     parts: &[ParsedSection<'_>],
     indices: &[Option<usize>],
-    renames: &[Rename],
+    renames: &RenameList,
 ) -> Result<Vec<u8>, WriteFault>
     requires { length indices.now ≡ length (imports_of (parsed_values parts.now)) }
     ensures written { IfOk result (λ v. v.items ≡ parsed_module_text
-        (renamed_sections (rename_values renames.now) (parsed_values parts.now) indices.now)) }
+        (renamed_sections renames.now (parsed_values parts.now) indices.now)) }
     ensures fits { IsOk result → All Fits
-        (renamed_sections (rename_values renames.now) (parsed_values parts.now) indices.now) }
+        (renamed_sections renames.now (parsed_values parts.now) indices.now) }
     ensures too_large { IsErrOf result WriteFault.TooLarge → Any IsTooLarge
-        (renamed_sections (rename_values renames.now) (parsed_values parts.now) indices.now) }
+        (renamed_sections renames.now (parsed_values parts.now) indices.now) }
 {
     let mut out = Vec::with_capacity(alloc, size)?;
     out.extend_from_slice(MODULE_HEADER)?;
@@ -142,15 +142,15 @@ fn append_section(
     out: &mut Vec<u8>,
     part: &ParsedSection<'_>,
     indices: &[Option<usize>],
-    renames: &[Rename],
+    renames: &RenameList,
 ) -> Result<(), WriteFault>
     requires { length indices.now ≡ import_count (parsed_section_value part.now) }
     ensures written { OnOk result (out.new.items ≡ out.old.items ++ parsed_section_text
-        (renamed_section (rename_values renames.now) (parsed_section_value part.now) indices.now)) }
+        (renamed_section renames.now (parsed_section_value part.now) indices.now)) }
     ensures fits { IsOk result → Fits
-        (renamed_section (rename_values renames.now) (parsed_section_value part.now) indices.now) }
+        (renamed_section renames.now (parsed_section_value part.now) indices.now) }
     ensures too_large { IsErrOf result WriteFault.TooLarge → IsTooLarge
-        (renamed_section (rename_values renames.now) (parsed_section_value part.now) indices.now) }
+        (renamed_section renames.now (parsed_section_value part.now) indices.now) }
 {
     match part {
         ParsedSection::Imports(imports) => {

@@ -4,19 +4,18 @@ ghost use Rattle.std.specs.Prelude.{◌≡◌, IfOk, length, map};
 ghost use Rattle.wc_dedupe.specs.Private.NameKeys.{AreKeys, name_key};
 ghost use Rattle.wc_dedupe.specs.Private.RenameOrder.{new_name, name_at, key_cmp, IsNameOrder, Finds};
 ghost use Rattle.wc_dedupe.specs.Private.NamePositions.{named};
-ghost use Rattle.wc_dedupe.specs.Renames.{rename_values};
 
 use crate::name_keys::name_key;
-use crate::renaming::Rename;
+use crate::rename_list::RenameList;
 use std::alloc::{AllocError, Global};
 use std::cmp::Ordering;
 
 /// The keys of the renames' new names, in ascending order: those of one number in that of their modules and names.
 pub(crate) fn rename_order(
     alloc: Global,
-    renames: &[Rename],
+    renames: &RenameList,
 ) -> Result<Vec<(u64, usize)>, AllocError>
-    ensures { IfOk result (λ v. IsNameOrder (rename_values renames.now) v.items) }
+    ensures { IfOk result (λ v. IsNameOrder renames.now v.items) }
 {
     let mut order = new_keys(alloc, renames)?;
     order.sort_by(|one, other| keys_compared(renames, *one, *other))?;
@@ -24,9 +23,9 @@ pub(crate) fn rename_order(
 }
 
 /// The keys of the renames' new names: of each its number and the index of the rename.
-fn new_keys(alloc: Global, renames: &[Rename]) -> Result<Vec<(u64, usize)>, AllocError>
+fn new_keys(alloc: Global, renames: &RenameList) -> Result<Vec<(u64, usize)>, AllocError>
     ensures { IfOk result (λ v.
-        AreKeys (map new_name (rename_values renames.now)) (length renames.now) v.items) }
+        AreKeys (map new_name renames.now) (length renames.now) v.items) }
 {
     let mut keys = Vec::with_capacity(alloc, renames.len())?;
     for index in 0..renames.len() {
@@ -39,13 +38,13 @@ fn new_keys(alloc: Global, renames: &[Rename]) -> Result<Vec<(u64, usize)>, Allo
 
 /// The index of a rename to this name in this module, where there is one. `order` has the keys in their order.
 pub(crate) fn find(
-    renames: &[Rename],
+    renames: &RenameList,
     order: &[(u64, usize)],
     module: &str,
     name: &str,
 ) -> Option<usize>
-    requires { IsNameOrder (rename_values renames.now) order.now }
-    ensures { Finds (rename_values renames.now)
+    requires { IsNameOrder renames.now order.now }
+    ensures { Finds renames.now
         (record { module_name = «module».now; name = name.now }) result }
 {
     let number = name_key(module, name);
@@ -57,9 +56,9 @@ pub(crate) fn find(
 
 /// How the new name that has a key compares to one that has another: by their numbers, and by themselves where these are
 /// equal.
-fn keys_compared(renames: &[Rename], one: (u64, usize), other: (u64, usize)) -> Ordering
-    ensures { result ≡ key_cmp (rename_values renames.now) one other.0
-        (name_at (rename_values renames.now) other.1) }
+fn keys_compared(renames: &RenameList, one: (u64, usize), other: (u64, usize)) -> Ordering
+    ensures { result ≡ key_cmp renames.now one other.0
+        (name_at renames.now other.1) }
 {
     match one.0.cmp(&other.0) {
         Ordering::Less => Ordering::Less,
@@ -70,8 +69,8 @@ fn keys_compared(renames: &[Rename], one: (u64, usize), other: (u64, usize)) -> 
 
 /// How the new name that has a key compares to a name with its number: by the numbers, and by the names where these are
 /// equal.
-fn compared(renames: &[Rename], key: (u64, usize), number: u64, name: (&str, &str)) -> Ordering
-    ensures { result ≡ key_cmp (rename_values renames.now) key number (named name.entry) }
+fn compared(renames: &RenameList, key: (u64, usize), number: u64, name: (&str, &str)) -> Ordering
+    ensures { result ≡ key_cmp renames.now key number (named name.entry) }
 {
     match key.0.cmp(&number) {
         Ordering::Less => Ordering::Less,
@@ -81,11 +80,11 @@ fn compared(renames: &[Rename], key: (u64, usize), number: u64, name: (&str, &st
 }
 
 /// The module and the new name of the rename at `index`, empty texts past the last.
-fn new_name(renames: &[Rename], index: usize) -> (&str, &str)
-    ensures { named result ≡ name_at (rename_values renames.now) index }
+fn new_name(renames: &RenameList, index: usize) -> (&str, &str)
+    ensures { named result ≡ name_at renames.now index }
 {
     match renames.get(index) {
-        Some(rename) => (rename.module.as_str(), rename.name.as_str()),
+        Some(rename) => (rename.module, rename.name),
         None => ("", ""),
     }
 }

@@ -1,54 +1,41 @@
 //! The renaming of a list of imports, so that no two share a module and a name.
 
-ghost use Rattle.std.specs.Prelude.{◌≡◌, false, IfOk, map, length, string_bytes};
+ghost use Rattle.std.specs.Prelude.{◌≡◌, false, IfOk, length, string_bytes};
 ghost use Rattle.std.specs.Option.{option_map};
 ghost use Rattle.wc_read.specs.Imports.{import_value, import_values};
 ghost use Rattle.wc_dedupe.specs.Laws.{AreDistinct};
 ghost use Rattle.wc_dedupe.specs.Private.Numbers.{LacksNumbered, PushesRename};
 ghost use Rattle.wc_dedupe.specs.Private.RenameOrder.{LeadBack};
 ghost use Rattle.wc_dedupe.specs.Private.NamePositions.{named, names_of, Ascend, HavePositions};
-ghost use Rattle.wc_dedupe.specs.Renames.{rename_view, rename_values};
 ghost use Rattle.wc_dedupe.specs.Renaming.{original_in, renamed_import, renamed_imports, IsRenaming};
 
 use crate::name_keys::{are_different, known_names, sorted_keys};
 use crate::name_positions::name_in;
 use crate::numbers::{Known, give};
+use crate::rename_list::RenameList;
 use crate::rename_order::{find, rename_order};
 use std::alloc::{AllocError, Global};
 use std::marker::Model;
 use wc_read::Import;
 
-/// A renamed import.
-#[derive(Debug, PartialEq, Eq, Drop)]
-pub struct Rename {
-    /// The name of its module, which stays the same.
-    pub module: String,
-    /// Its name before.
-    pub original: String,
-    /// Its name now.
-    pub name: String,
-}
-
 /// The original names of renamed imports.
 #[derive(Drop)]
 pub struct ModuleImportMap {
-    renames: Vec<Rename>,
+    renames: RenameList,
     order: Vec<(u64, usize)>,
 }
 
 impl Model for ModuleImportMap {
-    ghost use Rattle.std.specs.Prelude.{List, map};
+    ghost use Rattle.std.specs.Prelude.{List};
     ghost use Rattle.wc_dedupe.specs.Renaming.{RenameView};
 
     ghost Value = { List RenameView };
 
-    ghost use Rattle.wc_dedupe.specs.Renames.{rename_view};
     ghost use Rattle.wc_dedupe.specs.Private.RenameOrder.{IsNameOrder, LeadBack};
 
-    ghost view = { λ a. map rename_view a.renames.items };
+    ghost view = { λ a. a.renames };
 
-    ghost invariant = { λ a. IsNameOrder (map rename_view a.renames.items) a.order.items
-        × LeadBack (map rename_view a.renames.items) };
+    ghost invariant = { λ a. IsNameOrder a.renames a.order.items × LeadBack a.renames };
 }
 
 impl ModuleImportMap {
@@ -59,16 +46,19 @@ impl ModuleImportMap {
             ≡ original_in self.now import.now.module.now import.now.name.now }
     {
         match find(&self.renames, &self.order, import.module, import.name) {
-            Some(index) => Some(self.renames[index].original.as_str()),
+            Some(index) => match self.renames.get(index) {
+                Some(rename) => Some(rename.original),
+                None => None,
+            },
             None => None,
         }
     }
 
     /// The renamed imports, in the order of the module's imports.
-    pub fn renames(&self) -> &[Rename]
-        ensures { map rename_view result.now ≡ self.now }
+    pub fn renames(&self) -> &RenameList
+        ensures { result.now ≡ self.now }
     {
-        self.renames.as_slice()
+        &self.renames
     }
 }
 
@@ -106,7 +96,7 @@ fn unrenamed(alloc: Global, names: &[(&str, &str)]) -> Result<Renaming, AllocErr
     let indices = vec![in alloc; None; names.len()]?;
     Ok(Renaming {
         map: ModuleImportMap {
-            renames: Vec::new(alloc),
+            renames: RenameList::new(alloc),
             order: Vec::new(alloc),
         },
         indices,
@@ -120,21 +110,21 @@ fn rename_each(
     names: &[(&str, &str)],
     known: Known<'_, '_>,
     positions: &[usize],
-) -> Result<(Vec<Rename>, Vec<Option<usize>>), AllocError>
+) -> Result<(RenameList, Vec<Option<usize>>), AllocError>
     requires ascend { Ascend known.names.now }
     requires lacks { known.some_numbered ≡ false → LacksNumbered (names_of known.names.now) }
     requires positions { HavePositions (names_of names.now) (names_of known.names.now)
         positions.now }
-    ensures { IfOk result (λ r. IsRenaming (names_of names.now) r.1.items (rename_values r.0.items)
-        × LeadBack (rename_values r.0.items)) }
+    ensures { IfOk result (λ r. IsRenaming (names_of names.now) r.1.items r.0
+        × LeadBack r.0) }
 {
     let mut numbers = vec![in alloc; 0; known.names.len()]?;
-    let mut renames = Vec::new(alloc);
+    let mut renames = RenameList::new(alloc);
     let mut indices = Vec::with_capacity(alloc, names.len())?;
     for (i, position) in positions.iter().enumerate() {
         let name = give(alloc, known, &mut numbers, *position, i)?;
         let original = name_in(known.names, *position);
-        let index = push_rename(alloc, &mut renames, original, name)?;
+        let index = push_rename(&mut renames, original, name)?;
         indices.push(index)?;
     }
     Ok((renames, indices))
@@ -142,26 +132,18 @@ fn rename_each(
 
 /// Appends the rename of an import to its new name, where it has one, and answers the index of that rename.
 fn push_rename(
-    alloc: Global,
-    renames: &mut Vec<Rename>,
+    renames: &mut RenameList,
     original: (&str, &str),
     name: Option<String>,
 ) -> Result<Option<usize>, AllocError>
-    ensures { IfOk result (λ index. PushesRename (rename_values renames.old.items)
-        (rename_values renames.new.items) (named original.entry)
+    ensures { IfOk result (λ index. PushesRename renames.old renames.new (named original.entry)
         (option_map string_bytes name) index) }
 {
     let Some(name) = name else {
         return Ok(None);
     };
-    let module = String::from_str(alloc, original.0)?;
-    let original = String::from_str(alloc, original.1)?;
     let index = renames.len();
-    renames.push(Rename {
-        module,
-        original,
-        name,
-    })?;
+    renames.push(original.0, original.1, name.as_str())?;
     Ok(Some(index))
 }
 
@@ -170,11 +152,11 @@ pub(crate) fn renamed_imports<'a>(
     alloc: Global,
     imports: &[Import<'a>],
     indices: &[Option<usize>],
-    renames: &'a [Rename],
+    renames: &'a RenameList,
 ) -> Result<Vec<Import<'a>>, AllocError>
     requires { length indices.now ≡ length imports.now }
     ensures { IfOk result (λ is. import_values is.items
-        ≡ renamed_imports (rename_values renames.now) (import_values imports.now) indices.now) }
+        ≡ renamed_imports renames.now (import_values imports.now) indices.now) }
 {
     let mut renamed = Vec::new(alloc);
     for (i, import) in imports.iter().enumerate() {
@@ -187,13 +169,13 @@ pub(crate) fn renamed_imports<'a>(
 fn renamed_import<'a>(
     import: &Import<'a>,
     index: Option<usize>,
-    renames: &'a [Rename],
+    renames: &'a RenameList,
 ) -> Import<'a>
     ensures { import_value result
-        ≡ renamed_import (rename_values renames.now) (import_value import.now) index }
+        ≡ renamed_import renames.now (import_value import.now) index }
 {
     let name = match index.and_then(|k| renames.get(k)) {
-        Some(rename) => rename.name.as_str(),
+        Some(rename) => rename.name,
         None => import.name,
     };
     Import {

@@ -1,4 +1,4 @@
-//! Whether what exports depend on is exported before them.
+//! The rule that exports come after the exported interfaces that they depend on.
 
 ghost use Rattle.std.specs.Prelude.{◌↔◌, ◌<◌, IfOk, IsTrue, length};
 ghost use Rattle.wc_resolve.specs.Ranges.{IsItemIn};

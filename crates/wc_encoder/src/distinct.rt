@@ -1,4 +1,4 @@
-//! Whether no interface is exported twice, and no two imports have one name.
+//! The rules that no interface is exported twice, and no two imports have one name.
 
 ghost use Rattle.std.specs.Prelude.{◌↔◌, IfOk, IsTrue};
 ghost use Rattle.wc_encoder.specs.Distinct.{AreInterfacesOnce, AreKeysIn, AreNamesDistinct, HaveNames};

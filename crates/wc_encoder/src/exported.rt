@@ -1,4 +1,4 @@
-//! Whether a world exports what modules have to export, and no types.
+//! The rules that a world has the exports that modules are required to have, and exports no types.
 
 ghost use Rattle.std.specs.Prelude.{◌↔◌, All, IsTrue, map};
 ghost use Rattle.wc_resolve.specs.Views.{item_view, key_view};

@@ -1,4 +1,4 @@
-//! Why the parts of an encoder are refused.
+//! Faults of encoders: the reasons why the parts of one are refused.
 
 ghost use Rattle.std.specs.Prelude.{◌≡◌, ◌≤◌};
 ghost use Rattle.wc_encoder.specs.declared.fault.EncoderFault.TheVariants.{Memory};

@@ -1,4 +1,4 @@
-//! Whether modules can be encoded for the world of an encoder.
+//! The check that the parts of an encoder are well-formed.
 
 ghost use Rattle.std.specs.Prelude.{IfErr, IfNone, IfSome, OnOk};
 ghost use Rattle.wc_resolve.specs.Views.{world_view};

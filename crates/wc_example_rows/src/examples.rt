@@ -162,7 +162,7 @@ fn put_encoder_for(
     }
 }
 
-/// What is asked of an encoder.
+/// A request for facts about an encoder.
 #[derive(Clone, Copy)]
 enum Asked {
     /// Its module and its world.

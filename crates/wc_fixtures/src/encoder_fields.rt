@@ -106,13 +106,15 @@ fn put_adapter(out: &mut Lines, name: &str, adapter: &Adapter) {
 
 /// A line for each renamed import: its module, its name, and what it was called.
 fn put_renames(out: &mut Lines, map: &ModuleImportMap) {
-    for rename in map.renames() {
+    let renames = map.renames();
+    for index in 0..renames.len() {
+        let rename = renames.at(index);
         out.push_str("renamed ");
-        put_name(out, &rename.module);
+        put_name(out, rename.module);
         out.push(' ');
-        put_name(out, &rename.name);
+        put_name(out, rename.name);
         out.push_str(" was ");
-        put_name(out, &rename.original);
+        put_name(out, rename.original);
         out.push('\n');
     }
 }

@@ -1,4 +1,4 @@
-//! Why the answer of a row is one line alone.
+//! The reasons why the answer of a row is one line alone.
 
 use crate::bad::Bad;
 use std::alloc::{AllocError, AllocFailed};

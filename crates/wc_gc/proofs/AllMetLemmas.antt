@@ -12,14 +12,12 @@ use Rattle.std.proofs.lemmas.Map.Views.{Contains-from_any, list_any-from_Contain
 use Rattle.std.proofs.lemmas.Slice.Eq.{bytes_eq-Decides}
 use Rattle.wc_read.specs.Exports.{ExportValue}
 use Rattle.wc_gc.specs.Exports.{export_names, is_exported, kept_exports, missing_name}
-use Rattle.wc_gc.proofs.ExportLemmas.{all_kept}
+use Rattle.wc_gc.proofs.ChainLemmas.{same_names as equal}
+use Rattle.wc_gc.proofs.ExportLemmas.{all_kept, differ as tests}
 use Rattle.wc_gc.proofs.KeptExportLemmas.{names_of_pairs, pairs_kept, pairs_named}
 use Rattle.wc_gc.proofs.LiveItemLemmas.{contains_mapped}
-use Rattle.wc_gc.proofs.KeptOrderLemmas.{Differ, flip, tests}
+use Rattle.wc_gc.proofs.KeptOrderLemmas.{Differ, flip}
 use Rattle.wc_gc.proofs.RequiredExportLemmas.{kept_required}
-
-equal : (a b : List ℕ) → bytes_eq a b ≡ true → a ≡ b
-equal a b e = (bytes_eq-Decides a b).0 e
 
 named_there : (es : List ExportValue) (y : ExportValue) → Contains es y → is_exported es y.name ≡ true
 named_there es y c = list_any-from_Contains nat_list_eq_equiv y.name (export_names es) (contains_mapped (λ (e : ExportValue). e.name) es y c)

@@ -131,7 +131,7 @@ get_set_same [] n x y e = absurd cc
 get_set_same (z ∷ xs) zero x y e = sym (same_Some x y e)
 get_set_same (z ∷ xs) (suc n) x y e = get_set_same xs n x y e
 
-get_set_other : {X : Type 0} (xs : List X) (n k : ℕ) (x : X) → k ≢ n → slice_get (set xs n x) k ≡ slice_get xs k
+pub get_set_other : {X : Type 0} (xs : List X) (n k : ℕ) (x : X) → k ≢ n → slice_get (set xs n x) k ≡ slice_get xs k
 get_set_other [] n k x d = refl
 get_set_other (z ∷ xs) zero zero x d = absurd (d refl)
 get_set_other (z ∷ xs) zero (suc k) x d = refl

@@ -20,8 +20,9 @@ use Rattle.wc_gc.specs.Unfolding.{in_image}
 use Rattle.wc_gc.specs.declared.parts.Parts.{Parts}
 use Rattle.wc_gc.proofs.AddedUnderLemmas.{first_has, growing_by, last_has, members}
 use Rattle.wc_gc.proofs.BuiltPartLemmas.{each_weaker}
-use Rattle.wc_gc.proofs.EditedFuncLemmas.{all_only, funcs_count, none_last, only_count, types_count}
+use Rattle.wc_gc.proofs.EditedFuncLemmas.{all_only, funcs_count, none_last, types_count}
 use Rattle.wc_gc.proofs.EditedIndexLemmas.{cond_has, edited, funcs_long}
+use Rattle.wc_gc.proofs.EditedTextLemmas.{only_length as only_count}
 use Rattle.wc_gc.proofs.SpelledItemLemmas.{all_joined}
 
 -- what added bodies name

@@ -30,11 +30,11 @@ use Rattle.wc_gc.specs.declared.parts.Parts.{Parts}
 use Rattle.wc_gc.specs.declared.fault.GcFault.TheVariants.{LiveBody, ReallocMemory}
 use Rattle.wc_gc.proofs.BuiltImageLemmas.{func_at, global_at}
 use Rattle.wc_gc.proofs.BuiltPartLemmas.{all_at, each_weaker}
-use Rattle.wc_gc.proofs.EditedFuncLemmas.{empty_is, get_back}
+use Rattle.wc_gc.proofs.EditedFuncLemmas.{empty_is}
 use Rattle.wc_gc.proofs.EditedIndexLemmas.{cond_has, edited_at, was_read}
 use Rattle.wc_gc.proofs.ExportLemmas.{all_kept}
 use Rattle.wc_gc.proofs.FoundLemmas.{realloc_seen}
-use Rattle.wc_gc.proofs.ImageUnfoldingLemmas.{image_unfolds}
+use Rattle.wc_gc.proofs.ImageUnfoldingLemmas.{back_at as get_back, image_unfolds}
 use Rattle.wc_gc.proofs.InitRefLemmas.{global_coded, global_names_there}
 use Rattle.wc_gc.proofs.InitTypeLemmas.{all-left, all-right}
 use Rattle.wc_gc.proofs.KeptItemLemmas.{get_some}

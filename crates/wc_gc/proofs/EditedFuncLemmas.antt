@@ -1,5 +1,5 @@
 -- The functions of an edited adapter's image can be spelled.
-use Rattle.std.proofs.Common.{◌≡◌, ℕ, suc, ◌+◌, ◌-◌, ◌<◌, ◌≤◌, ◌^◌, List, [], ◌∷◌, ◌++◌, length, map, refl, sym, ◌∙◌, ap, subst, Bool, true, false, cond}
+use Rattle.std.proofs.Common.{◌≡◌, ℕ, ◌+◌, ◌-◌, ◌<◌, ◌≤◌, ◌^◌, List, [], ◌∷◌, ◌++◌, length, map, refl, sym, ◌∙◌, ap, subst, Bool, true, false, cond}
 use Rattle.std.proofs.Common.{Option, Some, None, append_assoc, arith, lit<}
 use Rattle.std.specs.Prelude.{IfSome, IsUtf8, ◌&&◌, nat_lt, unwrap_or}
 use Rattle.std.specs.List.{AllByRecursion, slice_get}
@@ -46,7 +46,9 @@ use Rattle.wc_gc.proofs.BuiltImageLemmas.{AreFuncs, AreKept, AreInRange, IsStart
 use Rattle.wc_gc.proofs.BuiltPartLemmas.{all_at, each_weaker, seen_imported}
 use Rattle.wc_gc.proofs.EditedIndexLemmas.{added_bounded, added_new, added_type, cond_has, edited, funcs_written, kept_defined, kept_imports, new, new_keeps}
 use Rattle.wc_gc.proofs.EditedIndexLemmas.{old_type, olds, was_read}
+use Rattle.wc_gc.proofs.EditedTextLemmas.{only_length as only_count}
 use Rattle.wc_gc.proofs.ImageLemmas.{all_kept}
+use Rattle.wc_gc.proofs.ImageUnfoldingLemmas.{back_at as get_back}
 use Rattle.wc_gc.proofs.InitTypeLemmas.{all-right}
 use Rattle.wc_gc.proofs.KeptItemLemmas.{kept_count, rank_at, two_kinds, get_some}
 use Rattle.wc_gc.proofs.SpellableLemmas.{body_stays}
@@ -121,10 +123,6 @@ pub all_only : {A : Type 0} (P : A → Type 0) (b : Bool) (x : A) → (b ≡ tru
 all_only P true x h = (h refl, tt)
 all_only P false x h = tt
 
-pub only_count : {A : Type 0} (b : Bool) (x : A) → length (only_if b x) ≡ one_if b
-only_count true x = refl
-only_count false x = refl
-
 pub types_count : (p : Parts) (none : Bool) → length (types_added p none) ≡ one_if p.import_realloc
     + (one_if p.lazy + (one_if p.growing + one_if (p.start && none)))
 types_count p none =
@@ -165,10 +163,6 @@ last_func true true x y z = refl
 last_func true false x y z = refl
 last_func false true x y z = refl
 last_func false false x y z = refl
-
-pub get_back : {A : Type 0} (xs ys : List A) (n : ℕ) → slice_get (xs ++ ys) (length xs + n) ≡ slice_get ys n
-get_back [] ys n = ap (slice_get ys) (let e : 0 + n ≡ n = omega arith in e)
-get_back (x ∷ xs) ys n = ap (slice_get (x ∷ (xs ++ ys))) (let e : suc (length xs) + n ≡ suc (length xs + n) = omega arith in e) ∙ get_back xs ys n
 
 pub empty_is : {A : Type 0} (xs : List A) → is_empty xs ≡ true → xs ≡ []
 empty_is [] h = refl

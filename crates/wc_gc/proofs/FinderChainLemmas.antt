@@ -5,15 +5,13 @@ use Rattle.std.specs.Prelude.{Contains, ◌↔◌}
 use Rattle.std.specs.List.{slice_get}
 use Rattle.std.proofs.lemmas.Bool.{cases_lt}
 use Rattle.std.proofs.lemmas.List.{get_or_default}
-use Rattle.std.proofs.lemmas.Option.{get_or_from_slice_get, slice_get_cases, slice_get_read, slice_get_within}
+use Rattle.std.proofs.lemmas.Option.{get_or_from_slice_get, slice_get_read, slice_get_within}
 use Rattle.wc_gc.specs.Reached.{IsReachedFrom}
 use Rattle.wc_gc.specs.ImportChains.{IsBefore, IsFinderChain, IsShortestChain, at_root, at_named}
 use Rattle.wc_gc.specs.Private.Search.{HasGrown}
 use Rattle.wc_gc.specs.Private.Finders.{AreFound}
+use Rattle.wc_gc.proofs.KeptItemLemmas.{get_some}
 use Rattle.wc_gc.proofs.ShortestLemmas.{AreTails, tails_start, tails_step, tails_end}
-
-get_some : {A : Type 0} (xs : List A) (n : ℕ) → n < length xs → (x : A) × (slice_get xs n ≡ Some x)
-get_some xs n h = elim (slice_get_cases xs n).1 [ inl r ↦ (r.0, r.2) | inr r ↦ absurd (let l = r.0 in omega (arith, l, h)) ]
 
 module _ {X : Type 0} where
   -- the chain of what was found at a position, and what was walked before

@@ -6,10 +6,9 @@ use Rattle.std.specs.List.{slice_get}
 use Rattle.std.specs.Option.{option_map_or}
 use Rattle.std.proofs.lemmas.Bool.{true≢false}
 use Rattle.std.proofs.lemmas.Bool.Decides.{eqb_tells}
-use Rattle.std.proofs.lemmas.Bool.{cases_lt}
-use Rattle.std.proofs.lemmas.List.{get_or-set_other, get_or-set_same, length-set, take_all, take_more}
+use Rattle.std.proofs.lemmas.List.{get_or-set_same, length-set, take_all, take_more}
 use Rattle.std.proofs.lemmas.List.Elements.{Contains-push_cases}
-use Rattle.std.proofs.lemmas.Option.{get_or_from_slice_get, same_Some, slice_get-get_or, slice_get_past, slice_get_within}
+use Rattle.std.proofs.lemmas.Option.{get_or_from_slice_get, same_Some, slice_get-get_or, slice_get_within}
 use Rattle.wc_read.specs.Imports.{ImportValue, import_value}
 use Rattle.wc_read.specs.declared.types.Import.{Import}
 use Rattle.wc_read.specs.declared.types.ImportType.{ImportType}
@@ -20,6 +19,7 @@ use Rattle.wc_gc.specs.Decoded.{ItemIndex}
 use Rattle.wc_gc.specs.RestrictionLaws.{IsImportItem, is_in_space, positions_from}
 use Rattle.wc_gc.specs.Private.ImportPositions.{AreBySpace, import_at}
 use Rattle.wc_gc.specs.declared.import_positions.ImportSpaces.{ImportSpaces}
+use Rattle.wc_gc.proofs.BodyCutLemmas.{get_set_other as set_other}
 
 -- positions are of imports
 
@@ -132,14 +132,6 @@ at_by_space is s (Globals, n) r = ap (λ z. slice_get z n) r.globals
 
 set_same : {A : Type 0} (xs : List A) (i : ℕ) (v : A) → i < length xs → slice_get (set xs i v) i ≡ Some v
 set_same xs i v h = slice_get-get_or (set xs i v) i v (let l = length-set xs i v in omega (arith, l, h)) ∙ ap Some (get_or-set_same xs i v v h)
-
-set_other : {A : Type 0} (xs : List A) (i k : ℕ) (v : A) → k ≢ i → slice_get (set xs i v) k ≡ slice_get xs k
-set_other xs i k v n =
-    let l = length-set xs i v in
-    elim (cases_lt k (length xs)) [
-      | inl h ↦ slice_get-get_or (set xs i v) k v (omega (arith, l, h)) ∙ (ap Some (get_or-set_other xs i k v v n) ∙ sym (slice_get-get_or xs k v h))
-      | inr h ↦ slice_get_past (set xs i v) k (omega (arith, l, h)) ∙ sym (slice_get_past xs k h)
-    ]
 
 -- where the items of imports are, among the first so many of some items
 

@@ -1,5 +1,5 @@
 -- A search finds no more items than there are.
-use Rattle.std.proofs.Common.{◌≡◌, ◌≢◌, ℕ, zero, suc, ◌+◌, ◌<◌, ◌≤◌, List, [], ◌∷◌, length, map, get_or, refl, sym, ◌∙◌, ap, arith}
+use Rattle.std.proofs.Common.{◌≡◌, ◌≢◌, ℕ, ◌+◌, ◌<◌, ◌≤◌, List, length, map, get_or, refl, sym, ◌∙◌, ap, arith}
 use Rattle.std.specs.Prelude.{All, AllPairs}
 use Rattle.std.proofs.lemmas.Bool.{eqb-true}
 use Rattle.std.proofs.lemmas.Bool.Decides.{Decides-eqb}
@@ -11,6 +11,7 @@ use Rattle.std.proofs.lemmas.List.{length-map, get_or_default}
 use Rattle.wc_read.specs.declared.operators.Space.{Space}
 use Rattle.wc_read.specs.declared.operators.Space.TheVariants.{Types, Funcs, Tables, Memories, Globals}
 use Rattle.wc_gc.specs.Decoded.{DecodedModule, ItemIndex, size_of}
+use Rattle.wc_gc.proofs.ExportLemmas.{get-map}
 
 -- the items of all spaces, one space after another
 abbrev pub total : DecodedModule → ℕ
@@ -65,11 +66,6 @@ same_item m x y hx hy e =
     let p = same_item_number m x.0 y.0 x.1 y.1 hx hy e in
     let pair : Space → ℕ → ItemIndex = λ a b. (a, b) in
     ap (λ (a : Space). pair a x.1) p.0 ∙ ap (pair y.0) p.1
-
-get-map : {A B : Type 0} (f : A → B) (xs : List A) (i : ℕ) (d : A) → f (get_or xs i d) ≡ get_or (map f xs) i (f d)
-get-map f [] i d = refl
-get-map f (x ∷ xs) zero d = refl
-get-map f (x ∷ xs) (suc i) d = get-map f xs i d
 
 abbrev origin : ItemIndex
 origin = (Types, 0)

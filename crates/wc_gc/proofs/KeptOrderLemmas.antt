@@ -16,7 +16,7 @@ use Rattle.wc_read.specs.declared.exports.Export.{Export}
 use Rattle.wc_gc.specs.Exports.{export_names, without}
 use Rattle.wc_gc.specs.Private.KeptOrder.{HasPosition}
 use Rattle.wc_gc.specs.declared.kept_order.KeptOrder.{KeptOrder}
-use Rattle.wc_gc.proofs.ExportLemmas.{kept_from, step_dropped, drop_more, no_export, required_is, map-swap_remove}
+use Rattle.wc_gc.proofs.ExportLemmas.{differ as tests, drop_more, kept_from, map-swap_remove, no_export, required_is, step_dropped}
 use Rattle.wc_gc.proofs.KeptExportLemmas.{pairs_named, pairs_without}
 
 -- exports of different names
@@ -50,13 +50,6 @@ position_is : {A : Type 0} (t : A → Bool) (xs : List A) (p : ℕ) (d : A) → 
 position_is t xs p d h none here =
     let e : position_or_len t xs ≡ p = position_or_len_is t xs p d (omega arith) none (λ _. here) in
     ap (λ n. cond (nat_lt n (length xs)) (Some n) None) e ∙ ap (λ b. cond b (Some p) None) (lt-ltb p (length xs) h)
-
-pub tests : (xs ys : List ℕ) → xs ≢ ys → bytes_eq xs ys ≡ false
-tests xs ys n = go (bytes_eq xs ys) refl
-  where
-    go : (b : Bool) → bytes_eq xs ys ≡ b → b ≡ false
-    go true e = absurd (n ((bytes_eq-Decides xs ys).0 e))
-    go false e = refl
 
 -- an export that is taken out by its position is taken out by its name
 removed_at : (vs : List ExportValue) (p : ℕ) (d : ExportValue) (name : List ℕ) → AllPairs Differ vs → p < length vs → (get_or vs p d).name ≡ name

@@ -1,5 +1,5 @@
 -- The chains of a search that begins with the items of required exports.
-use Rattle.std.proofs.Common.{◌≡◌, ℕ, ◌<◌, ◌≤◌, List, [], ◌++◌, length, map, refl, sym, ◌∙◌, ap, subst, Bool, true, inl, inr, arith, get_or}
+use Rattle.std.proofs.Common.{◌≡◌, ℕ, ◌<◌, ◌≤◌, List, [], ◌++◌, length, map, refl, sym, ◌∙◌, ap, subst, Bool, true, arith, get_or}
 use Rattle.std.proofs.Common.{Option, Some, None, length-append}
 use Rattle.std.specs.Prelude.{All, Contains, IfSome, IsTrue, MatchOption, ◌↔◌}
 use Rattle.std.specs.Borrow.{Bor}
@@ -17,14 +17,13 @@ use Rattle.wc_gc.specs.Entries.{refs_in}
 use Rattle.wc_gc.specs.InRange.{is_item_in_range}
 use Rattle.wc_gc.specs.Exports.{kept_exports}
 use Rattle.wc_gc.specs.LiveChains.{AreImportChains, IsChainTo, IsFirstName, items_named}
-use Rattle.wc_gc.specs.LiveItems.{HasLiveBody, IsFaultOf, IsLive, IsReachFault, IsSupported}
+use Rattle.wc_gc.specs.LiveItems.{HasLiveBody, IsLive}
 use Rattle.wc_gc.specs.Reached.{IsReachedFrom}
 use Rattle.wc_gc.specs.RestrictionLaws.{IsImportItem}
 use Rattle.wc_gc.specs.ImportChains.{IsFinderChain}
 use Rattle.wc_gc.specs.Private.Finders.{AreFound}
 use Rattle.wc_gc.specs.Private.Roots.{HaveFirstNames}
 use Rattle.wc_gc.specs.Private.Search.{HasGrown}
-use Rattle.wc_gc.specs.declared.fault.GcFault.{GcFault}
 use Rattle.wc_gc.specs.declared.import_chains.Chain.{Chain}
 use Rattle.wc_gc.specs.declared.import_chains.ImportChains.{ImportChains}
 use Rattle.wc_gc.proofs.FinderChainLemmas.{IsWalked, begins_at, finder_chains, found_from_list, in_list, reached_from_list}
@@ -60,7 +59,7 @@ module _ (a : Module) (required : List (List ℕ)) (order : List ItemIndex) (has
     (g : HasGrown [] has order (items_named (module_value a).exports required)) where
   -- what the search reaches is live
 
-  live_reached : (x : ItemIndex) → IsReachedFrom (refs_in (decode (module_value a))) order x ↔ IsLive required (module_value a) x
+  pub live_reached : (x : ItemIndex) → IsReachedFrom (refs_in (decode (module_value a))) order x ↔ IsLive required (module_value a) x
   live_reached x =
       let m = module_value a in
       let from = reached_from_list (items_named m.exports required) has order g (refs_in (decode m)) x in (
@@ -107,19 +106,10 @@ module _ (a : Module) (required : List (List ℕ)) (order : List ItemIndex) (has
       positioned x None h = λ l. h ((reached x).1 ((live_reached x).1 l))
       positioned x (Some p) h = h
 
-  -- its faults
-
   pub live_in_range : ((x : ItemIndex) → IsReachedFrom (refs_in (decoded_module a)) order x → is_item_in_range (decoded_module a) x ≡ true)
       → ¬ (HasLiveBody required (module_value a))
   unfolding decoded_module
   live_in_range good bad = both_ways _ bad.2 (good bad.0 ((live_reached bad.0).1 bad.1))
-
-  pub reach_fault : (f : GcFault) → IsSupported required (module_value a) → IsReachFault (decoded_module a) order f → IsFaultOf required (module_value a) f
-  unfolding decoded_module
-  reach_fault f s h = elim h [
-    | inl e ↦ subst (IsFaultOf required (module_value a)) (sym e) refl
-    | inr b ↦ subst (IsFaultOf required (module_value a)) (sym b.0) (s, (b.1, (live_reached b.1).0 b.2, b.3))
-  ]
 
 -- a list of names is no longer than what begins with what it names
 pub names_bounded : (order found more : List ItemIndex) (names : List (Bor (List ℕ))) → length names ≡ length order → found ≡ order ++ more → length names ≤ length found

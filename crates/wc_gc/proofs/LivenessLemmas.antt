@@ -1,5 +1,5 @@
 -- The causes of faults of liveness, and their order.
-use Rattle.std.proofs.Common.{◌≡◌, ◌≢◌, ℕ, ◌<◌, List, [], ◌∷◌, map, refl, sym, ◌∙◌, ap, subst, Bool, true, false, Option, Some, None, ◌⊎◌, inl, inr, arith}
+use Rattle.std.proofs.Common.{◌≡◌, ◌≢◌, ℕ, ◌<◌, List, [], ◌∷◌, map, refl, sym, ◌∙◌, ap, subst, Bool, true, Option, Some, None, ◌⊎◌, inl, inr, arith}
 use Rattle.std.proofs.Common.{String, Global}
 use Rattle.std.specs.Prelude.{IsTrue, All, ◌↔◌, Err, IsErrOf, string_bytes, nat_lt}
 use Rattle.std.proofs.lemmas.Bool.{lt-ltb, both_ways}
@@ -73,16 +73,6 @@ module _ (a : Module) (required : List (List ℕ)) (roots : List ItemIndex) wher
         in_range = λ bad. absurd (both_ways _ bad.2 (subst (λ (z : List ItemIndex). (x : ItemIndex) → IsReachedFrom (refs_in (decode m)) z x
             → is_item_in_range (decode m) x ≡ true) e in_range bad.0 bad.1));
       }
-
-  pub live_fault : (f : GcFault) → roots ≡ map exported_item (kept_exports required (module_value a).exports) → IsSupported required (module_value a)
-      → (f ≡ Memory) ⊎ ((f ≡ LiveBody) × (x : ItemIndex) × IsReachedFrom (refs_in (decoded_module a)) roots x
-      × (is_item_in_range (decoded_module a) x ≡ false)) → IsFaultOf required (module_value a) f
-  unfolding decoded_module
-  live_fault f e supported (inl is) = subst (IsFaultOf required (module_value a)) (sym is) refl
-  live_fault f e supported (inr is) =
-      let m = module_value a in
-      subst (IsFaultOf required m) (sym is.0)
-      (supported, (is.1, subst (λ (z : List ItemIndex). IsReachedFrom (refs_in (decode m)) z is.1) e is.2, is.3))
 
 pub missing_fault : (required : List (List ℕ)) (m : ModuleValue) (exports : List ExportValue) (f : GcFault) → exports ≡ m.exports
     → (f ≡ Memory) ⊎ ((name : String Global) × (f ≡ MissingExport name) × (missing_name exports required ≡ Some (string_bytes name))) → IsFaultOf required m f

@@ -12,8 +12,9 @@ use Rattle.wc_gc.specs.TraceLaws.{AddsNothing}
 use Rattle.wc_gc.specs.Unfolding.{edited_module}
 use Rattle.wc_gc.specs.UntouchedLaws.{EditsNothing, Original, edited}
 use Rattle.wc_gc.specs.declared.parts.Parts.{Parts}
-use Rattle.wc_gc.proofs.TwiceImageLemmas.{def_same, func_with, no_parts, parts_none}
+use Rattle.wc_gc.proofs.TwiceImageLemmas.{def_same, no_parts, parts_none}
 use Rattle.wc_gc.proofs.TwiceListLemmas.{none_found}
+use Rattle.wc_gc.proofs.UntouchedLemmas.{func_with}
 
 -- items with their indices, where each item stays
 items_stay : {A : Type 0} (f : ℕ × A → A) (xs : List A) (k : ℕ) → ((i : ℕ) (x : A) → slice_get xs i ≡ Some x → f (k + i, x) ≡ x)

@@ -27,7 +27,7 @@ use Rattle.std.specs.Option.{option_map, option_map_or, option_to_list}
 use Rattle.std.proofs.lemmas.List.Folds.{list_all-append}
 use Rattle.std.proofs.lemmas.Grind.{flat_map-append}
 use Rattle.std.proofs.Math.Bool.{and-false}
-use Rattle.wc_read.specs.Operators.{InstrValue, immediates_value, instr_value, instr_values}
+use Rattle.wc_read.specs.Operators.{InstrValue, immediates_value, instr_value}
 use Rattle.wc_read.specs.Reading.Instructions.{instr_of}
 use Rattle.wc_read.specs.declared.operators.Immediates.{Immediates}
 use Rattle.wc_read.specs.declared.operators.Immediates.TheVariants.{Index as has_index}

@@ -87,7 +87,7 @@ gone_fold (m ∷ names) es zero n pairs h e =
     all_fold (λ y. y.name ≢ n) (without es m) names (subst (λ z. All (λ y. y.name ≢ z) (without es m)) e (gone es m pairs))
 gone_fold (m ∷ names) es (suc k) n pairs h e = gone_fold names (without es m) k n (pairs_without HaveOtherNames flip es m pairs) (omega arith) e
 
-more_there : {A : Type 0} (y x : A) (ys : List A) → Contains ys x → (b : Bool) → Contains (cond b (y ∷ ys) ys) x
+pub more_there : {A : Type 0} (y x : A) (ys : List A) → Contains ys x → (b : Bool) → Contains (cond b (y ∷ ys) ys) x
 more_there y x ys c true = Contains-append_right (y ∷ []) ys x c
 more_there y x ys c false = c
 

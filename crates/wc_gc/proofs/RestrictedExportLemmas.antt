@@ -35,10 +35,10 @@ use Rattle.wc_gc.specs.Exports.{dropped_names, export_names, is_required, kept_e
 use Rattle.wc_gc.specs.Parts.{SettingsView, parts_of}
 use Rattle.wc_gc.specs.RestrictionLaws.{AreSameTypesButIndices, IsNewExport, IsOldExport, export_type, func_item, global_item, memory_item, table_item}
 use Rattle.wc_gc.specs.declared.parts.Parts.{Parts}
+use Rattle.wc_gc.proofs.ImageUnfoldingLemmas.{back_at as get_back}
 use Rattle.wc_gc.proofs.SameButIndicesLemmas.{same_under, func_item_under, item_under}
 use Rattle.wc_gc.proofs.BuiltImageLemmas.{func_at, kept_in}
 use Rattle.wc_gc.proofs.BuiltPartLemmas.{all_at, global_written}
-use Rattle.wc_gc.proofs.EditedFuncLemmas.{get_back}
 use Rattle.wc_gc.proofs.EditedIndexLemmas.{cond_has, edited, edited_at, import_or_defined, kept_defined, kept_imports, new, old_at, old_new, old_type, olds}
 use Rattle.wc_gc.proofs.ExportLemmas.{all_kept}
 use Rattle.wc_gc.proofs.KeptItemLemmas.{get_some, kept_count, rank_at}

@@ -34,10 +34,10 @@ use Rattle.wc_gc.specs.Image.{new_body, new_func}
 use Rattle.wc_gc.specs.Parts.{SettingsView, is_any}
 use Rattle.wc_gc.specs.RestrictionLaws.{HasOrigin, IsMainImport, func_item, positions_from}
 use Rattle.wc_gc.specs.declared.parts.Parts.{Parts}
+use Rattle.wc_gc.proofs.ImageUnfoldingLemmas.{back_at as get_back}
 use Rattle.wc_gc.proofs.SameButIndicesLemmas.{same_under, func_item_under}
 use Rattle.wc_gc.proofs.BuiltImageLemmas.{kept_in}
 use Rattle.wc_gc.proofs.BuiltPartLemmas.{seen_imported}
-use Rattle.wc_gc.proofs.EditedFuncLemmas.{get_back}
 use Rattle.wc_gc.proofs.EditedIndexLemmas.{added_type, edited_at, kept_defined, kept_imports, old_at, olds, was_read}
 use Rattle.wc_gc.proofs.ImageLemmas.{all_kept}
 use Rattle.wc_gc.proofs.ImportOriginLemmas.{HasSpace, from_at, imported_item_at, kept_pairs, kept_there, kept_zip, origins_of, rising}

@@ -23,7 +23,7 @@ use Rattle.wc_gc.proofs.BuiltImageLemmas.{kept_in}
 use Rattle.wc_gc.proofs.ImportOriginLemmas.{HasSpace, IsFrom, from_at, imported_item_at, kept_pairs, kept_there, kept_zip, origins_of, rising}
 use Rattle.wc_gc.proofs.KeptItemLemmas.{kept_is}
 use Rattle.wc_gc.proofs.RestrictedExportLemmas.{trimmed}
-use Rattle.wc_gc.proofs.SpelledItemLemmas.{all_mapped}
+use Rattle.wc_gc.proofs.SpelledItemLemmas.{all_mapped, local_func}
 
 -- what kinds of imports are in which spaces
 
@@ -123,9 +123,6 @@ pub record HaveSpaces (v : ModuleValue) : Type 0 where
   pub tables : HasSpace table_of v.imports v.tables
   pub memories : HasSpace memory_of v.imports v.memories
   pub globals : HasSpace global_of v.imports v.globals
-
-abbrev local_func : ℕ × List ℕ → FuncValue
-local_func f = record { ty = f.0; def = local f.1 }
 
 pub have_spaces : (bytes : List ℕ) (v : ModuleValue) → SpellsModule bytes v → HaveSpaces v
 have_spaces bytes v s =

@@ -29,6 +29,7 @@ use Rattle.wc_gc.proofs.ChainLemmas.{contains_unmapped, exports_required, same_n
 use Rattle.wc_gc.proofs.KeptExportLemmas.{pairs_named}
 use Rattle.wc_gc.proofs.LiveItemLemmas.{contains_mapped}
 use Rattle.wc_gc.proofs.SearchLemmas.{grown_more}
+use Rattle.wc_gc.proofs.TypedGlobalLemmas.{get_last as last_of}
 
 -- lists
 
@@ -148,10 +149,6 @@ has_bits b = bit_of b.words.items
 pub record AreBegun (exports : List ExportValue) (done : List (List ℕ)) (r : Roots) : Type 0 where
   pub found : HasFound (items_named exports done) r.search
   pub named : AreNamedRoots done exports r
-
-last_of : {A : Type 0} (xs : List A) (y : A) → slice_get (xs ++ y ∷ []) (length xs) ≡ Some y
-last_of [] y = refl
-last_of (x ∷ xs) y = last_of xs y
 
 pub old_of : {A : Type 0} (xs ys : List A) (k : ℕ) → k < length xs → slice_get (xs ++ ys) k ≡ slice_get xs k
 old_of [] ys k l = absurd (omega (arith, l))

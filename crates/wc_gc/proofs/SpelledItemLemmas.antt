@@ -140,7 +140,7 @@ pub record HaveItems (m : ModuleValue) : Type 0 where
   pub globals : AllByRecursion (HasImport Global) m.globals
   pub bodies : AllByRecursion (λ f. IfLocal AreBytes f.def) m.funcs
 
-abbrev local_func : ℕ × List ℕ → FuncValue
+abbrev pub local_func : ℕ × List ℕ → FuncValue
 local_func f = record { ty = f.0; def = local f.1 }
 
 pub have_items : (bytes : List ℕ) (m : ModuleValue) → AreBytes bytes → SpellsModule bytes m → HaveItems m

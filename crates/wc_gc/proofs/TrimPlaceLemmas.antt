@@ -1,12 +1,12 @@
 -- What a fault of trimming is about.
-use Rattle.std.proofs.Common.{◌≡◌, ◌≢◌, ℕ, ◌+◌, ◌<◌, ◌≤◌, List, [], ◌∷◌, map, take, length, get_or, subst, sym, ◌∙◌, ap, refl, Bool, true, false, cond, ◌⊎◌}
+use Rattle.std.proofs.Common.{◌≡◌, ◌≢◌, ℕ, ◌<◌, ◌≤◌, List, [], ◌∷◌, map, take, length, get_or, subst, sym, ◌∙◌, ap, refl, Bool, true, false, cond, ◌⊎◌}
 use Rattle.std.proofs.Common.{inl, inr, arith, Option, Some, None}
-use Rattle.std.specs.Prelude.{IsSome, is_some}
+use Rattle.std.specs.Prelude.{IsSome, is_some, ◌↔◌}
 use Rattle.std.specs.Borrow.{Bor}
 use Rattle.std.specs.List.{slice_get}
 use Rattle.std.specs.Option.{option_map, option_map_or}
 use Rattle.std.proofs.lemmas.Bool.{both_ways}
-use Rattle.std.proofs.lemmas.List.{take_more, take_all, take-map}
+use Rattle.std.proofs.lemmas.List.{take_all, take-map}
 use Rattle.std.proofs.lemmas.Option.{slice_get-map, slice_get_read}
 use Rattle.wc_read.specs.BodyOperators.{body_in}
 use Rattle.wc_read.specs.Fault.{SpellsNothing}
@@ -14,7 +14,8 @@ use Rattle.wc_read.specs.Items.{def_value, func_value}
 use Rattle.wc_read.specs.Modules.{ModuleValue, SpellsModule, module_value}
 use Rattle.wc_read.specs.Operators.{instr_value, instr_values}
 use Rattle.wc_read.specs.Place.{IsPlaced}
-use Rattle.wc_read.specs.Sections.{start_id}
+use Rattle.wc_read.specs.Exports.{ExportValue}
+use Rattle.wc_read.specs.Sections.{IsComponent, start_id}
 use Rattle.wc_read.specs.Types.{FuncTypeValue}
 use Rattle.wc_read.specs.Items.{TableValue, MemoryValue}
 use Rattle.wc_read.specs.declared.core_module.Module.{Module}
@@ -22,53 +23,39 @@ use Rattle.wc_read.specs.declared.items.Def.{Def}
 use Rattle.wc_read.specs.declared.items.Def.TheVariants.{Import, Local}
 use Rattle.wc_read.specs.declared.items.Item.{Item}
 use Rattle.wc_read.specs.declared.fault.ReadFault.{ReadFault}
+use Rattle.wc_read.specs.declared.fault.ReadFault.TheVariants.{Memory as read_memory, Component}
 use Rattle.wc_read.specs.declared.operators.Instr.{Instr}
 use Rattle.wc_read.specs.declared.operators.Space.{Space}
 use Rattle.wc_read.specs.declared.place.ReadPlace.{ReadPlace}
 use Rattle.wc_read.specs.declared.operators.Space.TheVariants.{Types, Funcs, Tables, Memories, Globals}
 use Rattle.wc_read.proofs.ModulesLemmas.{modules_one}
 use Rattle.wc_write.specs.BuiltValues.{def_seen, item_seen}
-use Rattle.wc_gc.specs.Decoded.{DecodedModule, FuncCode, GlobalCode, ItemIndex, decode, decoded_module, exported_item, func_code}
+use Rattle.wc_gc.specs.Decoded.{DecodedModule, FuncCode, GlobalCode, ItemIndex, decode, decoded_module, func_code}
 use Rattle.wc_gc.specs.Entries.{no_entry, type_entry, table_entry, memory_entry, global_entry, refs_in}
 use Rattle.wc_gc.specs.InRange.{is_code_in_range, is_entry_in_range, is_item_in_range, is_operator_in_range}
-use Rattle.wc_gc.specs.Exports.{kept_exports}
-use Rattle.wc_gc.specs.LiveItems.{HasUnsupported, IsFault, IsFaultOf, IsSupported, IsUnread, TrimInput}
+use Rattle.wc_gc.specs.Exports.{IsMissingFault, missing_name}
+use Rattle.wc_gc.specs.Fault.{of_read}
+use Rattle.wc_gc.specs.LiveItems.{HasUnsupported, IsFault, IsFaultOf, IsLive, IsSupported, IsUnread, TrimInput, order_of}
 use Rattle.wc_gc.specs.Parts.{SettingsView}
-use Rattle.wc_gc.specs.Private.TrimPlace.{IsNoRead, IsRefusedFrom, IsUnreadAt, IsUnreadWith}
-use Rattle.wc_gc.specs.Private.Search.{HasGrown, IsGrown, IsTied}
+use Rattle.wc_gc.specs.Private.TrimPlace.{AdapterRefusal, IsBodyRefusal, IsMemoryRefusal, IsRefusalOf, IsRefusedFrom, IsStop, IsStopRefusal}
+use Rattle.wc_gc.specs.Private.Search.{HasGrown, IsTied}
 use Rattle.wc_gc.specs.Reached.{IsReachedFrom}
-use Rattle.wc_gc.specs.TrimPlace.{IsBodyPlace, IsExplained, IsExplainedIn, IsFirstOutside, IsLiveBodyPlace, IsOperatorPlace, IsPlace, IsPlaceIn, IsSectionPlace, IsUnreadPlace, body_at, def_body, unsupported_ids}
+use Rattle.wc_gc.specs.TrimPlace.{IsBodyPlace, IsExplained, IsExplainedIn, IsFirstOutside, IsPlace, IsPlaceIn, IsSectionPlace, IsUnreadPlace, body_at, def_body, unsupported_ids}
 use Rattle.wc_gc.specs.declared.fault.GcFault.{GcFault}
 use Rattle.wc_gc.specs.declared.fault.GcFault.TheVariants.{LiveBody, Memory, Read, UnsupportedSection}
 use Rattle.wc_gc.specs.declared.trim_place.TrimPlace.{TrimPlace}
 use Rattle.wc_gc.specs.declared.trim_place.TrimPlace.TheVariants.{Bytes, Section, Body}
-use Rattle.wc_gc.specs.Trim.{IsTrimFault}
-use Rattle.wc_gc.proofs.LivenessLemmas.{fault_of, not_read}
+use Rattle.wc_gc.specs.Trim.{IsLaterFault}
+use Rattle.wc_gc.specs.declared.search.Stop.{Stop}
+use Rattle.wc_gc.proofs.LivenessLemmas.{fault_of, missing_fault, not_read}
 use Rattle.wc_gc.proofs.ReachLemmas.{IsAt, bad_at}
-use Rattle.wc_gc.proofs.SearchLemmas.{grown_more, grown_none, search_start}
+use Rattle.wc_gc.proofs.SearchLemmas.{grown_none}
+use Rattle.wc_gc.proofs.TrimLemmas.{later_large}
 
 -- a search from roots
 
 pub no_roots : (has : ItemIndex → Bool) (found : List ItemIndex) → found ≡ [] → IsTied has found → HasGrown [] has found []
 no_roots has found e tied = subst (λ (z : List ItemIndex). HasGrown z has found []) e (grown_none has found tied)
-
-pub root_more : (has : ItemIndex → Bool) (found : List ItemIndex) (has' : ItemIndex → Bool) (found' : List ItemIndex) (roots : List ItemIndex) (i : ℕ)
-    (d : ItemIndex) → i < length roots → HasGrown [] has found (take i roots) → IsGrown has found has' found' (get_or roots i d ∷ [])
-    → HasGrown [] has' found' (take (i + 1) roots)
-root_more has found has' found' roots i d h a b =
-    subst (λ (z : List ItemIndex). HasGrown [] has' found' z) (sym (take_more roots i d h))
-    (grown_more [] has found has' found' (take i roots) (get_or roots i d ∷ []) a (b a.tied))
-
-pub all_roots : (has : ItemIndex → Bool) (found roots : List ItemIndex) (i : ℕ) → length roots ≤ i → HasGrown [] has found (take i roots)
-    → HasGrown [] has found roots
-all_roots has found roots i over g = subst (λ (z : List ItemIndex). HasGrown [] has found z) (take_all i roots over) g
-
-pub begun_at : (m : DecodedModule) (roots : List ItemIndex) (has : ItemIndex → Bool) (found : List ItemIndex) → HasGrown [] has found roots
-    → IsAt m roots has found 0
-begun_at m roots has found g = record {
-  searched = search_start (refs_in m) roots has found g;
-  in_range = λ k d h. absurd (omega arith);
-}
 
 -- functions alone are refused
 
@@ -157,36 +144,55 @@ first_missing None [] e (inl h) = absurd cc
 first_missing None [] e (inr h) = h refl
 first_missing None (x ∷ ids) e h = absurd cc
 
-pub no_first : (o : Option ℕ) → is_some o ≡ false → o ≡ None
-no_first None e = refl
-no_first (Some x) e = absurd cc
-
 pub none_unsupported : (m : ModuleValue) → slice_get (unsupported_ids m) 0 ≡ None → ¬ (HasUnsupported m)
 none_unsupported m e = first_missing m.start m.ids e
 
--- the place in a body, by a search from the items of kept exports
+-- why a module is refused, and what that is about
 
-module _ (a : Module) (required : List (List ℕ)) (roots : List ItemIndex) where
-  pub live_body_place : (n : ℕ) (k : Option ℕ) → roots ≡ map exported_item (kept_exports required (module_value a).exports)
-      → IsSupported required (module_value a) → IsRefusedFrom (decoded_module a) roots n
-      → IsOperatorPlace (decoded_module a) (body_at (decoded_module a) n) k → IsLiveBodyPlace required (module_value a) n k
-  unfolding decoded_module
-  live_body_place n k e supported refused operator = record {
-    supported = supported;
-    reached = subst (λ (z : List ItemIndex). IsReachedFrom (refs_in (decode (module_value a))) z (Funcs, n)) e refused.0;
-    refused = refused.1;
-    operator = operator;
-  }
+pub refusal_is : (required : List (List ℕ)) (m : ModuleValue) (r : AdapterRefusal) (f : GcFault) (place : Option TrimPlace) → r.fault ≡ f → r.place ≡ place
+    → IsFaultOf required m f → IsExplainedIn required m f place → IsRefusalOf required m r
+refusal_is required m r f place e p fault explained = (
+  subst (IsFaultOf required m) (sym e) fault,
+  subst (λ (z : GcFault). IsExplainedIn required m z r.place) (sym e) (subst (IsExplainedIn required m f) (sym p) explained),
+)
 
-  pub no_live_body : roots ≡ map exported_item (kept_exports required (module_value a).exports)
-      → ((x : ItemIndex) → IsReachedFrom (refs_in (decoded_module a)) roots x → is_item_in_range (decoded_module a) x ≡ true)
-      → (p : TrimPlace) → ¬ (IsPlaceIn required (module_value a) LiveBody p)
+pub memory_refusal : (required : List (List ℕ)) (m : ModuleValue) (r : AdapterRefusal) → IsMemoryRefusal r → IsRefusalOf required m r
+memory_refusal required m r h = refusal_is required m r Memory None h.0 h.1 refl (λ p k. k)
+
+missing_explained : (required : List (List ℕ)) (m : ModuleValue) (exports : List ExportValue) (f : GcFault) → IsMissingFault exports required f
+    → IsExplainedIn required m f None
+missing_explained required m exports f (inl e) = λ p k. subst (λ (z : GcFault). IsPlaceIn required m z p) e k
+missing_explained required m exports f (inr h) = λ p k. subst (λ (z : GcFault). IsPlaceIn required m z p) h.1 k
+
+pub missing_refusal : (required : List (List ℕ)) (m : ModuleValue) (exports : List ExportValue) (f : GcFault) (r : AdapterRefusal) → exports ≡ m.exports
+    → IsMissingFault exports required f → r.fault ≡ f → r.place ≡ None → IsRefusalOf required m r
+missing_refusal required m exports f r same h e p =
+    refusal_is required m r f None e p (missing_fault required m exports f same h) (missing_explained required m exports f h)
+
+pub section_refusal : (required : List (List ℕ)) (m : ModuleValue) (id : ℕ) (r : AdapterRefusal) → missing_name m.exports required ≡ None
+    → slice_get (unsupported_ids m) 0 ≡ Some id → r.fault ≡ UnsupportedSection → r.place ≡ Some (Section id) → IsRefusalOf required m r
+section_refusal required m id r none there e p =
+    refusal_is required m r UnsupportedSection (Some (Section id)) e p (none, first_there m.start m.ids id there) (none, there)
+
+-- the body at which a search stopped, if what it reaches is live
+
+module _ (a : Module) (required : List (List ℕ)) (roots : List ItemIndex)
+    (live : (x : ItemIndex) → IsReachedFrom (refs_in (decode (module_value a))) roots x → IsLive required (module_value a) x)
+    (supported : IsSupported required (module_value a)) where
+  body_refusal : (n : ℕ) (r : AdapterRefusal) → IsRefusedFrom (decoded_module a) roots n → IsBodyRefusal (decoded_module a) n r
+      → IsRefusalOf required (module_value a) r
   unfolding decoded_module
-  no_live_body e in_range (Section id) h = h
-  no_live_body e in_range (Bytes p) h = h
-  no_live_body e in_range (Body n k) h =
-      both_ways _ h.refused (in_range (Funcs, n)
-      (subst (λ (z : List ItemIndex). IsReachedFrom (refs_in (decode (module_value a))) z (Funcs, n)) (sym e) h.reached))
+  body_refusal n r refused (inl h) = memory_refusal required (module_value a) r h
+  body_refusal n r refused (inr h) =
+      refusal_is required (module_value a) r LiveBody (Some (Body n h.0)) h.1 h.2
+      (supported, ((Funcs, n), live (Funcs, n) refused.0, refused.1))
+      (record { supported = supported; reached = live (Funcs, n) refused.0; refused = refused.1; operator = h.3 })
+
+  pub stop_refusal : (s : Stop) (r : AdapterRefusal) → IsStop (decoded_module a) roots s → IsStopRefusal (decoded_module a) s r
+      → IsRefusalOf required (module_value a) r
+  stop_refusal s r (inl e) h = memory_refusal required (module_value a) r (subst (λ (z : Stop). IsStopRefusal (decoded_module a) z r) e h)
+  stop_refusal s r (inr stop) h =
+      body_refusal stop.0 r stop.2 (subst (λ (z : Stop). IsStopRefusal (decoded_module a) z r) stop.1 h)
 
 -- places of the module that bytes spell
 
@@ -202,41 +208,32 @@ explained w m s (Read r) (Some p) place = absurd place
 explained w m s f None none = λ p h. none p (subst (λ (z : ModuleValue). IsPlaceIn w.required z f p) (modules_one w.bytes h.0 m h.1 s) h.2)
 explained w m s f (Some p) place = (m, s, place)
 
-pub not_explained : (w : TrimInput) (f : GcFault) → IsNoRead f → SpellsNothing SpellsModule w.bytes → IsExplained w f None
-not_explained w (Read r) none nothing = absurd none
-not_explained w f none nothing = λ p h. nothing h.0 h.1
+-- bytes that are no module
 
--- places of bytes that are no module
+pub unread_fault : (w : TrimInput) (f : ReadFault) → (f ≢ read_memory → SpellsNothing SpellsModule w.bytes) → ((f ≡ Component) ↔ IsComponent w.bytes)
+    → IsFault w (of_read f)
+unread_fault w read_memory nothing component = inl refl
+unread_fault w f nothing component = inr ((nothing (λ e. absurd cc), (λ e. absurd cc), component), not_read w)
 
-pub unread_explained : (w : TrimInput) (r : ReadFault) (answer : Option TrimPlace) → IsUnread w.bytes r → IsUnreadAt w.bytes answer
-    → IsExplained w (Read r) answer
-unread_explained w r None u a = absurd (a u.0)
-unread_explained w r (Some (Bytes p)) u a = (u, a)
-unread_explained w r (Some (Section id)) u a = absurd a
-unread_explained w r (Some (Body n k)) u a = absurd a
+pub unread_explained : (w : TrimInput) (f : ReadFault) (place : Option ReadPlace) → (f ≢ read_memory → SpellsNothing SpellsModule w.bytes)
+    → ((f ≡ Component) ↔ IsComponent w.bytes) → IsPlaced w.bytes f place → IsExplained w (of_read f) (option_map Bytes place)
+unread_explained w read_memory None nothing component placed = λ p h. h.2
+unread_explained w read_memory (Some p) nothing component placed = absurd (placed.0 refl)
+unread_explained w f None nothing component placed = absurd cc
+unread_explained w f (Some p) nothing component placed = ((nothing placed.0, placed.0, component), placed.1)
 
-pub no_place_of_memory : (w : TrimInput) → IsExplained w Memory None
-no_place_of_memory w = λ p h. h.2
+-- faults of what comes after liveness
 
-pub placed_unread : (bytes : List ℕ) (f : ReadFault) (p : ReadPlace) → IsPlaced bytes f (Some p) → IsUnreadAt bytes (Some (Bytes p))
-placed_unread bytes f p h = h.1
+late_explained : (w : TrimInput) (f : GcFault) → 5 ≤ order_of f → IsExplained w f None
+late_explained w (Read r) h = absurd (omega arith)
+late_explained w UnsupportedSection h = absurd (omega arith)
+late_explained w LiveBody h = absurd (omega arith)
+late_explained w f h = λ p k. k.2
 
--- what a refused adapter is refused with
-
-pub unread_with : (w : TrimInput) (f : GcFault) → IsFault w f → IsUnreadWith w.bytes f
-unread_with w (Read r) (inl e) = absurd cc
-unread_with w (Read r) (inr h) = h.0
-unread_with w f h = tt
-
-pub trim_unread_with : (s : SettingsView) (w : TrimInput) (f : GcFault) → IsTrimFault s w f → IsUnreadWith w.bytes f
-trim_unread_with s w (Read r) (inl e) = absurd cc
-trim_unread_with s w (Read r) (inr (inl c, before)) = c
-trim_unread_with s w (Read r) (inr (inr c, before)) = absurd c.4
-trim_unread_with s w f h = tt
-
-pub fault_or_memory : (P : GcFault → Type 0) (f g : GcFault) → P Memory → P f → (g ≡ f) ⊎ (g ≡ Memory) → P g
-fault_or_memory P f g m h (inl e) = subst P (sym e) h
-fault_or_memory P f g m h (inr e) = subst P (sym e) m
+pub later_explained : (s : SettingsView) (w : TrimInput) (m : DecodedModule) (exports : List ExportValue) (live : ItemIndex → Bool) (f : GcFault)
+    → (f ≡ Memory) ⊎ IsLaterFault s m exports live f → IsExplained w f None
+later_explained s w m exports live f (inl e) = subst (λ (z : GcFault). IsExplained w z None) (sym e) (λ p k. k.2)
+later_explained s w m exports live f (inr h) = late_explained w f (later_large s m exports live f h.0)
 
 -- a place is one in a module that is refused with this fault
 

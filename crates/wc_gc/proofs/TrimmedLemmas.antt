@@ -1,6 +1,6 @@
 -- What trimming answers of a module that was read, whatever bytes spell it.
-use Rattle.std.proofs.Common.{◌≡◌, ℕ, List, refl, Bool, Result, Ok, Err, ◌⊎◌, ◌<◌, inl, inr}
-use Rattle.std.specs.Prelude.{IfOk, IfErr, IsOk}
+use Rattle.std.proofs.Common.{◌≡◌, ℕ, List, Bool, Result, Ok, Err, ◌⊎◌, ◌<◌, inl, inr}
+use Rattle.std.specs.Prelude.{IfOk, IfErr}
 use Rattle.wc_read.specs.Modules.{ModuleValue, SpellsModule, module_value}
 use Rattle.wc_read.specs.declared.core_module.Module.{Module}
 use Rattle.wc_write.specs.Modules.{built_text}
@@ -46,16 +46,15 @@ module _ (s : SettingsView) (a : Module) (required : List (List ℕ)) (live : It
   no_cause_in none bytes spelled f (inl c) = no_cause_of (input bytes) (module_value a) spelled l.supported l.in_range f c
   no_cause_in none bytes spelled f (inr c) = none f (same_later s (input bytes) (module_value a) spelled live l.is_live f c)
 
-  pub trimmed_of : {T : Type 0} (items : T → List ℕ) (r : Result T GcFault) → AreSettings s
-      → IfOk r (λ v. items v ≡ built_text (edited_image (edit s (decoded_module a) (kept_exports required (module_value a).exports) live)))
-      → (IsOk r → (f : GcFault) → ¬ (IsCause f))
-      → IfOk r (λ v. (bytes : List ℕ) → AreBytes bytes → SpellsModule bytes (module_value a) → IsTrimmed s (input bytes) (items v))
+  pub trimmed_of : (text : List ℕ) → AreSettings s
+      → text ≡ built_text (edited_image (edit s (decoded_module a) (kept_exports required (module_value a).exports) live))
+      → ((f : GcFault) → ¬ (IsCause f))
+      → (bytes : List ℕ) → AreBytes bytes → SpellsModule bytes (module_value a) → IsTrimmed s (input bytes) text
   unfolding decoded_module
-  trimmed_of items (Ok v) are written none = λ bytes all spelled.
-      trimmed s (input bytes) (items v) are all
+  trimmed_of text are written none bytes all spelled =
+      trimmed s (input bytes) text are all
       (record { value = module_value a; live = live; spelled = spelled; decides = l.is_live; written = written })
-      (no_cause_in (none refl) bytes spelled)
-  trimmed_of items (Err f) are written none = written
+      (no_cause_in none bytes spelled)
 
   fault_in : (f : GcFault) → IsCause f × ((g : GcFault) → order_of g < order_of f → ¬ (IsCause g))
       → (bytes : List ℕ) → SpellsModule bytes (module_value a) → IsTrimFault s (input bytes) f
@@ -68,20 +67,19 @@ module _ (s : SettingsView) (a : Module) (required : List (List ℕ)) (live : It
     ],
   )
 
-  pub later_of : {T : Type 0} (r : Result T GcFault)
-      → IfErr r (λ f. (f ≡ Memory) ⊎ IsLaterFault s (decoded_module a) (kept_exports required (module_value a).exports) live f)
-      → IfErr r (λ f. (bytes : List ℕ) → SpellsModule bytes (module_value a) → IsTrimFault s (input bytes) f)
-  later_of (Ok v) h = h
-  later_of (Err f) h = λ bytes spelled. elim h [ inl memory ↦ inl memory | inr k ↦ fault_in f k bytes spelled ]
+  pub later_of : (f : GcFault) → (f ≡ Memory) ⊎ IsLaterFault s (decoded_module a) (kept_exports required (module_value a).exports) live f
+      → (bytes : List ℕ) → SpellsModule bytes (module_value a) → IsTrimFault s (input bytes) f
+  later_of f (inl memory) bytes spelled = inl memory
+  later_of f (inr k) bytes spelled = fault_in f k bytes spelled
 
 -- what is so for all bytes that spell a module is so for these
 module _ (m : ModuleValue) (bytes : List ℕ) (spelled : SpellsModule bytes m) where
-  pub answer_for : {T : Type 0} (P : List ℕ → T → Type 0) (r : Result T GcFault) → AreBytes bytes
+  pub answer_for : {T E : Type 0} (P : List ℕ → T → Type 0) (r : Result T E) → AreBytes bytes
       → IfOk r (λ v. (b : List ℕ) → AreBytes b → SpellsModule b m → P b v) → IfOk r (P bytes)
   answer_for P (Ok v) all h = h bytes all spelled
   answer_for P (Err f) all h = h
 
-  pub fault_for : {T : Type 0} (P : List ℕ → GcFault → Type 0) (r : Result T GcFault)
+  pub fault_for : {T E : Type 0} (P : List ℕ → E → Type 0) (r : Result T E)
       → IfErr r (λ f. (b : List ℕ) → SpellsModule b m → P b f) → IfErr r (P bytes)
   fault_for P (Ok v) h = h
   fault_for P (Err f) h = h bytes spelled

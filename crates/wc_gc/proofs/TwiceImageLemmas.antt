@@ -37,6 +37,7 @@ use Rattle.wc_gc.proofs.ImageLemmas.{all_kept, map_twice}
 use Rattle.wc_gc.proofs.ImageUnfoldingLemmas.{func_of_code, global_of_code}
 use Rattle.wc_gc.proofs.RankLawLemmas.{fewer_below}
 use Rattle.wc_gc.proofs.TwiceListLemmas.{defined_at, enumerated_same, group_of, group_same, imports_at, kept_passing}
+use Rattle.wc_gc.proofs.UntouchedLemmas.{func_with}
 
 -- no parts
 
@@ -62,9 +63,6 @@ pub def_same : (funcs : ℕ) (s : SettingsView) (f : FoundView) (reached exporte
     → (reached && is_realloc d) ≡ false → edited_def funcs s no_parts f reached exported d ≡ d
 def_same funcs s f reached exported (imported m n) h = ap (λ b. cond b (replaced s f) (imported m n)) h
 def_same funcs s f reached exported (local b) h = refl
-
-abbrev pub func_with : FuncCode → DefValue (Option BodyValue) → FuncCode
-func_with f d = record { ty = f.ty; def = d }
 
 -- what is live is closed; its functions are no reallocs among the imports; its bodies and initialisers are code; in the cut
 -- imported functions come first

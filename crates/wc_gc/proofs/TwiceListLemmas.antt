@@ -14,8 +14,9 @@ use Rattle.wc_gc.specs.Image.{kept_items}
 use Rattle.wc_gc.proofs.BuiltPartLemmas.{all_at}
 use Rattle.wc_gc.proofs.CutFoundLemmas.{any_at}
 use Rattle.wc_gc.proofs.CutListLemmas.{rank_no, rank_yes}
-use Rattle.wc_gc.proofs.ImageUnfoldingLemmas.{back_at, front_at}
+use Rattle.wc_gc.proofs.ImageUnfoldingLemmas.{back_at}
 use Rattle.wc_gc.proofs.KeptItemLemmas.{get_some, kept_from, kept_is}
+use Rattle.wc_gc.proofs.TypedGlobalLemmas.{get_front as front_at}
 
 -- what is kept by a test of items
 

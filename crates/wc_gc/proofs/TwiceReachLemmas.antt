@@ -40,7 +40,7 @@ use Rattle.wc_gc.proofs.UnfoldingLemmas.{entry_refs_under, instr_under, locals_u
 
 -- lists
 
-all_filter : {A : Type 0} (P : A → Type 0) (p : A → Bool) (xs : List A) → AllByRecursion P xs → AllByRecursion P (filter p xs)
+pub all_filter : {A : Type 0} (P : A → Type 0) (p : A → Bool) (xs : List A) → AllByRecursion P xs → AllByRecursion P (filter p xs)
 all_filter P p [] h = tt
 all_filter P p (x ∷ xs) h =
     elim (p x) as (λ b. AllByRecursion P (cond b (x ∷ filter p xs) (filter p xs))) [

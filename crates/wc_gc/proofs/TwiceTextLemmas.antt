@@ -18,12 +18,13 @@ use Rattle.wc_write.specs.Bodies.{body_text}
 use Rattle.wc_write.specs.BuiltValues.{IsRead, IsReadBody, IsReadInit, def_seen, item_seen, written_module}
 use Rattle.wc_write.specs.Modules.{BuiltValue, operators_text}
 use Rattle.wc_write.specs.Spaces.{DefinedValue, defined, defined_by, defined_contents}
-use Rattle.wc_gc.specs.Decoded.{FuncCode, GlobalCode, decode}
+use Rattle.wc_gc.specs.Decoded.{FuncCode, decode}
 use Rattle.wc_gc.specs.Exports.{export_names, is_required, kept_exports, without}
 use Rattle.wc_gc.specs.Unfolding.{built_module}
 use Rattle.wc_gc.proofs.BuiltPartLemmas.{each_weaker}
 use Rattle.wc_gc.proofs.ChainLemmas.{any_fails, in_all}
 use Rattle.wc_gc.proofs.TwiceImageLemmas.{mapped_each}
+use Rattle.wc_gc.proofs.UnfoldingLemmas.{global_of}
 
 -- the bodies and initialisers of a text
 
@@ -48,9 +49,6 @@ one_init : (d : DefValue (List InstrValue)) (ty : GlobalType) (ds : List (Define
     → (def_seen init_in (def_seen operators_text d) ≡ def_seen Some d) × AllByRecursion IsReadInit (map (λ o. o.content) ds)
 one_init (imported m n) ty ds h = (refl, h)
 one_init (local is) ty ds h = (ap local (init_found (operators_text is) is h.0.0), h.1)
-
-abbrev pub global_of : GlobalType → DefValue (Option (List InstrValue)) → GlobalCode
-global_of ty d = record { ty = ty; def = d }
 
 inits_read : (xs : List (ItemValue GlobalType (List InstrValue))) → AllByRecursion IsReadInit (defined_contents xs)
     → map (item_seen init_in) (map (item_seen operators_text) xs) ≡ map (item_seen Some) xs

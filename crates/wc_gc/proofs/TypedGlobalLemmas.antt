@@ -20,7 +20,7 @@ get_front [] ys n x e = absurd cc
 get_front (z ∷ xs) ys zero x e = e
 get_front (z ∷ xs) ys (suc n) x e = get_front xs ys n x e
 
-get_last : {A : Type 0} (xs : List A) (x : A) → slice_get (xs ++ x ∷ []) (length xs) ≡ Some x
+pub get_last : {A : Type 0} (xs : List A) (x : A) → slice_get (xs ++ x ∷ []) (length xs) ≡ Some x
 get_last [] x = refl
 get_last (z ∷ xs) x = get_last xs x
 

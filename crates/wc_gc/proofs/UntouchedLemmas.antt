@@ -25,12 +25,13 @@ use Rattle.wc_gc.specs.UntouchedLaws.{KeepsCode, CallsKeepCode}
 use Rattle.wc_gc.specs.declared.parts.Parts.{Parts}
 use Rattle.wc_gc.proofs.BuiltPartLemmas.{each_weaker}
 use Rattle.wc_gc.proofs.ImageLemmas.{enumerated_read}
-use Rattle.wc_gc.proofs.ImageUnfoldingLemmas.{back_at, front_at}
+use Rattle.wc_gc.proofs.ImageUnfoldingLemmas.{back_at}
 use Rattle.wc_gc.proofs.KeptItemLemmas.{get_some}
+use Rattle.wc_gc.proofs.TypedGlobalLemmas.{get_front as front_at}
 
 -- a function that is not edited
 
-drop_true : (x y : Bool) → (x && (y && true)) ≡ (x && y)
+pub drop_true : (x y : Bool) → (x && (y && true)) ≡ (x && y)
 drop_true true true = refl
 drop_true true false = refl
 drop_true false y = refl
@@ -49,7 +50,7 @@ def_called : (funcs : ℕ) (s : SettingsView) (p : Parts) (f : FoundView) (reach
 def_called funcs s p f reached exported b h =
     ap (λ c. local (cond c (option_map (with_call (funcs + lazy_position p)) (Some b)) (Some b))) (sym (drop_true p.lazy exported) ∙ h)
 
-abbrev func_with : FuncCode → DefValue (Option BodyValue) → FuncCode
+abbrev pub func_with : FuncCode → DefValue (Option BodyValue) → FuncCode
 func_with f d = record { ty = f.ty; def = d }
 
 module _ (a : Original) where

@@ -7,10 +7,9 @@ use Rattle.wc_read.specs.Sections.{IsComponent}
 use Rattle.wc_read.specs.Modules.{ModuleValue, SpellsModule}
 use Rattle.wc_read.specs.declared.fault.ReadFault.{ReadFault}
 use Rattle.wc_read.specs.declared.fault.ReadFault.TheVariants.{Memory as read_memory, Component}
-use Rattle.wc_gc.specs.Decoded.{DecodedModule, ItemIndex, decode}
-use Rattle.wc_gc.specs.Entries.{refs_in}
+use Rattle.wc_gc.specs.Decoded.{ItemIndex, decode}
 use Rattle.wc_gc.specs.Exports.{kept_exports, missing_name}
-use Rattle.wc_gc.specs.Reached.{IsReached, IsReachedFrom}
+use Rattle.wc_gc.specs.Reached.{IsReached}
 use Rattle.wc_gc.specs.InRange.{is_item_in_range}
 use Rattle.wc_gc.specs.declared.fault.GcFault.{GcFault}
 use Rattle.wc_gc.specs.declared.fault.GcFault.TheVariants.{Memory, Read, MissingExport, UnsupportedSection, LiveBody, SeveralNamed, LiveTable, SeveralMemories}
@@ -35,11 +34,6 @@ HasUnsupported m = IsSome m.start ⊎ (m.ids ≢ [])
 -- no export is missing, and there is nothing that is not supported
 abbrev pub IsSupported : List (List ℕ) → ModuleValue → Type 0
 IsSupported required m = (missing_name m.exports required ≡ None) × ¬ (HasUnsupported m)
-
--- a function that roots reach has a body that is no code, or that names what is not there; or memory ran out
-abbrev pub IsReachFault : DecodedModule → List ItemIndex → GcFault → Type 0
-IsReachFault m roots f =
-    (f ≡ Memory) ⊎ ((f ≡ LiveBody) × (x : ItemIndex) × IsReachedFrom (refs_in m) roots x × (is_item_in_range m x ≡ false))
 
 -- these are the live items of a module that has no fault, and so many they are
 pub record IsLivenessOf (required : List (List ℕ)) (m : ModuleValue) (live : ItemIndex → Bool) (turns : ℕ) : Type 0 where

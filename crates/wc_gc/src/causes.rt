@@ -1,4 +1,4 @@
-//! Why an adapter is not trimmed, by what is found among its live items.
+//! The causes among the live items of an adapter for which it is not trimmed.
 
 ghost use Rattle.std.specs.Prelude.{◌≡◌, ◌<◌, ◌&&◌, IfErr, IsOk};
 ghost use Rattle.std.specs.List.{list_all, list_any};

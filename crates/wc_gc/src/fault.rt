@@ -1,4 +1,4 @@
-//! Why an adapter is not trimmed.
+//! Faults of trimming: the reasons why an adapter is not trimmed.
 
 ghost use Rattle.std.specs.Prelude.{◌≡◌, ◌≤◌};
 ghost use Rattle.wc_gc.specs.declared.fault.GcFault.TheVariants.{Memory};

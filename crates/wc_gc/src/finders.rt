@@ -7,9 +7,9 @@ ghost use Rattle.wc_gc.specs.Entries.{refs_in};
 ghost use Rattle.wc_gc.specs.InRange.{is_item_in_range};
 ghost use Rattle.wc_gc.specs.Exports.{AreNamed, export_entries};
 ghost use Rattle.wc_gc.specs.LiveChains.{item_named, items_named};
-ghost use Rattle.wc_gc.specs.LiveItems.{IsReachFault, names_of};
+ghost use Rattle.wc_gc.specs.LiveItems.{names_of};
 ghost use Rattle.wc_gc.specs.Reached.{IsReachedFrom};
-ghost use Rattle.wc_gc.specs.Private.TrimPlace.{HasFound};
+ghost use Rattle.wc_gc.specs.Private.TrimPlace.{HasFound, IsStop};
 ghost use Rattle.wc_gc.specs.Private.Finders.{AreFound};
 ghost use Rattle.wc_gc.specs.Private.Roots.{AreNamedRoots, FindsRoot};
 ghost use Rattle.wc_gc.specs.Private.Search.{IsConsistent};
@@ -17,7 +17,7 @@ ghost use Rattle.wc_gc.specs.Private.Search.{IsConsistent};
 use crate::fault::GcFault;
 use crate::live::BitVec;
 use crate::live_items::exported_item;
-use crate::search::Search;
+use crate::search::{Search, Stop};
 use std::alloc::{AllocError, Global};
 use wc_maps::{Map, Set};
 use wc_read::{Export, Module, Space};
@@ -99,11 +99,7 @@ fn find_root<'a>(roots: &mut Roots<'a>, item: (Space, u32), name: &'a str) -> Re
 }
 
 /// Finds what the items of a search reach, and for each item its finder.
-pub fn find_all(
-    alloc: Global,
-    adapter: &Module<'_>,
-    roots: Search<BitVec>,
-) -> Result<Finders, GcFault>
+pub fn find_all(alloc: Global, adapter: &Module<'_>, roots: Search<BitVec>) -> Result<Finders, Stop>
     requires consistent { IsConsistent (λ b. bit_of b.words.items) roots }
     requires there { All (λ x. IsTrue (is_in (decoded_module adapter.now) x)) roots.order.items }
     ensures found { IfOk result (λ f. AreFound (refs_in (decoded_module adapter.now))
@@ -117,7 +113,7 @@ pub fn find_all(
     ensures in_range { IsOk result → (x : ItemIndex) →
         IsReachedFrom (refs_in (decoded_module adapter.now)) roots.order.items x →
         is_item_in_range (decoded_module adapter.now) x ≡ true }
-    ensures fault { IfErr result (IsReachFault (decoded_module adapter.now) roots.order.items) }
+    ensures stop { IfErr result (IsStop (decoded_module adapter.now) roots.order.items) }
 {
     let mut search = roots;
     let mut finder = own_positions(alloc, search.order.len())?;
@@ -129,7 +125,11 @@ pub fn find_all(
                 finder.resize(search.order.len(), next)?;
                 next += 1;
             }
-            Err(fault) => return Err(fault),
+            Err(fault) => match fault {
+                GcFault::LiveBody => return Err(Stop::Body(item.1)),
+                // An allocation failed.
+                _ => return Err(Stop::Memory),
+            },
         }
     }
     Ok(Finders {

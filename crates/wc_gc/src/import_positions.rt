@@ -1,4 +1,4 @@
-//! Where the items of imports are among others.
+//! The positions of the items of imports among others.
 
 ghost use Rattle.std.specs.Prelude.{◌≡◌, ◌<◌, length, slice_set, IfOk, IfSome, Some};
 ghost use Rattle.std.specs.Option.{option_map_or};

@@ -1,11 +1,11 @@
-//! Why items of an adapter are live: the chains by which required exports reach them.
+//! The chains by which required exports reach the live items of an adapter.
 
 ghost use Rattle.std.specs.Prelude.{◌≡◌, Contains, IsOk, IfOk, IfErr, IfSome, IfNone, Some};
 ghost use Rattle.std.specs.List.{slice_get};
 ghost use Rattle.wc_read.specs.Modules.{IsModule, module_value};
-ghost use Rattle.wc_gc.specs.LiveItems.{HasLiveBody, IsFault, IsFaultOf, IsLivenessCause, IsSupported, names_of, trim_input};
+ghost use Rattle.wc_gc.specs.LiveItems.{HasLiveBody, IsFault, IsLivenessCause, IsSupported, names_of, trim_input};
 ghost use Rattle.wc_gc.specs.LiveChains.{AreImportChains, AreWhyImports, ChainsUnique, IsWhy, KeptIsLive, items_named};
-ghost use Rattle.wc_gc.specs.Private.TrimPlace.{HasFound};
+ghost use Rattle.wc_gc.specs.Private.TrimPlace.{HasFound, IsRefusalOf};
 ghost use Rattle.wc_gc.specs.Private.Roots.{AreNamedRoots};
 
 use crate::exports::{check_named, exports_by_name};
@@ -13,10 +13,12 @@ use crate::fault::GcFault;
 use crate::finders::{Finders, Roots, find_all, find_roots};
 use crate::import_chains::{Chain, ImportChains};
 use crate::import_positions::import_positions;
-use crate::live_items::has_unsupported;
+use crate::trim_place::bodies::stopped;
+use crate::trim_place::{Refusal, first_unsupported, unsupported, why_imports_explained};
 use std::alloc::Global;
 use wc_maps::Set;
-use wc_read::{Module, Space, read_module};
+use wc_read::{Module, Space};
+use wc_texts::Refused;
 
 /// Why an item of an adapter is live: the shortest chain to it from a required export, and of several the first, by the
 /// order of the required names, and then by the order in which each item names others. `None` where the item is not
@@ -74,17 +76,18 @@ pub fn why_imports<'a>(
     ensures no_cause { IsOk result →
         (f : GcFault) → ¬ (IsLivenessCause (trim_input wasm.now required.now.keys) f) }
 {
-    let adapter = read_module(alloc, wasm)?;
-    let chains = chains_in(alloc, &adapter, required)?;
-    Ok(chains)
+    match why_imports_explained(alloc, wasm, required) {
+        Ok(chains) => Ok(chains),
+        Err(refused) => Err(refused.fault),
+    }
 }
 
 /// The chains to what a module imports that was read.
-fn chains_in<'a>(
+pub fn chains_in<'a>(
     alloc: Global,
     adapter: &Module<'_>,
     required: &'a Set<String>,
-) -> Result<ImportChains<'a>, GcFault>
+) -> Result<ImportChains<'a>, Refusal>
     requires { IsModule (module_value adapter.now) }
     ensures chains { IfOk result (AreImportChains (names_of required.now.keys)
         (module_value adapter.now)) }
@@ -92,12 +95,15 @@ fn chains_in<'a>(
         IsSupported (names_of required.now.keys) (module_value adapter.now) }
     ensures in_range { IsOk result →
         ¬ (HasLiveBody (names_of required.now.keys) (module_value adapter.now)) }
-    ensures fault { IfErr result
-        (IsFaultOf (names_of required.now.keys) (module_value adapter.now)) }
+    ensures refusal { IfErr result
+        (IsRefusalOf (names_of required.now.keys) (module_value adapter.now)) }
 {
     let roots = supported_roots(alloc, adapter, required)?;
     let Roots { search, exports } = roots;
-    let found = find_all(alloc, adapter, search)?;
+    let found = match find_all(alloc, adapter, search) {
+        Ok(found) => found,
+        Err(stop) => return Err(stopped(alloc, adapter, stop)),
+    };
     let Finders { order, finder } = found;
     let imports = import_positions(alloc, &adapter.imports, &order)?;
     Ok(ImportChains {
@@ -113,7 +119,7 @@ fn supported_roots<'a>(
     alloc: Global,
     adapter: &Module<'_>,
     required: &'a Set<String>,
-) -> Result<Roots<'a>, GcFault>
+) -> Result<Roots<'a>, Refusal>
     requires { IsModule (module_value adapter.now) }
     ensures found { IfOk result (λ r. HasFound (items_named (module_value adapter.now).exports
         (names_of required.now.keys)) r.search) }
@@ -121,13 +127,15 @@ fn supported_roots<'a>(
         (module_value adapter.now).exports) }
     ensures supported { IsOk result →
         IsSupported (names_of required.now.keys) (module_value adapter.now) }
-    ensures fault { IfErr result
-        (IsFaultOf (names_of required.now.keys) (module_value adapter.now)) }
+    ensures refusal { IfErr result
+        (IsRefusalOf (names_of required.now.keys) (module_value adapter.now)) }
 {
     let named = exports_by_name(alloc, *required.hasher(), &adapter.exports)?;
-    check_named(alloc, &named, required)?;
-    if has_unsupported(adapter) {
-        return Err(GcFault::UnsupportedSection);
+    if let Err(fault) = check_named(alloc, &named, required) {
+        return Err(Refused::without_place(fault));
+    }
+    if let Some(id) = first_unsupported(adapter) {
+        return Err(unsupported(id));
     }
     let roots = find_roots(alloc, &named, required)?;
     Ok(roots)

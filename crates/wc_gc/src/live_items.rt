@@ -1,13 +1,14 @@
 //! The items that the required exports of an adapter reach.
 
-ghost use Rattle.std.specs.Prelude.{◌≡◌, map, IsTrue, IsOk, IfOk, IfErr, ◌↔◌};
+ghost use Rattle.std.specs.Prelude.{◌≡◌, map, IsOk, IfOk, IfErr};
 ghost use Rattle.wc_read.specs.Exports.{export_value};
 ghost use Rattle.wc_read.specs.Modules.{IsModule, module_value};
 ghost use Rattle.wc_gc.specs.Decoded.{exported_item};
 ghost use Rattle.wc_gc.specs.Exports.{kept_exports};
 ghost use Rattle.wc_gc.specs.Live.{has_item};
 ghost use Rattle.wc_gc.specs.Private.KeptBodies.{AreBodiesCut};
-ghost use Rattle.wc_gc.specs.LiveItems.{HasUnsupported, IsLivenessCause, IsFault, IsFaultOf, IsLiveness, IsLivenessOf, IsSupported, names_of, trim_input};
+ghost use Rattle.wc_gc.specs.LiveItems.{IsLivenessCause, IsFault, IsLiveness, IsLivenessOf, IsSupported, names_of, trim_input};
+ghost use Rattle.wc_gc.specs.Private.TrimPlace.{IsRefusalOf};
 
 use crate::body_cuts::BodyCuts;
 use crate::exports::required_exports;
@@ -15,9 +16,12 @@ use crate::fault::GcFault;
 use crate::live::{BitVec, LiveSet, LiveSets};
 use crate::range_set::RangeSet;
 use crate::search::Search;
+use crate::trim_place::bodies::stopped;
+use crate::trim_place::{Refusal, first_unsupported, unsupported};
 use std::alloc::{AllocError, Global};
 use wc_maps::Set;
 use wc_read::{Export, ExportKind, Module, Space, read_module};
+use wc_texts::Refused;
 
 /// The reached items of an adapter.
 #[derive(Debug, Drop)]
@@ -56,11 +60,13 @@ pub fn liveness_counted(
         (f : GcFault) → ¬ (IsLivenessCause (trim_input wasm.now required.now.keys) f) }
 {
     let adapter = read_module(alloc, wasm)?;
-    let reached = find_live_in(alloc, &adapter, required, 0)?;
-    Ok(reached.found)
+    match find_live_in(alloc, &adapter, required, 0) {
+        Ok(reached) => Ok(reached.found),
+        Err(refused) => Err(refused.fault),
+    }
 }
 
-/// What the required exports of an adapter reach.
+/// The exports that are kept of an adapter, and the items that they reach.
 #[derive(Drop)]
 pub struct Reached<'a, L> {
     /// The exports that are kept.
@@ -78,21 +84,24 @@ pub fn find_live_in<'a, L: LiveSet>(
     adapter: &Module<'a>,
     required: &Set<String>,
     places: usize,
-) -> Result<Reached<'a, L>, GcFault>
+) -> Result<Reached<'a, L>, Refusal>
     requires { IsModule (module_value adapter.now) }
     ensures kept { IfOk result (λ r. map export_value r.exports.items
         ≡ kept_exports (names_of required.now.keys) (module_value adapter.now).exports) }
     ensures live { IfOk result (λ r. IsLivenessOf (names_of required.now.keys)
         (module_value adapter.now) (has_item L.has r.found.live) r.found.turns) }
     ensures cut { IfOk result (λ r. AreBodiesCut adapter.now.funcs.items r.cuts) }
-    ensures fault { IfErr result
-        (IsFaultOf (names_of required.now.keys) (module_value adapter.now)) }
+    ensures refusal { IfErr result
+        (IsRefusalOf (names_of required.now.keys) (module_value adapter.now)) }
 {
     let exports = supported_exports(alloc, adapter, required)?;
     let roots = exported_items(alloc, &exports)?;
     let mut search = Search::<BitVec>::new(alloc);
     let mut cuts = BodyCuts::new(alloc, places)?;
-    let turns = search.reach_all(alloc, adapter, &roots, &mut cuts)?;
+    let turns = match search.reach_all(alloc, adapter, &roots, &mut cuts) {
+        Ok(turns) => turns,
+        Err(stop) => return Err(stopped(alloc, adapter, stop)),
+    };
     cuts.finish(alloc);
     let live = LiveSets::of_bits(alloc, &search.live)?;
     Ok(Reached {
@@ -107,27 +116,22 @@ fn supported_exports<'a>(
     alloc: Global,
     adapter: &Module<'a>,
     required: &Set<String>,
-) -> Result<Vec<Export<'a>>, GcFault>
+) -> Result<Vec<Export<'a>>, Refusal>
     requires { IsModule (module_value adapter.now) }
     ensures kept { IfOk result (λ v. map export_value v.items
         ≡ kept_exports (names_of required.now.keys) (module_value adapter.now).exports) }
     ensures supported { IsOk result →
         IsSupported (names_of required.now.keys) (module_value adapter.now) }
-    ensures fault { IfErr result
-        (IsFaultOf (names_of required.now.keys) (module_value adapter.now)) }
+    ensures refusal { IfErr result
+        (IsRefusalOf (names_of required.now.keys) (module_value adapter.now)) }
 {
-    let exports = required_exports(alloc, &adapter.exports, required)?;
-    if has_unsupported(adapter) {
-        return Err(GcFault::UnsupportedSection);
+    match required_exports(alloc, &adapter.exports, required) {
+        Ok(exports) => match first_unsupported(adapter) {
+            Some(id) => Err(unsupported(id)),
+            None => Ok(exports),
+        },
+        Err(fault) => Err(Refused::without_place(fault)),
     }
-    Ok(exports)
-}
-
-/// Whether a module has a start function, or a section of elements, data or a data count.
-pub fn has_unsupported(adapter: &Module<'_>) -> bool
-    ensures { IsTrue result ↔ HasUnsupported (module_value adapter.now) }
-{
-    adapter.start.is_some() || !adapter.ids.is_empty()
 }
 
 /// The items that exports name.

@@ -1,4 +1,4 @@
-//! Which parts are added to an adapter.
+//! The parts that are added to an adapter.
 
 ghost use Rattle.std.specs.Prelude.{◌≡◌};
 ghost use Rattle.wc_gc.specs.Edit.{growing_position, lazy_position, start_position};
@@ -8,7 +8,7 @@ ghost use Rattle.wc_gc.specs.Parts.{is_lazy, parts_of, settings_view};
 use crate::found::Found;
 use crate::settings::Settings;
 
-/// Which parts are added to an adapter.
+/// The parts that are added to an adapter.
 #[derive(Clone, Copy, Debug)]
 pub struct Parts {
     /// An import of the main module's realloc.

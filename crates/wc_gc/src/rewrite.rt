@@ -283,7 +283,7 @@ pub fn append_init(out: &mut Vec<u8>, bytes: &[u8], new: &NewIndices) -> Result<
     }
 }
 
-/// The same for initialisers of any operators.
+/// Appends an initialiser of any operators, under new indices; nothing, where the bytes spell none.
 #[inline(never)]
 fn append_any_init(out: &mut Vec<u8>, bytes: &[u8], new: &NewIndices) -> Result<(), AllocError>
     ensures { OnOk result (out.new.items ≡ out.old.items

@@ -17,7 +17,8 @@ ghost use Rattle.wc_gc.specs.Private.BodyCuts.{IsCutIfKept, IsFuncCutIfKept, Pas
 ghost use Rattle.wc_gc.specs.Private.KeptBodies.{KeepsCuts};
 ghost use Rattle.wc_gc.specs.Private.Search.{FindsItems, IsConsistent, PassesKnown, finds};
 ghost use Rattle.wc_gc.specs.InRange.{is_body_in_range, is_def_in_range, is_item_in_range, is_operator_in_range};
-ghost use Rattle.wc_gc.specs.LiveItems.{IsCount, IsReachFault};
+ghost use Rattle.wc_gc.specs.LiveItems.{IsCount};
+ghost use Rattle.wc_gc.specs.Private.TrimPlace.{IsStop};
 
 use crate::body_cuts::{BodyCut, BodyCuts};
 use crate::fault::GcFault;
@@ -34,6 +35,25 @@ use wc_read::{
 pub struct Search<L> {
     pub live: LiveSets<L>,
     pub order: Vec<(Space, u32)>,
+}
+
+/// Why a search for live items stopped.
+#[derive(Clone, Copy)]
+pub enum Stop {
+    /// An allocation failed.
+    Memory,
+    /// The body of the function of this index is no code, or names a segment or an index that is out of range.
+    Body(u32),
+}
+
+impl From<AllocError> for Stop {
+    ghost use Rattle.wc_gc.specs.declared.search.Stop.TheVariants.{Memory};
+
+    ghost from_gives = { λ _ s. s ≡ Memory };
+
+    fn from(_e: AllocError) -> Stop {
+        Stop::Memory
+    }
 }
 
 impl<L: LiveSet> Search<L> {
@@ -379,7 +399,7 @@ impl<L: LiveSet> Search<L> {
         }
     }
 
-    /// The same for initialisers of any operators.
+    /// Finds the items that an initialiser of any operators names; none, where the bytes spell none.
     #[inline(never)]
     fn reach_any_init(
         &mut self,
@@ -563,7 +583,7 @@ impl<L: LiveSet> Search<L> {
         adapter: &Module<'a>,
         roots: &[(Space, u32)],
         cuts: &mut BodyCuts<'a>,
-    ) -> Result<u64, GcFault>
+    ) -> Result<u64, Stop>
         requires consistent { IsConsistent L.has self.old }
         requires none { self.old.order.items ≡ [] }
         requires there { All (λ x. IsTrue (is_in (decoded_module adapter.now) x)) roots.now }
@@ -575,7 +595,7 @@ impl<L: LiveSet> Search<L> {
             IsReachedFrom (refs_in (decoded_module adapter.now)) roots.now x →
             is_item_in_range (decoded_module adapter.now) x ≡ true }
         ensures cut { OnOk result (KeepsCuts adapter.now.funcs.items cuts.old cuts.new) }
-        ensures fault { IfErr result (IsReachFault (decoded_module adapter.now) roots.now) }
+        ensures stop { IfErr result (IsStop (decoded_module adapter.now) roots.now) }
     {
         for root in roots {
             self.reach(*root)?;
@@ -585,7 +605,11 @@ impl<L: LiveSet> Search<L> {
             let item = self.order[next];
             match self.reach_and_cut(alloc, adapter, item, cuts) {
                 Ok(()) => next += 1,
-                Err(fault) => return Err(fault),
+                Err(fault) => match fault {
+                    GcFault::LiveBody => return Err(Stop::Body(item.1)),
+                    // An allocation failed.
+                    _ => return Err(Stop::Memory),
+                },
             }
         }
         Ok(next as u64)

@@ -1,8 +1,8 @@
-//! How adapters are trimmed.
+//! The settings of trimming.
 
 ghost use Rattle.std.specs.Prelude.{◌≤◌};
 
-/// How an adapter is trimmed.
+/// The settings by which an adapter is trimmed.
 #[derive(Clone, Copy, Debug)]
 pub struct Settings<'a> {
     /// The name by which the main module exports a realloc, if it does.

@@ -18,6 +18,7 @@ ghost use Rattle.wc_gc.specs.Parts.{settings, settings_view};
 ghost use Rattle.wc_gc.specs.InRange.{is_item_in_range};
 ghost use Rattle.wc_gc.specs.TrimmedText.{IsTrimmed};
 ghost use Rattle.wc_gc.specs.Trim.{IsLaterCause, IsLaterFault, IsTrimFault};
+ghost use Rattle.wc_gc.specs.TrimPlace.{IsExplained};
 
 use crate::causes::check_found;
 use crate::edited_image::edited_text;
@@ -25,11 +26,12 @@ use crate::fault::GcFault;
 use crate::found::Found;
 use crate::live::LiveSet;
 use crate::live_items::{Reached, find_live_in};
-use crate::range_set::RangeSet;
 use crate::settings::Settings;
+use crate::trim_place::{Refusal, run_explained, unread};
 use std::alloc::Global;
 use wc_maps::Set;
-use wc_read::{Module, read_module};
+use wc_read::{Module, read_module_explained};
+use wc_texts::Refused;
 use wc_write::laws::slices_are_bytes;
 
 /// Trims an adapter: its required exports, and of its items those that they reach, in their order, each index replaced
@@ -91,29 +93,32 @@ pub fn run(
     ensures fault { IfErr result (IsTrimFault (settings main_module_realloc.entry page_size_log2)
         (trim_input wasm.now required.now.keys)) }
 {
-    let settings = Settings {
-        realloc: main_module_realloc,
-        page_size_log2,
-    };
-    trim::<RangeSet>(alloc, wasm, required, settings)
+    match run_explained(alloc, wasm, required, main_module_realloc, page_size_log2) {
+        Ok(trimmed) => Ok(trimmed),
+        Err(refused) => Err(refused.fault),
+    }
 }
 
 /// Trims an adapter under settings, with live items in sets of any kind.
-fn trim<'a, L: LiveSet>(
+pub fn trim<'a, L: LiveSet>(
     alloc: Global,
     wasm: &'a [u8],
     required: &Set<String>,
     settings: Settings<'a>,
-) -> Result<Vec<u8>, GcFault>
+) -> Result<Vec<u8>, Refusal>
     ensures trimmed { IfOk result (λ v. IsTrimmed (settings_view settings.entry)
         (trim_input wasm.now required.now.keys) v.items) }
-    ensures fault { IfErr result
-        (IsTrimFault (settings_view settings.entry) (trim_input wasm.now required.now.keys)) }
+    ensures fault { IfErr result (λ r. IsTrimFault (settings_view settings.entry)
+        (trim_input wasm.now required.now.keys) r.fault) }
+    ensures place { IfErr result (λ r. IsExplained
+        (trim_input wasm.now required.now.keys) r.fault r.place) }
 {
     // So a vector has fewer than 2^32 items.
     slices_are_bytes(wasm);
-    let adapter = read_module(alloc, wasm)?;
-    trim_module::<L>(alloc, adapter, required, settings)
+    match read_module_explained(alloc, wasm) {
+        Ok(adapter) => trim_module::<L>(alloc, adapter, required, settings),
+        Err(refused) => Err(unread(refused)),
+    }
 }
 
 /// Trims a module that was read.
@@ -122,20 +127,26 @@ fn trim_module<'a, L: LiveSet>(
     adapter: Module<'a>,
     required: &Set<String>,
     settings: Settings<'a>,
-) -> Result<Vec<u8>, GcFault>
+) -> Result<Vec<u8>, Refusal>
     requires valid { IsModule (module_value adapter) }
     requires bounded { ItemCountsFitU32 adapter }
     ensures trimmed { IfOk result (λ v. (bytes : List ℕ) → AreBytes bytes
         → SpellsModule bytes (module_value adapter.entry) → IsTrimmed
         (settings_view settings.entry) (trim_input bytes required.now.keys) v.items) }
-    ensures fault { IfErr result (λ f. (bytes : List ℕ)
+    ensures fault { IfErr result (λ r. (bytes : List ℕ)
         → SpellsModule bytes (module_value adapter.entry) → IsTrimFault
-        (settings_view settings.entry) (trim_input bytes required.now.keys) f) }
+        (settings_view settings.entry) (trim_input bytes required.now.keys) r.fault) }
+    ensures place { IfErr result (λ r. (bytes : List ℕ)
+        → SpellsModule bytes (module_value adapter.entry) → IsExplained
+        (trim_input bytes required.now.keys) r.fault r.place) }
 {
     settings_are_valid(settings);
     let places = adapter.funcs.len();
     let reached = find_live_in::<L>(alloc, &adapter, required, places)?;
-    image_text(alloc, adapter, &reached, settings)
+    match image_text(alloc, adapter, &reached, settings) {
+        Ok(text) => Ok(text),
+        Err(fault) => Err(Refused::without_place(fault)),
+    }
 }
 
 /// The text of the image of a module of which these items are live, where none of them stops it.

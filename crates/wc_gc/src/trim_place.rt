@@ -1,31 +1,30 @@
 //! The section or the body that the cause of a fault of trimming is in.
 
-ghost use Rattle.std.specs.Prelude.{◌≡◌, ◌≢◌, ◌≤◌, ◌↔◌, ◌⊎◌, [], map, slice_get, IfOk, IfErr, IfSome, IsOk, IsSome, None, Some};
-ghost use Rattle.wc_read.specs.Exports.{export_value};
-ghost use Rattle.wc_read.specs.Modules.{IsModule, module_value};
-ghost use Rattle.wc_gc.specs.Exports.{kept_exports, missing_name};
+ghost use Rattle.std.specs.Prelude.{◌≡◌, ◌≢◌, ◌≤◌, [], slice_get, IfOk, IfErr, IsOk, Some};
+ghost use Rattle.std.specs.Option.{option_map};
+ghost use Rattle.wc_read.specs.Modules.{module_value};
+ghost use Rattle.wc_gc.specs.Fault.{of_read};
 ghost use Rattle.wc_gc.specs.LiveChains.{AreWhyImports};
-ghost use Rattle.wc_gc.specs.LiveItems.{IsFault, IsLivenessCause, TrimInput, names_of, trim_input};
+ghost use Rattle.wc_gc.specs.LiveItems.{IsFault, IsLivenessCause, TrimInput, trim_input};
 ghost use Rattle.wc_gc.specs.Parts.{SettingsView, settings};
-ghost use Rattle.wc_gc.specs.Private.TrimPlace.{IsNoRead, IsUnreadAt, IsUnreadWith};
 ghost use Rattle.wc_gc.specs.Trim.{IsTrimFault};
 ghost use Rattle.wc_gc.specs.TrimmedText.{IsTrimmed};
-ghost use Rattle.wc_gc.specs.TrimPlace.{IsExplained, IsExplainedIn, IsPlace, unsupported_ids};
+ghost use Rattle.wc_gc.specs.TrimPlace.{IsExplained, IsPlace, unsupported_ids};
+ghost use Rattle.wc_gc.specs.declared.trim_place.TrimPlace.TheVariants.{Bytes, Section};
 
-mod bodies;
+pub(crate) mod bodies;
 
-use crate::exports::required_exports;
 use crate::fault::GcFault;
 use crate::import_chains::ImportChains;
-use crate::live_chains::why_imports;
-use crate::live_items::exported_items;
-use crate::trim::run;
-use crate::trim_place::bodies::{outside_operator, refused_function};
-use std::alloc::{AllocError, Global};
+use crate::live_chains::chains_in;
+use crate::range_set::RangeSet;
+use crate::settings::Settings;
+use crate::trim::trim;
+use std::alloc::Global;
 use std::fmt;
 use wc_maps::Set;
 use wc_read::codes::{DATA_COUNT_ID, DATA_ID, ELEMENT_ID, START_ID};
-use wc_read::{Export, Module, ReadFault, ReadPlace, read_module, read_module_explained};
+use wc_read::{Module, ReadFault, ReadPlace, read_module_explained};
 use wc_texts::Refused;
 
 /// The part of an adapter that a fault of trimming is about.
@@ -48,6 +47,9 @@ pub enum TrimPlace {
         operator: Option<usize>,
     },
 }
+
+/// A refused adapter, and what its fault is about.
+pub type Refusal = Refused<GcFault, TrimPlace>;
 
 impl fmt::Display for TrimPlace {
     ghost use Rattle.wc_gc.specs.TrimPlace.{place_text};
@@ -107,10 +109,11 @@ pub fn run_explained(
     ensures place { IfErr result (λ r. IsExplained
         (trim_input wasm.now required.now.keys) r.fault r.place) }
 {
-    match run(alloc, wasm, required, main_module_realloc, page_size_log2) {
-        Ok(trimmed) => Ok(trimmed),
-        Err(fault) => Err(refused(alloc, wasm, required, fault)),
-    }
+    let settings = Settings {
+        realloc: main_module_realloc,
+        page_size_log2,
+    };
+    trim::<RangeSet>(alloc, wasm, required, settings)
 }
 
 /// Why the imports of an adapter are live, as `why_imports` has it, and what the fault of a refused adapter is about, as
@@ -133,163 +136,40 @@ pub fn why_imports_explained<'a>(
     ensures no_cause { IsOk result →
         (f : GcFault) → ¬ (IsLivenessCause (trim_input wasm.now required.now.keys) f) }
 {
-    match why_imports(alloc, wasm, required) {
-        Ok(chains) => Ok(chains),
-        Err(fault) => Err(refused(alloc, wasm, required, fault)),
-    }
-}
-
-/// A fault, and what it is about. What was read is gone through again, by refused adapters alone.
-fn refused(
-    alloc: Global,
-    wasm: &[u8],
-    required: &Set<String>,
-    fault: GcFault,
-) -> Refused<GcFault, TrimPlace>
-    requires { IsUnreadWith wasm.now fault }
-    ensures fault { (result.fault ≡ fault) ⊎ (result.fault ≡ GcFault.Memory) }
-    ensures place { IsExplained (trim_input wasm.now required.now.keys)
-        result.fault result.place }
-{
-    match explain(alloc, wasm, required, &fault) {
-        Ok(place) => Refused { fault, place },
-        Err(_) => Refused::without_place(GcFault::Memory),
-    }
-}
-
-/// What a fault is about.
-fn explain(
-    alloc: Global,
-    wasm: &[u8],
-    required: &Set<String>,
-    fault: &GcFault,
-) -> Result<Option<TrimPlace>, AllocError>
-    requires { IsUnreadWith wasm.now fault.now }
-    ensures { IfOk result
-        (IsExplained (trim_input wasm.now required.now.keys) fault.now) }
-{
-    match fault {
-        GcFault::Read(_) => unread_place(alloc, wasm),
-        _ => read_place(alloc, wasm, required, fault),
-    }
-}
-
-/// Where bytes stop to be a module; `None` where they are one.
-fn unread_place(alloc: Global, wasm: &[u8]) -> Result<Option<TrimPlace>, AllocError>
-    ensures { IfOk result (IsUnreadAt wasm.now) }
-{
     match read_module_explained(alloc, wasm) {
-        Ok(_) => Ok(None),
-        Err(refused) => match refused.place {
-            Some(place) => Ok(Some(TrimPlace::Bytes(place))),
-            None => Err(AllocError),
+        Ok(adapter) => chains_in(alloc, &adapter, required),
+        Err(refused) => Err(unread(refused)),
+    }
+}
+
+/// A refusal of bytes that are no module, as one of an adapter.
+pub fn unread(refused: Refused<ReadFault, ReadPlace>) -> Refusal
+    ensures fault { result.fault ≡ of_read refused.fault }
+    ensures place { result.place ≡ option_map Bytes refused.place }
+{
+    let fault = GcFault::from(refused.fault);
+    match refused.place {
+        Some(place) => Refused {
+            fault,
+            place: Some(TrimPlace::Bytes(place)),
         },
+        None => Refused::without_place(fault),
     }
 }
 
-/// What a fault of a module that can be read is about.
-fn read_place(
-    alloc: Global,
-    wasm: &[u8],
-    required: &Set<String>,
-    fault: &GcFault,
-) -> Result<Option<TrimPlace>, AllocError>
-    requires { IsNoRead fault.now }
-    ensures { IfOk result
-        (IsExplained (trim_input wasm.now required.now.keys) fault.now) }
+/// A refusal of an adapter with a section that is not supported.
+pub fn unsupported(id: u8) -> Refusal
+    ensures fault { result.fault ≡ GcFault.UnsupportedSection }
+    ensures place { result.place ≡ Some (Section id) }
 {
-    match read_module(alloc, wasm) {
-        Ok(adapter) => place_in(alloc, &adapter, required, fault),
-        Err(refusal) => match refusal {
-            ReadFault::Memory => Err(AllocError),
-            _ => Ok(None),
-        },
-    }
-}
-
-/// The place of a fault in a module that was read.
-fn place_in(
-    alloc: Global,
-    adapter: &Module<'_>,
-    required: &Set<String>,
-    fault: &GcFault,
-) -> Result<Option<TrimPlace>, AllocError>
-    requires { IsModule (module_value adapter.now) }
-    ensures { IfOk result (IsExplainedIn (names_of required.now.keys)
-        (module_value adapter.now) fault.now) }
-{
-    match fault {
-        GcFault::UnsupportedSection => section_place(alloc, adapter, required),
-        GcFault::LiveBody => body_place(alloc, adapter, required),
-        _ => Ok(None),
-    }
-}
-
-/// The first section that is not supported, where no export is missing.
-fn section_place(
-    alloc: Global,
-    adapter: &Module<'_>,
-    required: &Set<String>,
-) -> Result<Option<TrimPlace>, AllocError>
-    requires { IsModule (module_value adapter.now) }
-    ensures { IfOk result (IsExplainedIn (names_of required.now.keys)
-        (module_value adapter.now) GcFault.UnsupportedSection) }
-{
-    if exports_if_all(alloc, adapter, required)?.is_none() {
-        return Ok(None);
-    }
-    match first_unsupported(adapter) {
-        Some(id) => Ok(Some(TrimPlace::Section { id })),
-        None => Ok(None),
-    }
-}
-
-/// A body that is reached and refused, where no export is missing and all sections are supported.
-fn body_place(
-    alloc: Global,
-    adapter: &Module<'_>,
-    required: &Set<String>,
-) -> Result<Option<TrimPlace>, AllocError>
-    requires { IsModule (module_value adapter.now) }
-    ensures { IfOk result (IsExplainedIn (names_of required.now.keys)
-        (module_value adapter.now) GcFault.LiveBody) }
-{
-    let Some(exports) = exports_if_all(alloc, adapter, required)? else {
-        return Ok(None);
-    };
-    if first_unsupported(adapter).is_some() {
-        return Ok(None);
-    }
-    let roots = exported_items(alloc, &exports)?;
-    let Some(function) = refused_function(alloc, adapter, &roots)? else {
-        return Ok(None);
-    };
-    let operator = outside_operator(alloc, adapter, function)?;
-    Ok(Some(TrimPlace::Body { function, operator }))
-}
-
-/// The exports that are kept, where each required one is there.
-fn exports_if_all<'a>(
-    alloc: Global,
-    adapter: &Module<'a>,
-    required: &Set<String>,
-) -> Result<Option<Vec<Export<'a>>>, AllocError>
-    requires { IsModule (module_value adapter.now) }
-    ensures all { IfOk result (λ o. IsSome o ↔
-        (missing_name (module_value adapter.now).exports (names_of required.now.keys) ≡ None)) }
-    ensures kept { IfOk result (λ o. IfSome o (λ v. map export_value v.items
-        ≡ kept_exports (names_of required.now.keys) (module_value adapter.now).exports)) }
-{
-    match required_exports(alloc, &adapter.exports, required) {
-        Ok(exports) => Ok(Some(exports)),
-        Err(GcFault::MissingExport(_)) => Ok(None),
-        // An allocation failed.
-        Err(_) => Err(AllocError),
+    Refused {
+        fault: GcFault::UnsupportedSection,
+        place: Some(TrimPlace::Section { id }),
     }
 }
 
 /// The id of the first section that is not supported.
-fn first_unsupported(adapter: &Module<'_>) -> Option<u8>
+pub fn first_unsupported(adapter: &Module<'_>) -> Option<u8>
     ensures { result ≡ slice_get (unsupported_ids (module_value adapter.now)) 0 }
 {
     if adapter.start.is_some() {

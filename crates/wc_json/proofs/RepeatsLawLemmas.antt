@@ -1,8 +1,8 @@
 -- Where no member is there again, no object has a key twice.
-use Rattle.std.proofs.Common.{◌≡◌, ◌≢◌, inl, inr, ℕ, zero, suc, ◌<◌, Bool, true, false, ◌||◌, cond, List, [], ◌∷◌, ◌++◌, length, get_or, map, Option, Some, None, IsSome, refl, sym, ap, subst, ◌∙◌, arith, append-nil, append_assoc}
+use Rattle.std.proofs.Common.{◌≡◌, ◌≢◌, inl, inr, ℕ, zero, suc, ◌<◌, false, cond, List, [], ◌∷◌, ◌++◌, length, get_or, map, Option, Some, None, IsSome, refl, sym, ap, subst, ◌∙◌, arith, append-nil, append_assoc}
 use Rattle.std.specs.List.{list_any}
 use Rattle.std.specs.Str.{bytes_eq}
-use Rattle.std.proofs.lemmas.Bool.{cases_Bool}
+use Rattle.std.proofs.lemmas.Bool.{cases_Bool, or_parts}
 use Rattle.std.proofs.lemmas.List.Quantifiers.{all_pairs_push}
 use Rattle.std.proofs.lemmas.Slice.Eq.{bytes_eq-Decides}
 use Rattle.json.specs.Json.{Json, null, boolean, number, string, array, object, Items, no_items, item, Members, no_members, member}
@@ -10,14 +10,10 @@ use Rattle.json.specs.Strict.{AreDistinct, HasUniqueKeys, ItemsHaveUniqueKeys, M
 use Rattle.wc_json.specs.Paths.{index_step}
 use Rattle.wc_json.specs.RepeatedMembers.{first_path, name_step, repeat_of, repeats, repeats_from, repeats_after}
 
-neither : (b c : Bool) → (b || c) ≡ false → (b ≡ false) × (c ≡ false)
-neither true c is = absurd (cc)
-neither false c is = (refl, is)
-
 absent : (k : List ℕ) (names : List (List ℕ)) → list_any (λ t. bytes_eq k t) names ≡ false → (i : ℕ) (d : List ℕ) → i < length names → get_or names i d ≢ k
 absent k [] e i d lt same = absurd (omega (arith, lt))
-absent k (n ∷ names) e zero d lt same = absurd (let hit = (bytes_eq-Decides k n).1 (sym same) in let miss = (neither (bytes_eq k n) _ e).0 in cc)
-absent k (n ∷ names) e (suc i) d lt same = absent k names (neither (bytes_eq k n) _ e).1 i d (omega (arith, lt)) same
+absent k (n ∷ names) e zero d lt same = absurd (let hit = (bytes_eq-Decides k n).1 (sym same) in let miss = (or_parts (bytes_eq k n) _ e).0 in cc)
+absent k (n ∷ names) e (suc i) d lt same = absent k names (or_parts (bytes_eq k n) _ e).1 i d (omega (arith, lt)) same
 
 none_both : (f : List ℕ → List ℕ) (a b : List (List ℕ)) → None ≡ first_path (map f a ++ b) → (None ≡ first_path a) × (None ≡ first_path b)
 none_both f [] b e = (refl, e)

@@ -1,4 +1,4 @@
-//! Why a text is refused.
+//! Faults of JSON texts: the reasons why a text is refused.
 
 ghost use Rattle.std.specs.Prelude.{◌≡◌, ◌≤◌};
 ghost use Rattle.wc_json.specs.Fault.{json_fault_number, json_fault_text, problem_number, problem_text};
@@ -109,7 +109,7 @@ pub enum JsonFault {
     Wrong { path: String, problem: Problem },
 }
 
-/// What is between a path and a problem.
+/// The separator between a path and a problem.
 fn separator(path: &String) -> &'static str {
     if path.is_empty() { "" } else { ": " }
 }

@@ -1,4 +1,4 @@
-//! Where a text is not JSON. It is looked for after a fault alone.
+//! The place where a text is not JSON. It is looked for after a fault alone.
 
 ghost use Rattle.std.specs.Prelude.{◌≡◌, ◌++◌, [], None, IfOk, OnOk, Some, get_or, drop};
 ghost use Rattle.std.specs.Bool.{MatchBool};
@@ -138,7 +138,7 @@ fn lexemes(last: Last, token: Token<'_>) -> usize
     }
 }
 
-/// What was read of a text.
+/// The state of reading: the kind of the last token, and the arrays and objects that are open.
 #[derive(Drop)]
 struct Read {
     last: Last,
@@ -265,7 +265,7 @@ enum Mode {
     InEscape,
 }
 
-/// What a byte can begin.
+/// The class of a byte, by the lexeme that it can begin.
 #[derive(Clone, Copy)]
 enum Class {
     Quote,
@@ -328,7 +328,7 @@ fn passed(mode: Mode, class: Class) -> Mode
     }
 }
 
-/// What a byte can begin.
+/// The class of a byte, by the lexeme that it can begin.
 fn class_of(c: u8) -> Class
     ensures { result ≡ class_of (class c) }
 {

@@ -1,4 +1,4 @@
-//! What a text that is not JSON looks like, for a message.
+//! The likely format of a text that is not JSON, for a message.
 
 ghost use Rattle.std.specs.Prelude.{◌≡◌, drop};
 ghost use Rattle.std.specs.List.{list_all};
@@ -7,7 +7,7 @@ ghost use Rattle.wc_json.specs.Likeness.{begins_with, begins_with_wit, gap_after
 
 use crate::json_place::{is_space, without_first};
 
-/// What a text looks like, by its beginning.
+/// The likely format of a text, by its beginning.
 #[derive(Clone, Copy, Debug, PartialEq, Eq)]
 pub enum Likeness {
     /// A module or a component: it begins with `\0asm` (WebAssembly core specification, binary format, "Modules").
@@ -20,14 +20,14 @@ pub enum Likeness {
     Wit,
 }
 
-/// How a module or a component begins.
+/// The magic bytes that a module or a component begins with.
 const MAGIC: &[u8] = b"\0asm";
 
 /// The byte order mark in UTF-8.
 const MARK: &[u8] = b"\xef\xbb\xbf";
 
-/// What a text that is not JSON looks like, by its beginning; `None` if it is none of these. Comments that are nested
-/// are not passed. Nothing is allocated.
+/// Recognizes the format of a text that is not JSON by its beginning; `None` if it is none of these. Comments that are
+/// nested are not passed. Nothing is allocated.
 pub fn looks_like(text: &[u8]) -> Option<Likeness>
     ensures { result ≡ looks_like text.now }
 {
@@ -84,7 +84,7 @@ enum Gap {
     Stray,
 }
 
-/// What a byte is to comments.
+/// The class of a byte among blanks and comments.
 #[derive(Clone, Copy)]
 enum Kind {
     Blank,
@@ -108,7 +108,7 @@ fn gap_end(text: &[u8]) -> usize
     text.len()
 }
 
-/// What a byte is.
+/// The class of a byte.
 fn kind_of(c: u8) -> Kind
     ensures { result ≡ kind_of c }
 {

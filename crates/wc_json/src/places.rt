@@ -1,4 +1,4 @@
-//! What a fault of a text is about.
+//! The places of faults of texts.
 
 ghost use Rattle.std.specs.Prelude.{IfOk};
 ghost use Rattle.wc_json.specs.Places.{IsFaultPlace};
@@ -9,7 +9,7 @@ use crate::repeated_members::repeated_member;
 use std::alloc::{AllocError, Global};
 use wc_maps::Seed;
 
-/// What a fault of a text is about.
+/// The place of a fault in a text.
 #[derive(Debug, PartialEq, Eq, Drop)]
 pub enum JsonPlace {
     /// A byte of the text, from 0, as [`json_end`](crate::json_end) has it.
@@ -19,8 +19,8 @@ pub enum JsonPlace {
     Path(String),
 }
 
-/// What a fault of reading a text is about: where the text stops to be JSON, the member that is repeated, or the value
-/// that is wrong; `None` where an allocation failed. It is found by reading the text again. `seed`: the seed of the sets
+/// Finds the place of a fault of reading a text: the byte where the text stops to be JSON, the member that is repeated,
+/// or the value that is wrong; `None` where an allocation failed. The text is read again. `seed`: the seed of the sets
 /// of names that are made.
 ///
 /// # Errors

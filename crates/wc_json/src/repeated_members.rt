@@ -62,7 +62,7 @@ fn path_in(alloc: Global, seed: Seed, value: &Value<'_>) -> Result<Option<String
     }
 }
 
-/// The same from a list on.
+/// The path of the first member that is repeated, from a list on.
 #[cycle(path)]
 fn path_in_items(
     alloc: Global,
@@ -80,7 +80,7 @@ fn path_in_items(
     Ok(None)
 }
 
-/// The same from an object on.
+/// The path of the first member that is repeated, from an object on.
 #[cycle(path)]
 fn path_in_members(
     alloc: Global,

@@ -1,9 +1,14 @@
 //! Imports, by the names of the Rust types.
 
 use std::alloc::{AllocError, Global};
+use std::fmt::Debug;
 use wc_lines::lines::Lines;
 use wc_names::Import;
-use wc_read::FuncType;
+
+/// A value that nothing else is left of. The function knows no variants, which makes its proof short.
+fn put_last<T: Debug + Drop>(out: &mut Lines, value: T) {
+    write!(out, "{value:?}");
+}
 
 /// A value that lines show.
 pub(crate) trait Shown {
@@ -55,41 +60,10 @@ pub(crate) fn put_if_found<T: Shown + Drop>(
     }
 }
 
-/// A copy of an import, which lines show by its `Debug`; but the type of an adapter's function by its parameters and results.
-#[derive(Drop)]
-struct Copied {
-    import: Import,
-}
-
-impl Shown for Copied {
-    fn put(&self, _alloc: Global, out: &mut Lines) {
-        let import = &self.import;
-        match import {
-            Import::AdapterExport { adapter, func, ty } => {
-                write!(
-                    out,
-                    "AdapterExport {{ adapter: {adapter:?}, func: {func:?}, ty: "
-                );
-                put_type(ty, out);
-                out.push_str(" }");
-            }
-            _ => write!(out, "{import:?}"),
-        }
-    }
-}
-
-fn put_type(ty: &FuncType, out: &mut Lines) {
-    let (params, results) = (ty.params(), ty.results());
-    write!(
-        out,
-        "FuncType {{ params: {params:?}, results: {results:?} }}"
-    );
-}
-
 /// Appends the clone of an import.
 pub fn put_copy(alloc: Global, import: &Import, out: &mut Lines) {
     match import.clone(alloc) {
-        Ok(import) => put_shown(alloc, Copied { import }, out),
+        Ok(import) => put_last(out, import),
         Err(_) => out.lack_memory(),
     }
 }

@@ -10,7 +10,7 @@ use Rattle.std.proofs.lemmas.List.{map-append, take-map}
 use Rattle.std.proofs.lemmas.List.Elements.{All-take, All-cons}
 use Rattle.std.proofs.lemmas.Slice.Eq.{bytes_eq-Decides}
 use Rattle.indexmap.specs.IndexMap.{insert_entry}
-use Rattle.wc_resolve.specs.Views.{KeyView, key_view, InterfaceView, ItemView, function_item, interface_item, interface_key, plain_key, type_item}
+use Rattle.wc_resolve.specs.Views.{KeyView, key_view, InterfaceView, ItemView, function_item, interface_item, plain_key, type_item}
 use Rattle.wc_names.specs.declared.export_index.ExportedInterface.{ExportedInterface}
 use Rattle.wc_resolve.specs.Kinds.{ResolveView}
 use Rattle.wc_adapters.specs.Entries.{Entries}
@@ -25,20 +25,14 @@ use Rattle.std.specs.Borrow.{Bor}
 use Rattle.wc_resolve.specs.declared.worlds.WorldKey.{WorldKey}
 use Rattle.wc_resolve.specs.contracts.worlds.WorldKeyPartialEq.TheImpl.{eq-value as world_key_eq}
 use Rattle.wc_resolve.specs.Ranges.{AreIdsInRange, AreNamesIn, IsItemIn, IsKeyIn}
-use Rattle.wc_resolve.proofs.KeyLemmas.{keys_law, nat_from}
+use Rattle.wc_resolve.proofs.KeyLemmas.{keys_law}
 use Rattle.wc_resolve.proofs.SearchLemmas.{contains_cons, contains_head, contains_none, contains_tail}
 use Rattle.wc_resolve.proofs.ViewedLemmas.{all_unviewed}
 use Rattle.wc_resolve.proofs.WellFormedLemmas.{interface_names_in}
 use Rattle.wc_names.specs.Keys.{as_interface, item_under, key_eq}
 use Rattle.wc_texts.specs.Names.{under_name}
+use Rattle.wc_names.proofs.InterfaceLemmas.{same_key}
 use Rattle.wc_names.proofs.KeyLemmas.{lookup_passes}
-
--- keys that are equal by the test are equal
-same_key : (a b : KeyView) → key_eq a b ≡ true → a ≡ b
-same_key (plain_key n) (plain_key m) h = ap plain_key ((bytes_eq-Decides n m).0 h)
-same_key (plain_key n) (interface_key j) h = absurd (let bad : ⊥ = cc h in bad)
-same_key (interface_key i) (plain_key m) h = absurd (let bad : ⊥ = cc h in bad)
-same_key (interface_key i) (interface_key j) h = ap interface_key (nat_from i j h)
 
 -- the item of an exported interface
 interface_item_under : (o : Option ItemView) (i : ℕ) → option_and_then as_interface o ≡ Some i
@@ -54,7 +48,7 @@ key_in_range r es key i all is =
     let there = lookup_passes (λ (x : KeyView × ItemView). IsKeyIn r x.0) (key_eq key) es item.0 all item.1 in
     subst (IsKeyIn r) (sym (same_key key there.0 there.2)) there.1
 
-item_is_in : (r : ResolveView) (item : ItemView) (i : ℕ) → IsItemIn r item → as_interface item ≡ Some i → i < length r.interfaces
+pub item_is_in : (r : ResolveView) (item : ItemView) (i : ℕ) → IsItemIn r item → as_interface item ≡ Some i → i < length r.interfaces
 item_is_in r (interface_item j external) i h is = subst (λ z. z < length r.interfaces) (let e : j ≡ i = cc is in e) h
 item_is_in r (function_item f) i h is = absurd (let bad : ⊥ = cc is in bad)
 item_is_in r (type_item t) i h is = absurd (let bad : ⊥ = cc is in bad)

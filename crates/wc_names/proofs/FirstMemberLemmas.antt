@@ -101,7 +101,7 @@ module _ {V X O : Type 0} (view : V → O) (own : List ℕ → Option O) (all : 
       (subst (λ z. own z ≡ Some (view v)) is has)
       ∙ here name)
 
-or_none : {X : Type 0} (o : Option X) → option_or o None ≡ o
+pub or_none : {X : Type 0} (o : Option X) → option_or o None ≡ o
 or_none None = refl
 or_none (Some x) = refl
 

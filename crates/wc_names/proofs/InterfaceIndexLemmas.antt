@@ -33,7 +33,7 @@ use Rattle.wc_names.proofs.InterfaceLemmas.{without_version}
 abbrev pub KeepsPassed : {T E O : Type 0} → (T → E → O → Type 0) → List E → List E → (T → Option O) → Type 0
 KeepsPassed {T} Has all rest at = (t : T) → MatchOption (at t) (IsFirstInRest (Has t) all rest) (FirstOf (Has t) all)
 
-lookup_at : {X : Type 0} (b : Bool) (x : X) (p q r : Option X) → p ≡ option_or q r → cond b (Some x) p ≡ option_or (cond b (Some x) q) r
+pub lookup_at : {X : Type 0} (b : Bool) (x : X) (p q r : Option X) → p ≡ option_or q r → cond b (Some x) p ≡ option_or (cond b (Some x) q) r
 lookup_at true x p q r h = refl
 lookup_at false x p q r h = h
 

@@ -22,11 +22,11 @@ use Rattle.wc_names.specs.First.{FirstOf}
 use Rattle.wc_names.specs.Keys.{as_interface, item_under, key_eq}
 use Rattle.wc_texts.specs.Names.{under_name}
 use Rattle.wc_adapters.specs.Entries.{Entries}
+use Rattle.wc_resolve.proofs.KeyLemmas.{nat_from}
 use Rattle.wc_names.proofs.SearchLemmas.{first_kind}
 use Rattle.wc_names.proofs.KeyLemmas.{package_unique, lookup_passes}
 use Rattle.std.specs.declared.alloc.AllocError.{AllocError}
 use Rattle.std.proofs.lemmas.Slice.Eq.{bytes_eq-Decides}
-use Rattle.std.proofs.lemmas.Bool.Decides.{eqb_tells}
 use Rattle.std.proofs.lemmas.List.Elements.{All-head, All-tail}
 use Rattle.std.proofs.lemmas.List.{get_or_default}
 use Rattle.wc_names.specs.Laws.{IsInterfaceEntry}
@@ -185,12 +185,12 @@ id_not_found r es text p n none t no_match f (inr (h, inl g)) =
     no_match f (subst (λ z. FirstOf (IsIdMatch r es z n) id_matches f) same.0 (subst (λ z. FirstOf (IsIdMatch r es g.0 z) id_matches f) same.1 g.3))
 id_not_found r es text p n none t no_match f (inr (h, inr g)) = g.1
 
-key_is : (k j : KeyView) → key_eq k j ≡ true → k ≡ j
-key_is (plain_key n) (plain_key m) h = ap plain_key ((bytes_eq-Decides n m).0 h)
-key_is (plain_key n) (interface_key j) h = absurd (let bad : ⊥ = cc h in bad)
-key_is (interface_key i) (plain_key m) h = absurd (let bad : ⊥ = cc h in bad)
-key_is (interface_key i) (interface_key j) h =
-    ap interface_key (elim (eqb_tells i j) [ inl e ↦ e.1 | inr e ↦ absurd (let f : false ≡ true = sym e.0 ∙ h in let bad : ⊥ = cc f in bad) ])
+-- keys that are equal by the test are equal
+pub same_key : (a b : KeyView) → key_eq a b ≡ true → a ≡ b
+same_key (plain_key n) (plain_key m) h = ap plain_key ((bytes_eq-Decides n m).0 h)
+same_key (plain_key n) (interface_key j) h = absurd (let bad : ⊥ = cc h in bad)
+same_key (interface_key i) (plain_key m) h = absurd (let bad : ⊥ = cc h in bad)
+same_key (interface_key i) (interface_key j) h = ap interface_key (nat_from i j h)
 
 module _ (r : ResolveView) (entries : Entries) (matching : All (λ (x : KeyView × ItemView). IsMatchingKey r x.0 x.1) entries) where
   -- this is an entry, and its item is of its key
@@ -230,7 +230,7 @@ module _ (r : ResolveView) (entries : Entries) (matching : All (λ (x : KeyView 
   found_there : (key : KeyView) (item : ItemView) → item_under entries key ≡ Some item → IsThere (key, item)
   found_there key item is =
       let found = lookup_passes IsThere (key_eq key) entries item all_there is in
-      subst (λ (z : KeyView). IsThere (z, item)) (sym (key_is key found.0 found.2)) found.1
+      subst (λ (z : KeyView). IsThere (z, item)) (sym (same_key key found.0 found.2)) found.1
 
   of_some : (i : ℕ) (o : Option ItemView) → item_under entries (interface_key i) ≡ o → IsSome o → IsInterfaceEntry entries (interface_key i) i
   of_some i None is some = absurd (let bad : ⊥ = cc some in bad)

@@ -46,7 +46,7 @@ resource_unique (legacy hook) resource_drop x y name a b = append_cancel_left (c
 resource_unique (legacy hook) resource_new x y name a b = append_cancel_left (codes "[resource-new]") x y (sym a ∙ b)
 resource_unique (legacy hook) resource_rep x y name a b = append_cancel_left (codes "[resource-rep]") x y (sym a ∙ b)
 
-task_return_unique : (s : Scheme) (x y name : List ℕ) → NamesTaskReturn s x name → NamesTaskReturn s y name → x ≡ y
+pub task_return_unique : (s : Scheme) (x y name : List ℕ) → NamesTaskReturn s x name → NamesTaskReturn s y name → x ≡ y
 task_return_unique standard x y name a b = absurd a
 task_return_unique (legacy hook) x y name a b = append_cancel_left (codes "[task-return]") x y (sym a ∙ b)
 
@@ -166,14 +166,14 @@ environment_names_unique standard name ty i j x y = absurd x
 environment_names_unique (legacy hook) name ty i j x y = environment_unique name ty i j x y
 
 -- the interface of a text
-canonical_entry_unique : (r : ResolveView) (text : List ℕ) (e : KeyView × ItemView) (f g : FoundInterface) → IsCanonicalEntry r text e f
+pub canonical_entry_unique : (r : ResolveView) (text : List ℕ) (e : KeyView × ItemView) (f g : FoundInterface) → IsCanonicalEntry r text e f
     → IsCanonicalEntry r text e g → f ≡ g
 canonical_entry_unique r text (plain_key n, interface_item i external) f g x y = x.1 ∙ sym y.1
 canonical_entry_unique r text (plain_key n, function_item d) f g x y = absurd x
 canonical_entry_unique r text (plain_key n, type_item t) f g x y = absurd x
 canonical_entry_unique r text (interface_key i, item) f g x y = x.1 ∙ sym y.1
 
-entry_unique : (P : ℕ → Type 0) (e : KeyView × ItemView) (f g : FoundInterface) → IsEntryOf P e f → IsEntryOf P e g → f ≡ g
+pub entry_unique : (P : ℕ → Type 0) (e : KeyView × ItemView) (f g : FoundInterface) → IsEntryOf P e f → IsEntryOf P e g → f ≡ g
 entry_unique P (plain_key n, item) f g x y = absurd x
 entry_unique P (interface_key i, item) f g x y = x.1 ∙ sym y.1
 

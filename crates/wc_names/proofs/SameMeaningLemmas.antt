@@ -34,7 +34,7 @@ use Rattle.wc_names.specs.WitIntrinsics.{IsWitIntrinsic, WitIntrinsic, no_task_r
 use Rattle.wc_names.proofs.SameButIndicesLemmas.{of_same_function, of_same_memory, func_types_same, same_kinds, val_types_same}
 use Rattle.wc_names.proofs.SearchLemmas.{first_carried, first_kind}
 
-abbrev import_of : List ℕ → List ℕ → ExternType → CoreImport
+abbrev pub import_of : List ℕ → List ℕ → ExternType → CoreImport
 import_of from name ty = record { from = from; name = name; ty = ty }
 
 abbrev function_of : List ℕ → List ℕ → FuncTypeValue → CoreFunction

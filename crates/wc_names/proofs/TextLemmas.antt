@@ -2,8 +2,6 @@
 use Rattle.std.proofs.Common.{◌≡◌, ◌≢◌, ℕ, zero, suc, List, [], ◌∷◌, ◌++◌, Option, Some, None, inl, inr, refl, sym, ap, ◌∙◌, subst, arith, append_assoc, codes, Bool, true, false, cond, nat_eq, eq-eqb}
 use Rattle.std.specs.Borrow.{Bor}
 use Rattle.std.specs.Option.{MatchOption, option_copied}
-use Rattle.std.specs.Str.{bytes_eq}
-use Rattle.std.proofs.lemmas.Slice.Eq.{bytes_eq-Decides}
 use Rattle.std.proofs.lemmas.List.{append_cancel_left, append_cancel_right}
 use Rattle.wc_read.specs.declared.types.ValType.{ValType}
 use Rattle.wc_read.specs.declared.types.ValType.TheVariants.{I32, I64, F32, F64, V128, FuncRef, ExternRef, FuncRefNonNull, ExternRefNonNull, TypeRef}
@@ -16,10 +14,6 @@ lacks_head c b bs lacks = lacks 0 (omega arith)
 
 pub lacks_tail : (c b : ℕ) (bs : List ℕ) → Lacks c (b ∷ bs) → Lacks c bs
 lacks_tail c b bs lacks i l = lacks (suc i) (omega arith)
-
--- texts that a comparison distinguishes
-pub texts_differ : (a b : List ℕ) → false ≡ bytes_eq a b → a ≢ b
-texts_differ a b h e = let t : false ≡ true = h ∙ (bytes_eq-Decides a b).1 e in let bad : ⊥ = cc t in bad
 
 pub lacks_cons : (c b : ℕ) (bs : List ℕ) → b ≢ c → Lacks c bs → Lacks c (b ∷ bs)
 lacks_cons c b bs other lacks zero l = other

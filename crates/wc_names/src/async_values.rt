@@ -89,7 +89,7 @@ fn operation_of(text: &str) -> Option<(Operation, &str)>
     None
 }
 
-/// What is between the brackets of a name: a future or stream, an operation, and which future or stream it is for.
+/// The parts of a name in brackets: a future or stream, an operation, and which future or stream it is for.
 fn bracketed(text: &str) -> Option<(AsyncValue, Operation, &str)>
     ensures { MatchOption result
         ((v : AsyncValue) (op : Operation) (which : List ℕ)

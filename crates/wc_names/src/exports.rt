@@ -1,19 +1,19 @@
-//! What a core module exports to its component.
+//! Exports of a core module to its component.
 
 use wc_read::MemoryType;
 use wc_resolve::{AbiVariant, InterfaceId, TypeId, WorldKey};
 
-/// What an export of a core module is, by its name.
+/// The meaning of a core module's export, by its name.
 #[derive(Debug, Drop)]
 pub enum Export {
     /// A function that the world exports: its key, its name, and how it is lifted.
     WorldFunc(WorldKey, String, AbiVariant),
-    /// What runs after a function of the world, of this key, has returned.
+    /// The post-return function of a function of the world, of this key.
     WorldFuncPostReturn(WorldKey),
     /// A function of an interface that the world exports: the interface's key and id, the function's name, and how it
     /// is lifted.
     InterfaceFunc(WorldKey, InterfaceId, String, AbiVariant),
-    /// What runs after a function of an interface has returned: the interface's key, and the function's name.
+    /// The post-return function of a function of an interface: the interface's key, and the function's name.
     InterfaceFuncPostReturn(WorldKey, String),
     /// The destructor of an exported resource.
     ResourceDtor(TypeId),
@@ -35,6 +35,6 @@ pub enum Export {
     InterfaceFuncCallback(WorldKey, String),
     /// The table of functions, from which threads are started.
     IndirectFunctionTable,
-    /// What is called as tasks begin and end.
+    /// The task hook: a function that is called as tasks begin and end.
     WasmTaskHook,
 }

@@ -1,4 +1,4 @@
-//! What a core module imports from its component.
+//! Imports of a core module from its component.
 
 ghost use Rattle.std.specs.Prelude.{◌≡◌, IfOk};
 ghost use Rattle.wc_names.specs.Payloads.{HasPayload, IsPayload};
@@ -95,7 +95,7 @@ impl PayloadInfo {
     }
 }
 
-/// What an import of a core module is, by its name: a function, a canonical built-in (component model, "Canonical
+/// The meaning of a core module's import, by its name: a function, a canonical built-in (component model, "Canonical
 /// built-ins"), or an item of another module of the component.
 #[derive(Debug, Drop)]
 pub enum Import {

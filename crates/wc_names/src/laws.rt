@@ -15,7 +15,7 @@ pub fn meanings_unique(resolve: &Resolve)
     resolve.well_formedness();
 }
 
-/// What an import of a core module names, in a world of the `Resolve`, is there: its function is usable
+/// An import of a core module, in a world of the `Resolve`, names only items that are there: its function is usable
 /// (`Resolve::has_function`) and under the key, or of the interface, that the import has; its interface is in range;
 /// its type is a resource; its payload's type is a future or a stream (`PayloadInfo::payload`). It does nothing when
 /// it runs.
@@ -31,7 +31,7 @@ pub fn exports_unique()
     ensures { ExportsUnique }
 {}
 
-/// What an export of a core module is for, in a world of the `Resolve`, is there: its function is usable
+/// An export of a core module, in a world of the `Resolve`, is for an item that is there: its function is usable
 /// (`Resolve::has_function`) and exported under the key that the export has, or of the interface that is; its type is a
 /// resource. It does nothing when it runs.
 pub fn exports_in_range(resolve: &Resolve)
@@ -40,15 +40,15 @@ pub fn exports_in_range(resolve: &Resolve)
     resolve.well_formedness();
 }
 
-/// What an import of a core module means does not depend on the indices by which its type names types of the module:
-/// where it means something, it means that with other indices too. A signature that a name fixes names no types. It does
-/// nothing when it runs.
+/// The meaning of a core module's import does not depend on the indices by which its type names types of the module:
+/// where it means something, it means that with other indices too. A signature that a name fixes names no types. It
+/// does nothing when it runs.
 pub fn meanings_alike()
     ensures meaning { MeaningsAlike }
     ensures signature { SignaturesPlain }
 {}
 
-/// The same of what an export means for an export set. It does nothing when it runs.
+/// The meaning of an export for an export set does not depend on such indices either. It does nothing when it runs.
 pub fn exports_alike()
     ensures meaning { ExportsAlike }
     ensures signature { ExportSignaturesPlain }

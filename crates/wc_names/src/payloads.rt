@@ -80,7 +80,7 @@ impl<'a> PayloadLookupContext<'a> {
         }
     }
 
-    /// What the world imports (`imported`) or exports.
+    /// The imports of the world (`imported`), or its exports.
     fn items(&self) -> &Map<WorldKey, WorldItem>
         ensures { map world_entry result.now.entries
             ≡ world_entries (world_view self.now.world.now) self.now.imported }

@@ -9,14 +9,14 @@ ghost use Rattle.wc_names.specs.Texts.{IsChoice, IsSlot, IsSplitAtFirst, Lacks, 
 use wc_read::ValType;
 use wc_texts::strip_prefix;
 
-/// What comes before an end.
+/// The part of a name before a suffix, if the name ends with it.
 pub(crate) fn before<'a>(name: &'a str, last: &str) -> Option<&'a str>
     ensures { Finds (option_copied result) (λ (rest : List ℕ). name.now ≡ rest ++ last.now) }
 {
     name.strip_suffix(last)
 }
 
-/// What comes between a beginning and an end.
+/// The part of a name between a prefix and a suffix, if the name has both.
 pub(crate) fn between<'a>(name: &'a str, first: &str, last: &str) -> Option<&'a str>
     ensures { Finds (option_copied result)
         (λ (rest : List ℕ). name.now ≡ first.now ++ (rest ++ last.now)) }

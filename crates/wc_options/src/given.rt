@@ -1,4 +1,4 @@
-//! What arguments give: the values of an option, and the texts that are no options.
+//! The parts of arguments: the values of an option, and the texts that are no options.
 
 ghost use Rattle.std.specs.Prelude.{◌≡◌, ◌++◌, IfOk, OnOk, length, map};
 ghost use Rattle.std.specs.Option.{option_map};

@@ -1,4 +1,4 @@
-//! What arguments are read as, one after another.
+//! The reading of arguments, one after another.
 
 ghost use Rattle.std.specs.Prelude.{◌≡◌, IfErr, OnOk, Ok};
 ghost use Rattle.std.specs.Option.{option_map};
@@ -10,7 +10,7 @@ use crate::given::{is_given, text_count};
 use crate::table::{ProgramOption, Value, option_named};
 use crate::wrong::{NoCommand, WrongArgument};
 
-/// What the next argument is.
+/// The kinds of argument that may come next.
 #[derive(Clone, Copy)]
 pub(crate) enum Mode<'a> {
     /// Any argument.
@@ -21,7 +21,7 @@ pub(crate) enum Mode<'a> {
     Ended,
 }
 
-/// What an argument says.
+/// The meaning of an argument: a text or an option.
 #[derive(Clone, Copy)]
 pub(crate) enum Token<'a> {
     /// A text that is no option.
@@ -134,7 +134,7 @@ fn comes_again(table: &[ProgramOption], before: &[String], name: &str) -> bool
     }
 }
 
-/// What the next argument says, if it is not read with the one after it, and what this one is.
+/// Reads an argument: returns the mode of the argument after it, and its meaning, unless that one is its value.
 pub(crate) fn take_up<'a>(
     table: &[ProgramOption],
     mode: Mode<'a>,

@@ -4,7 +4,7 @@ ghost use Rattle.std.specs.Prelude.{◌≡◌, map};
 ghost use Rattle.std.specs.Option.{option_map};
 ghost use Rattle.wc_options.specs.Table.{option_named, option_view};
 
-/// What the value of an option is.
+/// The kind of an option's value.
 #[derive(Clone, Copy, Debug, PartialEq, Eq)]
 pub enum Value {
     /// It has none.
@@ -22,7 +22,7 @@ pub enum Value {
 pub struct ProgramOption {
     /// The name, which begins with `-`.
     pub name: &'static str,
-    /// What its value is.
+    /// The kind of its value.
     pub value: Value,
     /// Whether it may come several times.
     pub repeats: bool,

@@ -7,7 +7,7 @@ ghost use Rattle.wc_texts.specs.Pieces.{IsPut};
 use crate::table::ProgramOption;
 use wc_texts::{FaultText, Pieces, PutFailed};
 
-/// What a program says of its arguments.
+/// The usage and help texts of a program.
 #[derive(Clone, Copy)]
 pub struct Page<'a> {
     /// How the usage text begins, up to the options.
@@ -53,7 +53,7 @@ impl FaultText for Help<'_> {
 pub struct WrongCall<'a> {
     /// How the line begins, as `wcplan: `.
     pub start: &'a str,
-    /// What is wrong.
+    /// The mistake.
     pub text: &'a str,
     /// The page.
     pub page: Page<'a>,
@@ -68,7 +68,7 @@ impl FaultText for WrongCall<'_> {
     }
 }
 
-/// Puts what is wrong, the end of its line, and the usage text.
+/// Puts the mistake, the end of its line, and the usage text.
 fn put_rest<P: Pieces>(out: &mut P, text: &str, end: &str, page: Page<'_>) -> Result<(), PutFailed>
     ensures { IsPut P.puts P.fails out.old out.new
         (text.now ++ (end.now ++ usage_text page.entry)) result }

@@ -1,4 +1,4 @@
-//! Why there is no command, and the text that says what is wrong.
+//! The reasons why arguments make no command, and the texts of mistakes.
 
 ghost use Rattle.std.specs.Prelude.{◌≡◌, IfOk, string_bytes};
 ghost use Rattle.wc_json.specs.Escape.{escaped};
@@ -8,7 +8,7 @@ ghost use Rattle.wc_options.specs.declared.wrong.NoCommand.TheVariants.{Memory};
 use std::alloc::{AllocError, AllocFailed, Global};
 use wc_json::escaped;
 
-/// Why there is no command.
+/// The reason why arguments make no command.
 #[derive(Clone, Copy, Debug, PartialEq, Eq)]
 pub enum NoCommand<'a> {
     /// An allocation failed.

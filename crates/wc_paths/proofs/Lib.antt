@@ -1,3 +1,4 @@
+pub mod PathRootLemmas
 pub mod MarkLemmas
 pub mod SearchLemmas
 pub mod TreeLemmas

@@ -6,5 +6,6 @@ pub mod Counts
 pub mod Numbers
 pub mod Graph
 pub mod Roots
+pub mod PathRoots
 pub mod Paths
 pub mod Private

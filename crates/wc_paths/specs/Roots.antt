@@ -1,5 +1,5 @@
 -- The two lists of roots of a module, and the items of imports.
-use Rattle.std.specs.Prelude.{◌≡◌, ℕ, List, ◌++◌, map, length, take, count_by, Bool, true, false, filter, Some}
+use Rattle.std.specs.Prelude.{◌≡◌, ℕ, List, ◌++◌, map, length, take, count_by, Bool, true, false, filter, Option, Some}
 use Rattle.std.specs.List.{range_with_len, slice_get}
 use Rattle.std.specs.Option.{option_to_list, option_map, option_map_or}
 use Rattle.wc_read.specs.Exports.{ExportValue}
@@ -23,9 +23,13 @@ use Rattle.wc_paths.specs.declared.items.PathItem.TheVariants.{Item, Elements, D
 abbrev pub export_item : ExportValue → PathItem
 export_item e = space_item (exported_item e)
 
--- the items of exports, in the order of the file, and then the start function
+-- the items of some exports, and then the start function
+abbrev pub roots_of : List ExportValue → Option ℕ → List PathItem
+roots_of exports start = map export_item exports ++ option_to_list (option_map (λ n. Item Funcs n) start)
+
+-- the items of all exports, in the order of the file, and then the start function
 abbrev pub first_roots : ModuleValue → List PathItem
-first_roots m = map export_item m.exports ++ option_to_list (option_map (λ n. Item Funcs n) m.start)
+first_roots m = roots_of m.exports m.start
 
 -- whether a segment is active
 abbrev pub is_active : ModeValue → Bool

@@ -9,7 +9,7 @@ use crate::search::{Graph, SearchFault, find_all};
 use crate::tree::Tree;
 use std::alloc::{AllocError, Global};
 
-/// What roots reach in a graph, and where each item is in it.
+/// The items of a graph that roots reach, and the position of each item among them.
 #[derive(Drop)]
 pub struct Chains {
     tree: Tree,

@@ -1,4 +1,4 @@
-//! How many items there are of each kind, and items in one row.
+//! The number of items of each kind, and the numbering of all items in one row.
 
 ghost use Rattle.std.specs.Prelude.{◌≡◌, ◌<◌, ◌^◌, [], ◌∷◌, ◌++◌, IfOk, IfSome, OnOk, map, filter, true};
 ghost use Rattle.std.specs.List.{list_all};

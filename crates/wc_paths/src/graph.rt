@@ -96,7 +96,7 @@ fn is_closed_item(item: PathItem, code: bool, there: bool) -> bool
     }
 }
 
-/// Appends the items that an item names, and answers whether it is code, if it is a function.
+/// Appends the items that an item names, and returns whether it is code, if it is a function.
 fn put_items(
     names: &mut Vec<PathItem>,
     alloc: Global,
@@ -128,7 +128,7 @@ fn put_items(
     }
 }
 
-/// The same of an item of a space.
+/// Appends the items that an item of a space names, and returns whether it is code, if it is a function.
 fn put_space_item(
     names: &mut Vec<PathItem>,
     alloc: Global,

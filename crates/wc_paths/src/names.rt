@@ -1,4 +1,4 @@
-//! What the items of a module name.
+//! The items that each item of a module names.
 
 ghost use Rattle.std.specs.Prelude.{◌≡◌, ◌++◌, is_some, map, IfOk, OnOk};
 ghost use Rattle.std.specs.List.{flat_map};

@@ -13,7 +13,7 @@ ghost use Rattle.wc_segments.specs.Data.{data_value};
 ghost use Rattle.wc_segments.specs.Elements.{element_value};
 ghost use Rattle.wc_segments.specs.Modes.{mode_value};
 ghost use Rattle.wc_segments.specs.Segments.{segments_value};
-ghost use Rattle.wc_paths.specs.Roots.{AreImportItems, export_item, first_roots, is_active, is_active_data, is_active_element, import_space, second_roots};
+ghost use Rattle.wc_paths.specs.Roots.{AreImportItems, export_item, first_roots, is_active, is_active_data, is_active_element, import_space, roots_of, second_roots};
 ghost use Rattle.wc_paths.specs.Private.Roots.{count_in};
 ghost use Rattle.wc_paths.specs.declared.items.PathItem.TheVariants.{Item, Elements, Data};
 
@@ -43,8 +43,24 @@ pub fn export_item(export: &Export<'_>) -> PathItem
 pub fn first_roots(alloc: Global, module: &Module<'_>) -> Result<Vec<PathItem>, AllocError>
     ensures { IfOk result (λ v. v.items ≡ first_roots (module_value «module».now)) }
 {
-    let mut roots = export_items(alloc, &module.exports)?;
-    put_start(&mut roots, module.start)?;
+    roots_of(alloc, &module.exports, module.start)
+}
+
+/// The items of some exports, in their order, and then the start function: the first list of roots where paths begin at
+/// these exports.
+///
+/// # Errors
+///
+/// `AllocError`: an allocation failed.
+pub fn roots_of(
+    alloc: Global,
+    exports: &[Export<'_>],
+    start: Option<u32>,
+) -> Result<Vec<PathItem>, AllocError>
+    ensures { IfOk result (λ v. v.items ≡ roots_of (map export_value exports.now) start) }
+{
+    let mut roots = export_items(alloc, exports)?;
+    put_start(&mut roots, start)?;
     Ok(roots)
 }
 

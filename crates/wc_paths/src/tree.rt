@@ -1,4 +1,4 @@
-//! What a search finds, with the chains that lead there.
+//! The tree of a search: the items that it finds, with the chains that lead there.
 
 ghost use Rattle.std.specs.Prelude.{◌<◌, All, IfOk, length};
 ghost use Rattle.wc_gc.specs.ImportChains.{AreFinders, IsFinderChain};
@@ -6,8 +6,8 @@ ghost use Rattle.wc_paths.specs.Tree.{ArePlaces};
 
 use std::alloc::{AllocError, Global};
 
-/// What roots reach: the items in the order in which they were found, and for each the position there of its finder. A root
-/// is its own.
+/// The items that roots reach, in the order in which they were found, and for each the position there of its finder. A
+/// root is its own.
 #[derive(Debug, Drop)]
 pub struct Tree {
     pub order: Vec<usize>,

@@ -1,4 +1,4 @@
-//! Why a component's world has no plan.
+//! Faults of plans: the reasons why a component's world has no plan.
 
 ghost use Rattle.std.specs.Prelude.{◌≡◌, ◌≤◌};
 ghost use Rattle.wc_plan.specs.declared.fault.PlanFault.TheVariants.{Memory, Output};

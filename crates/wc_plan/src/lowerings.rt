@@ -1,4 +1,4 @@
-//! How functions are lowered, and what that needs.
+//! The lowerings of functions, and the canonical options that they need.
 
 ghost use Rattle.std.specs.Prelude.{◌≡◌, string_bytes};
 ghost use Rattle.std.specs.Option.{option_map};

@@ -1,4 +1,4 @@
-//! Where what a program prints goes.
+//! Outputs that a program prints to.
 
 ghost use Rattle.std.specs.Prelude.{◌≡◌, ℕ, List, Option, true, false, OnOk, OnErr};
 ghost use Rattle.std.specs.Io.KnownBytes.{Keeps};

@@ -1,4 +1,4 @@
-//! Where a program prints.
+//! Outputs that take a whole text in one call.
 
 ghost use Rattle.std.specs.Prelude.{ℕ, List, None, Option, OnErr, OnOk, Some};
 

@@ -19,11 +19,11 @@ impl FaultText for Text<'_> {
 /// A text with others before it and after it.
 #[derive(Clone, Copy)]
 pub struct TextBetween<'a, T> {
-    /// What is before the text.
+    /// The text before it.
     pub before: &'a str,
     /// The text.
     pub text: &'a T,
-    /// What is after the text.
+    /// The text after it.
     pub after: &'a str,
 }
 

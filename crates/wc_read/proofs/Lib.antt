@@ -25,6 +25,7 @@ pub mod CustomLemmas
 pub mod NamesLemmas
 pub mod NamesReadLemmas
 pub mod NamesUniqueLemmas
+pub mod NamesAtLemmas
 pub mod ProducersLemmas
 pub mod ProducersReadLemmas
 pub mod ModulesLemmas

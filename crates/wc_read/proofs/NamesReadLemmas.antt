@@ -118,7 +118,7 @@ sections_other id sections index front d a less none = rw append-nil at (one_mor
 abbrev pub entry : ℕ × Bor (List ℕ) → GlobalNameValue
 entry e = (e.0, e.1.now)
 
-entry_into : (es : List (ℕ × Bor (List ℕ))) (k : ℕ) (v : Bor (List ℕ)) → map entry (insert_entry nat_eq es k v) ≡ insert_entry nat_eq (map entry es) k v.now
+pub entry_into : (es : List (ℕ × Bor (List ℕ))) (k : ℕ) (v : Bor (List ℕ)) → map entry (insert_entry nat_eq es k v) ≡ insert_entry nat_eq (map entry es) k v.now
 entry_into [] k v = refl
 entry_into (e ∷ es) k v = by (nat_eq k e.0) (entry_into es k v)
   where

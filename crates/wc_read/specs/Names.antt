@@ -1,6 +1,7 @@
 -- Names of functions and of globals: the name section (WebAssembly core specification, 7.4.1), with the subsection of
 -- global names (extended name section proposal). A fault in it refuses nothing: it ends the names of that section.
-use Rattle.std.specs.Prelude.{◌≡◌, ◌≢◌, ℕ, ◌<◌, List, [], ◌∷◌, ◌++◌, length, map, nat_eq}
+use Rattle.std.specs.Prelude.{◌≡◌, ◌≢◌, ℕ, ◌<◌, Bool, List, [], ◌∷◌, ◌++◌, length, map, nat_eq}
+use Rattle.std.specs.List.{list_any}
 use denote.Ref.{Bor}
 use Rattle.indexmap.specs.IndexMap.{insert_all}
 use Rattle.indexmap.specs.Layout.{Rows}
@@ -76,3 +77,7 @@ global_names_of pairs = insert_all nat_eq [] pairs
 
 abbrev pub name_entries : Rows ℕ (Bor (List ℕ)) → List GlobalNameValue
 name_entries m = map (λ e. (e.0, e.1.now)) m.entries
+
+-- whether the index of a pair is among the wanted ones
+abbrev pub is_wanted : List ℕ → GlobalNameValue → Bool
+is_wanted wanted p = list_any (nat_eq p.0) wanted

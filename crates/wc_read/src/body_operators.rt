@@ -157,7 +157,7 @@ impl<'a> Operators<'a> {
         }
     }
 
-    /// The same for operators of all shapes.
+    /// The next operator, of any shape; `None` after the end of the body.
     #[inline(never)]
     fn next_of_any(&mut self, alloc: Global) -> Result<Option<Instr<'a>>, ReadFault>
         ensures found { IfOk result (λ i. operators_left self.old

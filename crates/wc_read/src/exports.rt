@@ -9,7 +9,7 @@ use crate::fault::ReadFault;
 use crate::reader::{Reader, Spelled};
 use std::alloc::Global;
 
-/// What is exported (WebAssembly core specification, 2.5.10): the index space that an export's index is in.
+/// The kind of an export (WebAssembly core specification, 2.5.10): the index space that its index is in.
 #[derive(Clone, Copy, Debug, PartialEq, Eq)]
 pub enum ExportKind {
     Func,

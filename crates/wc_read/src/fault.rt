@@ -1,4 +1,4 @@
-//! What can be wrong with bytes that are read.
+//! Faults of reading: the reasons why bytes are refused.
 
 ghost use Rattle.std.specs.Prelude.{◌≡◌, ◌≤◌};
 ghost use Rattle.wc_read.specs.declared.fault.ReadFault.TheVariants.{Memory};

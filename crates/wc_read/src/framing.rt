@@ -15,6 +15,12 @@ use std::alloc::Global;
 const COMPONENT_HEADER: &[u8] = b"\0asm\x0d\0\x01\0";
 
 impl<'a> Reader<'a> {
+    /// Reads a section (WebAssembly core specification, 5.5.2): its id, its size, and the bytes of its content.
+    ///
+    /// # Errors
+    ///
+    /// - `Truncated`: the bytes end inside it.
+    /// - `BadNumber`: its size is not a u32 in LEB128.
     #[tactic(auto, unfolding(crate::specs::Reading::Framing::section_at))]
     pub fn section(&mut self) -> Result<Section<'a>, ReadFault>
         ensures { GivesWithoutMemory (λ s. section_value s) result self.new.rest.now

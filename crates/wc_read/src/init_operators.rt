@@ -93,7 +93,7 @@ const REF_FUNC: u8 = 0xd2;
 pub struct InitIndex {
     /// The code of the operator.
     pub code: u8,
-    /// What it names.
+    /// The index of the item that it names.
     pub index: Index,
 }
 

@@ -1,4 +1,4 @@
-//! What initialisers leave.
+//! The values that initialisers leave, by their types.
 
 ghost use Rattle.std.specs.Prelude.{◌≡◌, ◌⊎◌, ◌↔◌, ◌<◌, ◌-◌, ◌^◌, Some, IfOk, IfErr, IsTrue};
 ghost use Rattle.wc_read.specs.Fault.{IfRefused};
@@ -19,7 +19,7 @@ use crate::reader::Reader;
 use crate::types::ValType;
 use std::alloc::Global;
 
-/// What an initialiser may name (WebAssembly core specification, 3.3.10).
+/// The items that an initialiser may name (WebAssembly core specification, 3.3.10).
 #[derive(Drop)]
 pub struct Scope<'a> {
     /// How many types there are.
@@ -30,7 +30,7 @@ pub struct Scope<'a> {
     pub globals: &'a [items::Global<'a>],
 }
 
-/// What an operator of an initialiser does.
+/// The effect of an operator of an initialiser.
 #[derive(Clone, Copy, Debug, PartialEq, Eq)]
 enum InitStep {
     /// It ends it.
@@ -166,7 +166,7 @@ fn is_one(scope: &Scope<'_>, ty: ValType, named: InitIndex) -> bool
     }
 }
 
-/// The same for initialisers of any operators. There is a byte at least to each operator.
+/// Whether an initialiser of any operators leaves one value of a type. There is a byte at least to each operator.
 #[inline(never)]
 fn leaves_one_of_any(
     alloc: Global,
@@ -210,7 +210,7 @@ fn next_step(
     }
 }
 
-/// The same for operators of all shapes.
+/// Goes past an operator of any shape.
 #[inline(never)]
 #[tactic(auto, unfolding(crate::specs::Reading::InitTypes::step_at))]
 fn rarer_step(

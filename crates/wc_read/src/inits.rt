@@ -20,8 +20,8 @@ pub struct Init<'a> {
     pub operators: Vec<Instr<'a>>,
 }
 
-/// What of a value type decides whether an initialiser fits a global: of a reference type only whether it refers to
-/// functions or to values of the host.
+/// The class of a value type, which decides whether an initialiser fits a global: of a reference type only whether it
+/// refers to functions or to values of the host.
 #[derive(Clone, Copy, Debug, PartialEq, Eq)]
 pub enum ValueClass {
     I32,
@@ -35,7 +35,7 @@ pub enum ValueClass {
     Extern,
 }
 
-/// What a constant operator gives.
+/// The result of a constant operator.
 #[derive(Clone, Copy, Debug, PartialEq, Eq)]
 pub enum Constant {
     /// A value of the type.
@@ -44,7 +44,7 @@ pub enum Constant {
     Null,
     /// A reference of the function that it names.
     Func,
-    /// What the global that it names holds.
+    /// The value of the global that it names.
     Global,
     /// An integer of the type, out of two.
     Integer(ValType),
@@ -171,7 +171,7 @@ impl<'a> Reader<'a> {
         }
     }
 
-    /// The same for operators of all shapes.
+    /// An operator of an initialiser, of any shape.
     #[inline(never)]
     #[tactic(auto, unfolding(crate::specs::Reading::Inits::init_instr_at))]
     fn rarer_init_operator(&mut self, alloc: Global) -> Result<Instr<'a>, ReadFault>

@@ -2,7 +2,7 @@
 //! (`frames`), the content of an import section (`read_imports`), the body of a function
 //! (`read_body`), an initialiser (`read_init`).
 //!
-//! What is read is a value that all of the bytes spell; names and contents are slices of the bytes.
+//! A function that reads returns a value that all of the bytes spell; names and contents are slices of the bytes.
 //! A `ReadFault` other than `Memory` comes only where the bytes spell no such value.
 //!
 //! ```rust
@@ -88,7 +88,7 @@ pub use init_types::{Scope, has_type_index, is_typed_init};
 pub use inits::{Init, read_init};
 pub use items::{Def, Func, Global, Item, Memory, Table};
 pub use modules::read_module;
-pub use names::function_names;
+pub use names::{function_names, function_names_at};
 pub use operators::{
     BlockType, Form, Immediates, Index, IndexKind, Instr, MemArg, Opcode, Refs, Space, form_of,
 };

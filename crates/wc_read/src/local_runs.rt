@@ -10,8 +10,8 @@ use crate::text_sizes::{are_bytes, is_shortest};
 use crate::types::ValType;
 
 impl<'a> Reader<'a> {
-    /// Goes past the runs of a body's locals (5.5.13), and answers whether their bytes are their text, and no type of them
-    /// names another. Most bodies have short runs alone.
+    /// Goes past the runs of a body's locals (5.5.13), and returns whether their bytes are their text, and no type of
+    /// them names another. Most bodies have short runs alone.
     pub fn pass_locals(&mut self) -> Result<bool, ReadFault>
         ensures { PassesLocals result self.old.rest.now self.new.rest.now }
     {
@@ -24,7 +24,7 @@ impl<'a> Reader<'a> {
         }
     }
 
-    /// The same for runs of all kinds.
+    /// Goes past runs of any kind, and returns whether their bytes are their text, and no type of them names another.
     #[inline(never)]
     fn pass_any_locals(&mut self) -> Result<bool, ReadFault>
         ensures { PassesLocals result self.old.rest.now self.new.rest.now }
@@ -43,7 +43,7 @@ impl<'a> Reader<'a> {
         Ok(is_text)
     }
 
-    /// Goes past a run of locals, and answers how many they are, and whether its bytes are its text and its type names
+    /// Goes past a run of locals, and returns how many they are, and whether its bytes are its text and its type names
     /// none.
     #[inline(always)]
     #[tactic(auto, unfolding(crate::specs::Reading::Bodies::locals_at))]
@@ -70,7 +70,7 @@ impl<'a> Reader<'a> {
     }
 }
 
-/// What is left after the runs of a body's locals, where their count, and the count and the type of each, is one byte.
+/// The bytes after the runs of a body's locals, where their count, and the count and the type of each, is one byte.
 #[inline(always)]
 fn after_short_runs(input: &[u8]) -> Option<&[u8]>
     ensures { IfSome result (λ rest. PassesLocals (Ok true) input.now rest.now) }
@@ -86,7 +86,7 @@ fn after_short_runs(input: &[u8]) -> Option<&[u8]>
     Some(rest)
 }
 
-/// What is left after a run of locals, where its count and its type is one byte.
+/// The bytes after a run of locals, where its count and its type is one byte.
 #[inline(always)]
 fn after_short_run(input: &[u8]) -> Option<&[u8]>
     ensures { IfSome result (λ rest. IsShortRun input.now rest.now) }

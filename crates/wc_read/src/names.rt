@@ -1,9 +1,11 @@
 //! Names of functions and of globals, out of name sections.
 
-ghost use Rattle.std.specs.Prelude.{◌≡◌, ◌↔◌, IfOk, IfErr, IsErrOf};
+ghost use Rattle.std.specs.Prelude.{◌≡◌, ◌↔◌, ℕ, IfOk, IfErr, IsErrOf, nat_eq};
+ghost use Rattle.std.specs.List.{list_any};
+ghost use Rattle.std.specs.Map.{keys_of};
 ghost use Rattle.wc_read.specs.Fault.{IfRefused, SpellsNothing};
 ghost use Rattle.wc_read.specs.Names.{GlobalNameValue, NamesUnder, AllNamesUnder, name_entries};
-ghost use Rattle.wc_read.specs.Reading.Names.{global_name_value, global_name_at, PairsOf, AreNamesUnder, AreGlobalNames, AreFunctionNames, named_pairs};
+ghost use Rattle.wc_read.specs.Reading.Names.{global_name_value, global_name_at, PairsOf, AreNamesUnder, AreGlobalNames, AreFunctionNames, AreFunctionNamesAt, AreNamesAt, named_pairs};
 ghost use Rattle.wc_read.specs.Sections.{section_values, SpellsFrames, IsComponent};
 
 use crate::custom::content_after_name;
@@ -11,7 +13,7 @@ use crate::fault::ReadFault;
 use crate::framing::frames;
 use crate::reader::{Reader, Spelled};
 use crate::sections::Section;
-use std::alloc::Global;
+use std::alloc::{AllocError, Global};
 use wc_maps::OrderedMap;
 
 /// The subsection of names of functions.
@@ -87,6 +89,67 @@ pub fn function_names(alloc: Global, bytes: &[u8]) -> Result<OrderedMap<u32, &st
 {
     let frames = frames(alloc, bytes)?;
     names_under(alloc, &frames.sections, FUNCTION_NAMES)
+}
+
+/// The names of the wanted functions alone: those of `function_names` whose index is among the wanted ones, in the order
+/// that they have there. The wanted indices come in any order, repeated or not, and may be past the last function. The
+/// name sections are read once, with no map of all names.
+///
+/// # Errors
+///
+/// Those of `function_names`.
+pub fn function_names_at<'a>(
+    alloc: Global,
+    bytes: &'a [u8],
+    wanted: &[u32],
+) -> Result<OrderedMap<u32, &'a str>, ReadFault>
+    ensures found { IfOk result (λ m. AreFunctionNamesAt bytes.now wanted.now (name_entries m)) }
+    // Unless memory runs out, there are names of all bytes that spell sections.
+    ensures refused { IfRefused result (SpellsNothing SpellsFrames bytes.now) }
+    ensures component { IsErrOf result ReadFault.Component ↔ IsComponent bytes.now }
+{
+    let cut = frames(alloc, bytes)?;
+    let wanted = indices_of(alloc, wanted)?;
+    names_at(alloc, &cut.sections, &wanted)
+}
+
+/// These indices, each once, ready to look for.
+fn indices_of(alloc: Global, indices: &[u32]) -> Result<OrderedMap<u32, ()>, AllocError>
+    ensures { IfOk result (λ m. (i : ℕ) →
+        list_any (nat_eq i) (keys_of m.entries) ≡ list_any (nat_eq i) indices.now) }
+{
+    let mut set = OrderedMap::new(alloc);
+    for index in indices {
+        set.insert(*index, ())?;
+    }
+    Ok(set)
+}
+
+/// Whether an index is among these.
+fn has_index(indices: &OrderedMap<u32, ()>, index: u32) -> bool
+    ensures { result ≡ list_any (nat_eq index) (keys_of indices.now.entries) }
+{
+    indices.get(&index).is_some()
+}
+
+/// The names of functions that subsections give, of the wanted indices alone.
+fn names_at<'a>(
+    alloc: Global,
+    sections: &[Section<'a>],
+    wanted: &OrderedMap<u32, ()>,
+) -> Result<OrderedMap<u32, &'a str>, ReadFault>
+    ensures found { IfOk result (λ m. AreNamesAt (keys_of wanted.now.entries)
+        (section_values sections.now) (name_entries m)) }
+    ensures memory { IfErr result (λ e. e ≡ ReadFault.Memory) }
+{
+    let pairs = all_pairs(alloc, sections, FUNCTION_NAMES)?;
+    let mut names = OrderedMap::new(alloc);
+    for named in &pairs {
+        if has_index(wanted, named.index) {
+            names.insert(named.index, named.name)?;
+        }
+    }
+    Ok(names)
 }
 
 /// The names that subsections of this id give.

@@ -29,7 +29,7 @@ pub enum Space {
     Globals,
 }
 
-/// What an index counts: items of a space, segments, or locals and labels of the body (2.5.1).
+/// The kind of an index: it counts items of a space, segments, or locals or labels of the body (2.5.1).
 #[derive(Clone, Copy, Debug, PartialEq, Eq)]
 pub enum IndexKind {
     /// Items of a space of the module.
@@ -68,7 +68,7 @@ pub struct MemArg {
     pub offset: u64,
 }
 
-/// What is after an operator's code (5.4), in one of the shapes of `Form`.
+/// The immediates of an operator, which come after its code (5.4), in one of the shapes of `Form`.
 #[derive(Debug, PartialEq, Eq, Drop)]
 pub enum Immediates<'a> {
     None,

@@ -1,4 +1,4 @@
-//! How operators are passed over, by their codes: one table.
+//! The table of operators' codes by which operators are passed over.
 
 ghost use Rattle.std.specs.Prelude.{◌≡◌};
 ghost use Rattle.wc_read.specs.PassKinds.{begins_run, is_ever, pass_kind, short_size};

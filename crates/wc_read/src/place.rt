@@ -1,4 +1,4 @@
-//! Where the bytes of a refused module stop to be right.
+//! The place where the bytes of a refused module stop to be right.
 
 ghost use Rattle.std.specs.Prelude.{◌≡◌, ◌≢◌, ◌≤◌, ◌++◌, ◌↔◌, length, None, IfOk, IfErr};
 ghost use Rattle.wc_read.specs.Fault.{SpellsNothing};
@@ -25,7 +25,7 @@ use wc_texts::Refused;
 /// The first half of a header, which modules and components share.
 const MAGIC: &[u8] = b"\0asm";
 
-/// Where bytes stop to be right.
+/// The place where bytes stop to be right.
 #[derive(Clone, Copy, Debug, PartialEq, Eq)]
 pub struct ReadPlace {
     /// How many bytes are before it, from the start of the module.

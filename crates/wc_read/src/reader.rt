@@ -48,7 +48,8 @@ fn few_digits(input: &[u8]) -> Option<(u64, &[u8])>
     Some((four + (u64::from(*fifth) << (4 * GROUP_BITS)), after_fifth))
 }
 
-/// What is left to be read. After a fault, no clause says what is left; where the fault is comes from it (`stops`).
+/// A reader: the bytes that are left to be read. After a fault no clause says which these are; the place of the fault
+/// is found by them (`stops`).
 #[derive(Drop)]
 pub struct Reader<'a> {
     pub rest: &'a [u8],
@@ -62,17 +63,25 @@ pub trait Spelled<'a>: Sized {
 
     ghost read: { List ℕ → Option (Value × List ℕ) };
 
+    /// Reads an item, after those that were read.
+    ///
+    /// # Errors
+    ///
+    /// - `Memory`: an allocation failed.
+    /// - Any other: what is left does not begin with such an item.
     fn read_from(alloc: Global, reader: &mut Reader<'a>) -> Result<Self, ReadFault>
         ensures { Gives view result reader.new.rest.now (read reader.old.rest.now) };
 }
 
 impl<'a> Reader<'a> {
+    /// A reader of these bytes, from the first on.
     pub fn new(rest: &'a [u8]) -> Reader<'a>
         ensures { result.rest.now ≡ rest.now }
     {
         Reader { rest }
     }
 
+    /// Reads a byte; the fault is `Truncated` where none is left.
     pub fn byte(&mut self) -> Result<u8, ReadFault>
         ensures { GivesWithoutMemory (λ x. x) result
             self.new.rest.now (byte_at self.old.rest.now) }
@@ -86,6 +95,7 @@ impl<'a> Reader<'a> {
         }
     }
 
+    /// Reads so many bytes; the fault is `Truncated` where fewer are left, and then none is read.
     pub fn bytes(&mut self, count: usize) -> Result<&'a [u8], ReadFault>
         ensures { GivesWithoutMemory (λ x. x.now) result self.new.rest.now
             (bytes_at count self.old.rest.now) }
@@ -163,6 +173,12 @@ impl<'a> Reader<'a> {
         }
     }
 
+    /// Reads an unsigned number of 32 bits in LEB128 (WebAssembly core specification, 5.2.2).
+    ///
+    /// # Errors
+    ///
+    /// - `Truncated`: the bytes end inside it.
+    /// - `BadNumber`: it has more than 32 bits, or more than five bytes.
     #[inline(always)]
     pub fn u32(&mut self) -> Result<u32, ReadFault>
         ensures { GivesWithoutMemory (λ x. x) result self.new.rest.now
@@ -172,6 +188,13 @@ impl<'a> Reader<'a> {
         Ok(number as u32)
     }
 
+    /// Reads a name (5.2.4): its size, and so many bytes of UTF-8.
+    ///
+    /// # Errors
+    ///
+    /// - `Truncated`: the bytes end inside it.
+    /// - `BadNumber`: its size is not a u32 in LEB128.
+    /// - `BadName`: its bytes are not UTF-8.
     #[inline(always)]
     #[tactic(auto, using(crate::proofs::TextLemmas::text), unfolding(crate::specs::Reading::Reader::name_at))]
     pub fn name(&mut self) -> Result<&'a str, ReadFault>

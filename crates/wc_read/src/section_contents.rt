@@ -18,7 +18,7 @@ use crate::sections::Section;
 use crate::types::{FuncType, Import, MemoryType, TableType};
 use std::alloc::Global;
 
-/// What a module's sections hold (WebAssembly core specification, 5.5.4 to 5.5.13), nothing where a section is
+/// The contents of a module's sections (WebAssembly core specification, 5.5.4 to 5.5.13), nothing where a section is
 /// not there.
 #[derive(Drop)]
 pub struct SectionContents<'a> {

@@ -1,7 +1,6 @@
 //! A module's header, and its sections as frames.
 
-/// What a module begins with (WebAssembly core specification, 5.5.16): the magic `\0asm`, and the
-/// version 1.
+/// The header that a module begins with (WebAssembly core specification, 5.5.16): the magic `\0asm`, and the version 1.
 pub const MODULE_HEADER: &[u8] = b"\0asm\x01\0\0\0";
 
 /// A section (WebAssembly core specification, 5.5.2): its id, 0 to 255, and its content as a slice of the module's

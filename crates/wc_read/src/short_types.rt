@@ -10,7 +10,7 @@ use crate::types::ValType;
 pub const SHORT: usize = 4;
 
 /// The types of a few parameters and results (WebAssembly core specification, 2.3.6).
-#[derive(Clone, Copy, Debug, PartialEq, Eq)]
+#[derive(Clone, Copy, PartialEq, Eq)]
 pub struct ShortTypes {
     /// The types of the parameters, after them those of the results, and I32 in each place that is left.
     pub types: [ValType; SHORT],

@@ -65,7 +65,7 @@ impl ItemType for GlobalType {
     }
 }
 
-/// What a defined item holds.
+/// The content of a defined item.
 pub trait Content: Sized {
     ghost Value: { Type 0 };
 

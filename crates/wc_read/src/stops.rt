@@ -1,4 +1,4 @@
-//! Where the reading of a section of a refused module stops, in its content.
+//! The place where the reading of a section of a refused module stops, in its content.
 
 ghost use Rattle.std.specs.Prelude.{◌≡◌, ◌≤◌, ◌-◌, length, IfOk, IfSome};
 
@@ -19,10 +19,10 @@ use crate::types::{FuncType, Import, MemoryType, TableType};
 use crate::validity::section_outside;
 use std::alloc::{AllocError, Global};
 
-/// What is looked for in a module that is refused.
+/// The fault whose place is looked for in a module that is refused.
 #[derive(Clone, Copy)]
 pub struct Sought {
-    /// The fault that reading answered.
+    /// The fault that reading returned.
     pub fault: ReadFault,
     /// The id of the section at fault, where each item is right by itself.
     pub invalid: Option<u8>,

@@ -1,4 +1,4 @@
-//! How many bytes numbers and other immediates have, where these bytes are their text: where no fewer spell them.
+//! The sizes of numbers and other immediates in bytes, where these bytes are their text: where no fewer spell them.
 
 ghost use Rattle.std.specs.Prelude.{◌≡◌, ◌<◌, ◌≤◌, true, false, All, IfSome};
 ghost use Rattle.wc_read.specs.Reading.Reader.{number_at, bytes_at};
@@ -29,7 +29,7 @@ pub fn number_size(input: &[u8], bits: u32) -> Option<usize>
     long_number_size(input, bits)
 }
 
-/// The same for a number of any length.
+/// How many bytes an unsigned number of any length has, where no fewer spell it.
 #[inline(never)]
 fn long_number_size(input: &[u8], bits: u32) -> Option<usize>
     requires some { 7 ≤ bits }
@@ -75,7 +75,7 @@ pub fn signed_size(input: &[u8], bits: u32) -> Option<usize>
     long_signed_size(input, bits)
 }
 
-/// The same for a signed number of any length.
+/// How many bytes a signed number of any length has, where no fewer spell it.
 #[inline(never)]
 fn long_signed_size(input: &[u8], bits: u32) -> Option<usize>
     requires some { 7 ≤ bits }

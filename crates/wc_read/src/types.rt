@@ -13,6 +13,7 @@ use crate::fault::ReadFault;
 use crate::reader::{Reader, Spelled};
 use crate::short_types::ShortTypes;
 use std::alloc::{AllocError, Global};
+use std::fmt::{self, Debug, Formatter};
 
 /// A value type (2.3.1 to 2.3.4, and the proposal of typed function references): a number of 32 or 64 bits, a
 /// vector of 128 bits, or a reference. References to functions are of any type or of one, by its index among the
@@ -80,7 +81,7 @@ impl MemoryType {
 /// In a module that was read, no maximum is below the minimum, and both are below 2^32 where the table is not 64-bit.
 #[derive(Clone, Copy, Debug, PartialEq, Eq)]
 pub struct TableType {
-    /// What the elements are: references in a module that was read.
+    /// The type of the elements: a reference type in a module that was read.
     pub element_type: ValType,
     /// Whether indices of elements have 64 bits; else they have 32.
     pub table64: bool,
@@ -97,8 +98,8 @@ pub struct GlobalType {
     pub mutable: bool,
 }
 
-/// What is imported (2.3.11 and 2.5.11): a function by the index of its type among the module's types, or another item
-/// by its type.
+/// The type of an import (2.3.11 and 2.5.11): of a function the index of its type among the module's types, of another
+/// item its own type.
 #[derive(Clone, Copy, Debug, PartialEq, Eq)]
 pub enum ImportType {
     Func(u32),
@@ -118,13 +119,13 @@ pub struct Import<'a> {
 }
 
 /// A function type (2.3.6): a function's parameters and results.
-#[derive(Debug, PartialEq, Eq, Drop)]
+#[derive(PartialEq, Eq, Drop)]
 pub struct FuncType {
     types: FuncTypes,
 }
 
 /// The types of parameters and results. Most are few, which take no memory of their own.
-#[derive(Debug, PartialEq, Eq, Drop)]
+#[derive(PartialEq, Eq, Drop)]
 enum FuncTypes {
     Short(ShortTypes),
     /// More than `Short` holds.
@@ -180,7 +181,7 @@ impl FuncType {
         }
     }
 
-    /// The same function type in new memory.
+    /// Copies this function type into new memory.
     ///
     /// # Errors
     ///
@@ -198,6 +199,15 @@ impl FuncType {
                 })
             }
         }
+    }
+}
+
+impl Debug for FuncType {
+    fn fmt<W: fmt::Write>(&self, f: &mut Formatter<W>) -> fmt::Result {
+        f.debug_struct("FuncType")
+            .field("params", &self.params())
+            .field("results", &self.results())
+            .finish()
     }
 }
 
@@ -258,7 +268,7 @@ impl<'a> Reader<'a> {
         }
     }
 
-    /// What references refer to, after whether null is among them.
+    /// The rest of a reference type: its heap type, after the byte that says whether null is among its values.
     #[inline(never)]
     #[tactic(auto, unfolding(crate::specs::Reading::Types::reference_at))]
     pub fn reference(&mut self, nullable: bool) -> Result<ValType, ReadFault>

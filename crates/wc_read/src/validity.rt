@@ -1,4 +1,4 @@
-//! What holds of a module beside its sections (WebAssembly core specification, 3.4).
+//! The validity of a module beside that of its sections (WebAssembly core specification, 3.4).
 
 ghost use Rattle.std.specs.Prelude.{◌≡◌, ◌≢◌, ◌<◌, ◌↔◌, length, IfOk, IfErr, IsTrue, ◌&&◌, Some, nat_lt};
 ghost use Rattle.std.specs.List.{list_all, slice_get};

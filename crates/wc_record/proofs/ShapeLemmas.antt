@@ -92,6 +92,11 @@ pub rest_next : {A B : Type 0} {a b c : Written} {all : List Json} (x : A) (xs y
     → PutsRest a b all (map json (map view xs)) → PutsJson b c (json (view x)) → PutsRest a c all (map json (map view ys))
 rest_next {A} {B} {a} {b} {c} {all} x xs ys view json e p q = rest_more (subst (λ zs. PutsRest a b all (map json (map view zs))) e p) q
 
+-- the next value is written as it is
+pub rest_next_same : {B : Type 0} {a b c : Written} {all : List Json} (x : B) (xs ys : List B) (json : B → Json) → xs ≡ x ∷ ys → PutsRest a b all (map json xs)
+    → PutsJson b c (json x) → PutsRest a c all (map json ys)
+rest_next_same {B} {a} {b} {c} {all} x xs ys json e p q = rest_more (subst (λ zs. PutsRest a b all (map json zs)) e p) q
+
 pub rest_written : {E : Type 0} {a b : Written} {all : List Json} (rest : List Json) (d : Written) (r : Result (Unit {0}) E) → rest ≡ []
     → PutsRest a b all rest → OnOk r (Puts b d (end_array ∷ [])) → OnOk r (PutsJson a d (array_of all))
 unfolding array_of

@@ -4,7 +4,9 @@ use Rattle.json.specs.Json.{Json, boolean, string}
 use Rattle.wc_read.specs.Exports.{export_kind_name}
 use Rattle.wc_read.specs.Types.{FuncTypeValue}
 use Rattle.wc_read.specs.declared.exports.ExportKind.{ExportKind}
+use Rattle.wc_read.specs.declared.types.GlobalType.{GlobalType}
 use Rattle.wc_read.specs.declared.types.MemoryType.{MemoryType}
+use Rattle.wc_read.specs.declared.types.TableType.{TableType}
 use Rattle.wc_read.specs.declared.types.ValType.{ValType}
 use Rattle.wc_read.specs.declared.types.ValType.TheVariants.{I32, I64, F32, F64, V128, FuncRef, ExternRef, FuncRefNonNull, ExternRefNonNull, TypeRef}
 use Rattle.wc_json.specs.Shapes.{array_of, nullable_json, number_json, object_of}
@@ -31,6 +33,16 @@ memory_type_json m =
     (codes "memory64", boolean m.memory64) ∷ (codes "shared", boolean m.shared) ∷ (codes "initial", number_json m.initial)
     ∷ (codes "maximum", nullable_json number_json m.maximum) ∷ (codes "page_size_log2", nullable_json number_json m.page_size_log2) ∷ []
     )
+
+abbrev pub table_type_json : TableType → Json
+table_type_json t =
+    object_of (
+    (codes "element_type", val_type_json t.element_type) ∷ (codes "table64", boolean t.table64)
+    ∷ (codes "initial", number_json t.initial) ∷ (codes "maximum", nullable_json number_json t.maximum) ∷ []
+    )
+
+abbrev pub global_type_json : GlobalType → Json
+global_type_json g = object_of ((codes "content_type", val_type_json g.content_type) ∷ (codes "mutable", boolean g.mutable) ∷ [])
 
 abbrev pub export_kind_json : ExportKind → Json
 export_kind_json k = string (export_kind_name k)

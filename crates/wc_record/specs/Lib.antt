@@ -9,6 +9,7 @@ pub mod Modules
 pub mod Places
 pub mod Plans
 pub mod Objects
+pub mod Scans
 pub mod Texts
 pub mod Wit
 pub mod Worlds

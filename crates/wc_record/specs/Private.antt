@@ -2,3 +2,4 @@
 pub mod Used
 pub mod Contexts
 pub mod ListedInterfaces
+pub mod Scans

@@ -9,7 +9,7 @@ use crate::objects::{begin_object, end_object, put_list_member, put_member};
 use crate::to_json::ToJson;
 use json::Writer;
 use std::alloc::AllocError;
-use wc_read::{ExportKind, FuncType, MemoryType, ValType};
+use wc_read::{ExportKind, FuncType, GlobalType, MemoryType, TableType, ValType};
 
 /// Writes the type of references to functions of a type.
 fn put_type_ref(out: &mut Writer, nullable: bool, index: u32) -> Result<(), AllocError>
@@ -82,6 +82,44 @@ impl ToJson for MemoryType {
         put_member(out, "initial", &self.initial)?;
         put_member(out, "maximum", &self.maximum)?;
         put_member(out, "page_size_log2", &self.page_size_log2)?;
+        end_object(out)
+    }
+}
+
+impl ToJson for TableType {
+    ghost use Rattle.wc_read.specs.declared.types.TableType.{TableType as table_type};
+    ghost use Rattle.wc_record.specs.CoreTypes.{table_type_json};
+
+    ghost View = { table_type };
+
+    ghost view = { λ t. t };
+
+    ghost json = { table_type_json };
+
+    fn write(&self, out: &mut Writer) -> Result<(), AllocError> {
+        begin_object(out)?;
+        put_member(out, "element_type", &self.element_type)?;
+        put_member(out, "table64", &self.table64)?;
+        put_member(out, "initial", &self.initial)?;
+        put_member(out, "maximum", &self.maximum)?;
+        end_object(out)
+    }
+}
+
+impl ToJson for GlobalType {
+    ghost use Rattle.wc_read.specs.declared.types.GlobalType.{GlobalType as global_type};
+    ghost use Rattle.wc_record.specs.CoreTypes.{global_type_json};
+
+    ghost View = { global_type };
+
+    ghost view = { λ g. g };
+
+    ghost json = { global_type_json };
+
+    fn write(&self, out: &mut Writer) -> Result<(), AllocError> {
+        begin_object(out)?;
+        put_member(out, "content_type", &self.content_type)?;
+        put_member(out, "mutable", &self.mutable)?;
         end_object(out)
     }
 }

@@ -19,6 +19,7 @@ mod modules;
 mod objects;
 mod places;
 mod plans;
+mod scans;
 mod to_json;
 mod used;
 mod wit;
@@ -32,4 +33,5 @@ pub use message_places::{
 pub use modules::module_to_json;
 pub use places::{read_place_to_json, trim_place_to_json, world_place_to_json};
 pub use plans::plan_to_json;
+pub use scans::scan_to_json;
 pub use worlds::{planned_world_to_json, world_to_json};

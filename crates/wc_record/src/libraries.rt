@@ -1,4 +1,4 @@
-//! How libraries are instantiated.
+//! The instantiation of libraries, as JSON.
 
 use crate::objects::{begin_object, end_object, put_kind_with, put_member, put_plain_kind};
 use crate::to_json::ToJson;

@@ -1,5 +1,5 @@
-//! What faults of messages are about beside places in modules: parts of worlds, functions of plans, adapters as a whole, keys
-//! of exports, names of worlds, and pieces of JSON.
+//! The places of faults of messages beside those in modules: parts of worlds, functions of plans, adapters as a whole,
+//! keys of exports, names of worlds, and pieces of JSON.
 
 ghost use Rattle.std.specs.Prelude.{◌≡◌, IfOk, None, OnOk, map, string_bytes};
 ghost use Rattle.std.specs.Str.{IsUtf8};

@@ -150,8 +150,8 @@ impl ToJson for ValidatedModule {
     }
 }
 
-/// What is recorded of a module as JSON: an object with `imports` and `exports`, as a component's world has it of each of its
-/// modules (`info` of `world_to_json`).
+/// Writes the record of a module as JSON: an object with `imports` and `exports`, as a component's world has it of each
+/// of its modules (`info` of `world_to_json`).
 ///
 /// # Errors
 ///

@@ -19,18 +19,18 @@ use crate::maps::EntryToJson;
 use crate::objects::{
     begin_object, end_object, put_kind, put_kind_with, put_list_member, put_member,
 };
-use crate::to_json::ToJson;
+use crate::to_json::{ToJson, begin_array, end_array};
 use crate::used::used_interfaces;
 use bitflags::Flags;
 use json::Writer;
 use std::alloc::{AllocError, Global};
-use wc_dedupe::{ModuleImportMap, Rename};
+use wc_dedupe::{ModuleImportMap, Rename, RenameList};
 use wc_maps::Set;
 use wc_resolve::{AbiVariant, InterfaceId, TypeId, WasmSignature};
 use wc_uses::Plan;
 use wc_world::{ComponentWorld, ImportedInterface, Lowering, RequiredOptions, WorldAdapter};
 
-impl ToJson for Rename {
+impl<'a> ToJson for Rename<'a> {
     ghost use Rattle.wc_dedupe.specs.Renames.{rename_view};
     ghost use Rattle.wc_dedupe.specs.Renaming.{RenameView};
     ghost use Rattle.wc_record.specs.Worlds.{rename_json};
@@ -50,14 +50,35 @@ impl ToJson for Rename {
     }
 }
 
+impl ToJson for RenameList {
+    ghost use Rattle.std.specs.Prelude.{List, map};
+    ghost use Rattle.wc_dedupe.specs.Renaming.{RenameView};
+    ghost use Rattle.wc_json.specs.Shapes.{array_of};
+    ghost use Rattle.wc_record.specs.Worlds.{rename_json};
+
+    ghost View = { List RenameView };
+
+    ghost view = { λ renames. renames };
+
+    ghost json = { λ renames. array_of (map rename_json renames) };
+
+    fn write(&self, out: &mut Writer) -> Result<(), AllocError> {
+        begin_array(out)?;
+        for index in 0..self.len() {
+            self.at(index).write(out)?;
+        }
+        end_array(out)
+    }
+}
+
 /// Writes the member with the renamed imports of the main module.
 fn put_renames(out: &mut Writer, renamed: Option<&ModuleImportMap>) -> Result<(), AllocError>
     ensures { OnOk result (PutsField out.old out.new (codes "renames")
         (array_of (map rename_json (renames_in (option_copied renamed.entry))))) }
 {
     match renamed {
-        Some(renamed) => put_list_member(out, "renames", renamed.renames()),
-        None => put_list_member::<Rename>(out, "renames", &[]),
+        Some(renamed) => put_member(out, "renames", renamed.renames()),
+        None => put_list_member::<Rename<'_>>(out, "renames", &[]),
     }
 }
 

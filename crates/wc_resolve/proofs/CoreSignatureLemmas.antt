@@ -22,6 +22,7 @@ use Rattle.wc_resolve.specs.Views.{FunctionView, TypeView, function_view, named_
 use Rattle.wc_resolve.specs.Kinds.{SignatureHasOnly}
 use Rattle.wc_resolve.proofs.FrontAgreementLemmas.{AgreeAtFront, agree_cut}
 use Rattle.wc_resolve.proofs.FlatteningAgreementLemmas.{AgreeAtFrontOfType, agree_types, agree_payload}
+use Rattle.wc_resolve.proofs.FuturesAtLemmas.{signature_in}
 use Rattle.wc_resolve.proofs.NamedListLemmas.{named_values}
 
 -- lists that agree in their first n elements are equally more than fewer elements long
@@ -112,22 +113,18 @@ answer_in : (n : ℕ) (o : Option WitType) → IfSome o (IsTypeIn n) → (s : Wi
 answer_in n None h s e = absurd (let bad : ⊥ = cc e in bad)
 answer_in n (Some t) h s e = let same : t ≡ s = cc e in subst (IsTypeIn n) same h
 
-function_in : (n : ℕ) (v : FunctionView) → IsFunctionIn n v → SignatureHasOnly (IsTypeIn n) v
-unfolding IsFunctionIn
-function_in n v h = h.1
-
 -- and the flat types of a function's parameters and of its result
 params_settled : (types : List TypeView) (flats : List (List WasmType)) (v : FunctionView) → AreFlattened types flats → IsFunctionIn (length types) v
     → AgreeAtFront flat_types_kept (flatten_types (flat_entry flats) (map (λ p. p.1) v.params)) (flatten_types (flat_of types) (map (λ p. p.1) v.params))
 params_settled types flats v made there =
-    let in_signature : SignatureHasOnly (IsTypeIn (length types)) v = function_in (length types) v there in
+    let in_signature : SignatureHasOnly (IsTypeIn (length types)) v = signature_in (length types) v there in
     let all : All (IsTypeIn (length types)) (map (λ p. p.1) v.params) = All-map (IsTypeIn (length types)) (λ p. p.1) v.params in_signature.0 in
     agree_types flat_types_kept (flat_entry flats) (flat_of types) (map (λ p. p.1) v.params) (λ t k. table_agree types flats made t (All-contains (IsTypeIn (length types)) (map (λ p. p.1) v.params) t all k))
 
 result_settled : (types : List TypeView) (flats : List (List WasmType)) (v : FunctionView) → AreFlattened types flats → IsFunctionIn (length types) v
     → AgreeAtFront flat_types_kept (flat_payload (flat_entry flats) v.outcome) (flat_payload (flat_of types) v.outcome)
 result_settled types flats v made there =
-    let in_signature : SignatureHasOnly (IsTypeIn (length types)) v = function_in (length types) v there in
+    let in_signature : SignatureHasOnly (IsTypeIn (length types)) v = signature_in (length types) v there in
     agree_payload flat_types_kept (flat_entry flats) (flat_of types) v.outcome (λ s e. table_agree types flats made s (answer_in (length types) v.outcome in_signature.1 s e))
 
 -- and the signature of a function whose types are in range

@@ -249,7 +249,7 @@ outcome_end types params outcome i n left past p =
 pub passed_viewed : (f : Function) → passed_roots (function_view f) ≡ param_roots f.params.items ++ option_map_or type_roots f.result []
 passed_viewed f = ap (λ z. z ++ option_map_or type_roots f.result []) (flat_map-map (λ (p : List ℕ × WitType). type_roots p.1) named_view f.params.items)
 
-signature_in : (n : ℕ) (f : FunctionView) → IsFunctionIn n f → SignatureHasOnly (IsTypeIn n) f
+pub signature_in : (n : ℕ) (f : FunctionView) → IsFunctionIn n f → SignatureHasOnly (IsTypeIn n) f
 unfolding IsFunctionIn
 signature_in n f h = h.1
 

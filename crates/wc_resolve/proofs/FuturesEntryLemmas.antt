@@ -141,7 +141,7 @@ counts_right types entries (id ∷ ids) right =
     (length (futures_of types id.0)) rest first.1.counted
     ∙ ap (λ n. min n max_count) (sym (length-append (futures_of types id.0) (futures_from types (indices ids))))
 
-capped_end : (before count b l : ℕ) → before ≡ min b (2 ^ 64 - 1) → count ≡ min l (2 ^ 64 - 1) → min (before + count) (2 ^ 64 - 1) ≡ min (b + l) (2 ^ 64 - 1)
+pub capped_end : (before count b l : ℕ) → before ≡ min b (2 ^ 64 - 1) → count ≡ min l (2 ^ 64 - 1) → min (before + count) (2 ^ 64 - 1) ≡ min (b + l) (2 ^ 64 - 1)
 capped_end before count b l e f = omega (arith, e, f)
 
 ends_more : (types : List TypeView) (entries : List EntryView) (ids parts : List TypeId) (id part : TypeId) (b before count : ℕ) (none : Bool)

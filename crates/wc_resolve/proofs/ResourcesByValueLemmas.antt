@@ -17,7 +17,7 @@ kind_none [] x h = refl
 kind_none (t ∷ types) zero h = absurd (omega (arith, h))
 kind_none (t ∷ types) (suc x) h = kind_none types x (omega (arith, h))
 
-kind_in : (types : List TypeView) (x : ℕ) (k : KindView) → kind_at types x ≡ Some k → x < length types
+pub kind_in : (types : List TypeView) (x : ℕ) (k : KindView) → kind_at types x ≡ Some k → x < length types
 kind_in types x k e =
     elim (cases_lt x (length types)) [
       | inl small ↦ small

@@ -23,7 +23,7 @@ AreBelow n xs = (x : ℕ) → Contains xs x → x < n
 pub below_append : (n : ℕ) (xs ys : List ℕ) → AreBelow n xs → AreBelow n ys → AreBelow n (xs ++ ys)
 below_append n xs ys h k x c = elim (Contains-append_cases xs ys x c) [ inl a ↦ h x a | inr b ↦ k x b ]
 
-below_none : (n : ℕ) → AreBelow n []
+pub below_none : (n : ℕ) → AreBelow n []
 below_none n x c = absurd (contains_none x c)
 
 pub below_one : (n y : ℕ) → y < n → AreBelow n (y ∷ [])
@@ -41,7 +41,7 @@ static_in n (Static i) h = below_one n i.0 h
 static_in n (AsyncStatic i) h = below_one n i.0 h
 static_in n kind h = below_none n
 
-outcome_in : (n : ℕ) (outcome : Option WitType) → IfSome outcome (IsTypeIn n) → AreBelow n (option_map_or type_roots outcome [])
+pub outcome_in : (n : ℕ) (outcome : Option WitType) → IfSome outcome (IsTypeIn n) → AreBelow n (option_map_or type_roots outcome [])
 outcome_in n None h = below_none n
 outcome_in n (Some t) h = type_in n t h
 

@@ -11,6 +11,7 @@ use Rattle.wc_resolve.specs.Live.{listing_of}
 use Rattle.wc_resolve.specs.Roots.{indices}
 use Rattle.wc_resolve.specs.Shortcuts.{AreShortcuts, IsAfter, IsShortcut, shortcut_at}
 use Rattle.wc_resolve.specs.Views.{TypeView}
+use Rattle.wc_resolve.proofs.FuturesEntryLemmas.{capped_end}
 use Rattle.wc_resolve.proofs.FuturesAtLemmas.{IsPassed, counted_less, end_at, next_read, part_shorter, part_there, parts_split, passed_found, passed_length}
 
 capped_front : (c m : ℕ) → c ≡ min (0 + m) (2 ^ 64 - 1) → c ≡ min m (2 ^ 64 - 1)
@@ -35,9 +36,6 @@ step_right types x entry i s kept small read before =
       shorter = part_shorter types x s.target.0 entry kept there;
     }
 
-capped_both : (a b m n : ℕ) → a ≡ min m (2 ^ 64 - 1) → b ≡ min n (2 ^ 64 - 1) → min (a + b) (2 ^ 64 - 1) ≡ min (m + n) (2 ^ 64 - 1)
-capped_both a b m n e f = omega (arith, e, f)
-
 -- one shortcut after another is a shortcut
 pub joined_right : (types : List TypeView) (x : ℕ) (first second both : Shortcut) → IsAfter first second both → IsShortcut types x first → IsShortcut types first.target.0 second → IsShortcut types x both
 joined_right types x first second both after f s =
@@ -54,7 +52,7 @@ joined_right types x first second both after f s =
           ∙ ap (λ z. f.front ++ (s.front ++ z)) (append_assoc reached s.back f.back)
           ∙ sym (append_assoc f.front s.front (reached ++ (s.back ++ f.back)))
           ∙ ap (λ (z : TypeId). (f.front ++ s.front) ++ (futures_of types z.0 ++ (s.back ++ f.back))) (sym after.0);
-      counted = after.1 ∙ capped_both first.before second.before (length f.front) (length s.front) f.counted s.counted ∙ ap (λ z. min z (2 ^ 64 - 1)) (sym (length-append f.front s.front));
+      counted = after.1 ∙ capped_end first.before second.before (length f.front) (length s.front) f.counted s.counted ∙ ap (λ z. min z (2 ^ 64 - 1)) (sym (length-append f.front s.front));
       within = subst (λ (z : TypeId). z.0 < length types) (sym after.0) s.within;
       shorter = subst (λ (z : TypeId). length (listing_of types z.0) < length (listing_of types x)) (sym after.0) below;
     }

@@ -36,7 +36,7 @@ pub worlds_in : (r : ResolveView) → AreIdsInRange r → All (IsWorldIn r) r.wo
 unfolding AreIdsInRange
 worlds_in r h = h.0
 
-interfaces_in : (r : ResolveView) → AreIdsInRange r → All (IsInterfaceIn r) r.interfaces
+pub interfaces_in : (r : ResolveView) → AreIdsInRange r → All (IsInterfaceIn r) r.interfaces
 unfolding AreIdsInRange
 interfaces_in r h = h.1
 
@@ -52,7 +52,7 @@ pub exports_in : (r : ResolveView) (w : WorldView) → IsWorldIn r w → All (Is
 unfolding IsWorldIn
 exports_in r w h = h.1
 
-key_in : (r : ResolveView) (x : KeyView × ItemView) → IsEntryIn r x → IsKeyIn r x.0
+pub key_in : (r : ResolveView) (x : KeyView × ItemView) → IsEntryIn r x → IsKeyIn r x.0
 unfolding IsEntryIn
 key_in r x h = h.0
 

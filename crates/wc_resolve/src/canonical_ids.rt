@@ -1,4 +1,4 @@
-//! Whether a text is the id of an interface with the track of its version, compared piece by piece.
+//! The test that a text is the id of an interface with the track of its version, compared piece by piece.
 
 ghost use Rattle.std.specs.Prelude.{◌≡◌, ◌↔◌, ◌++◌, ◌∷◌, IsTrue};
 ghost use Rattle.std.specs.Fmt.{decimal};

@@ -1,5 +1,5 @@
-//! Which types hold strings, and which hold strings or lists: found once for all types, of each from those that it refers
-//! to.
+//! The types that contain strings, and those that contain strings or lists: found once for all types, of each from
+//! those that it refers to.
 
 ghost use Rattle.std.specs.Prelude.{◌≡◌, ◌<◌, ◌||◌, ◌&&◌, IfOk, false, length, map};
 ghost use Rattle.std.specs.List.{list_any};

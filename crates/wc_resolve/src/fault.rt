@@ -1,4 +1,4 @@
-//! Why parts are not well-formed.
+//! Faults of parts: the reasons why they are not well-formed.
 
 ghost use Rattle.std.specs.Prelude.{◌≡◌, ◌≤◌};
 ghost use Rattle.wc_resolve.specs.declared.fault.ResolveFault.TheVariants.{Memory};

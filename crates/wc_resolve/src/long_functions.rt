@@ -1,4 +1,4 @@
-//! Functions by their places, and what is kept of those that have more than a few parameters: which types their futures
+//! Functions by their places, and the caches of those that have more than a few parameters: which types their futures
 //! and streams are of, and how many there are up to each; and the flat types of the parameters.
 
 ghost use Rattle.std.specs.Prelude.{◌≡◌, ◌<◌, ◌^◌, All, IfOk, IfSome, Some, length, map, slice_get};
@@ -24,10 +24,10 @@ use crate::{
 use std::alloc::{AllocError, Global};
 use wc_maps::Map;
 
-/// How many parameters a function has at most of which nothing is kept: they are walked.
+/// The greatest number of parameters of a function that has no cache: they are walked.
 const FEW_PARAMETERS: usize = 16;
 
-/// What is kept of a function: its futures and streams, and the flat types of its parameters.
+/// The cache of a function with many parameters: its futures and streams, and the flat types of its parameters.
 #[derive(Drop)]
 pub(crate) struct LongFunction {
     /// Where the function is.
@@ -178,7 +178,7 @@ fn long_places(alloc: Global, parts: &Parts) -> Result<Vec<FunctionPlace>, Alloc
     Ok(places)
 }
 
-/// What is kept of the function at a place.
+/// Makes the cache of the function at a place.
 fn long_function(
     alloc: Global,
     entries: &[FuturesEntry],
@@ -205,7 +205,7 @@ fn long_function(
     })
 }
 
-/// What is kept of the function at a place, if there is one.
+/// Makes the cache of the function at a place, if there is one.
 fn long_function_at(
     alloc: Global,
     parts: &Parts,
@@ -224,7 +224,7 @@ fn long_function_at(
     }
 }
 
-/// What is kept of the functions at these places.
+/// Makes the caches of the functions at these places.
 fn functions_at(
     alloc: Global,
     parts: &Parts,
@@ -246,7 +246,7 @@ fn functions_at(
     Ok(kept)
 }
 
-/// What is kept of the functions that have more than a few parameters, in the order of their places.
+/// Makes the caches of the functions that have more than a few parameters, in the order of their places.
 pub(crate) fn long_functions(
     alloc: Global,
     parts: &Parts,
@@ -262,7 +262,7 @@ pub(crate) fn long_functions(
     functions_at(alloc, parts, entries, flats, &places)
 }
 
-/// What the order of places goes by: what has the function, of which id, and at which index.
+/// The rank of a place in the order of places: the kind of its owner, the owner's id, and the index there.
 fn rank(place: FunctionPlace) -> (u8, u32, usize) {
     match place {
         FunctionPlace::Interface(id, index) => (0, id.0, index),
@@ -299,7 +299,7 @@ fn functions_before(kept: &[LongFunction], place: FunctionPlace) -> usize {
     low
 }
 
-/// What is kept of a function, if this is at a place.
+/// The cache of a function, if the function is at this place.
 fn if_at(kept: &LongFunction, place: FunctionPlace) -> Option<&LongFunction>
     ensures kept { (r : ResolveView) → IsLongFunction r kept.now →
         IfSome result (λ e. IsLongFunction r e.now) }
@@ -312,7 +312,7 @@ fn if_at(kept: &LongFunction, place: FunctionPlace) -> Option<&LongFunction>
     }
 }
 
-/// What is kept of the function at a place, if something is.
+/// Finds the cache of the function at a place, if there is one.
 fn find(kept: &[LongFunction], place: FunctionPlace) -> Option<&LongFunction>
     ensures kept { (r : ResolveView) → All (IsLongFunction r) kept.now →
         IfSome result (λ e. IsLongFunction r e.now) }
@@ -326,7 +326,7 @@ fn find(kept: &[LongFunction], place: FunctionPlace) -> Option<&LongFunction>
     }
 }
 
-/// The future or stream at index `n` of a function, by what is kept of it.
+/// The future or stream at index `n` of a function, by its cache.
 fn nth_of_kept(resolve: &Resolve, kept: &LongFunction, n: u64) -> Option<TypeId>
     requires kept { IsLongFunction resolve.now kept.now }
     requires small { n < 2 ^ 32 }
@@ -378,7 +378,7 @@ impl Resolve {
         }
     }
 
-    /// The core signature of the function at a place, by what is kept of it, if something is.
+    /// The core signature of the function at a place, by its cache, if there is one.
     fn signature_at(
         &self,
         alloc: Global,

@@ -210,7 +210,7 @@ impl Resolve {
         &self.kept.flats
     }
 
-    /// What is kept of the functions that have more than a few parameters.
+    /// The caches of the functions that have more than a few parameters.
     pub(crate) fn long_functions(&self) -> &[LongFunction]
         ensures { All (IsLongFunction self.now) result.now }
     {

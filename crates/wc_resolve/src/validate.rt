@@ -1,4 +1,4 @@
-//! Whether parts are well-formed: one file for each rule, in the order of the faults.
+//! The check that parts are well-formed: one file for each rule, in the order of the faults.
 
 ghost use Rattle.std.specs.Prelude.{IfErr, IfOk, MatchOption, false, map, true};
 ghost use Rattle.wc_resolve.specs.ResolveParts.{parts_view};
@@ -49,7 +49,7 @@ pub(crate) struct Checked {
     package_names: Set<PackageName>,
 }
 
-/// What is kept of futures and streams, and of functions.
+/// The tables of futures and streams, and of functions.
 #[derive(Drop)]
 pub(crate) struct FuturesTables {
     /// For each type its futures and streams.
@@ -173,7 +173,7 @@ fn futures_of_parts(
     futures_entries(alloc, &parts.types, order)
 }
 
-/// What is kept of futures and streams, and of functions.
+/// Makes the tables of futures and streams, and of functions.
 fn futures_tables(
     alloc: Global,
     parts: &Parts,
@@ -241,7 +241,7 @@ pub(crate) fn well_formed(
     })
 }
 
-/// Checks that the parts are well-formed, and makes what is kept beside them.
+/// Checks that the parts are well-formed, and makes the tables that are kept beside them.
 ///
 /// # Errors
 ///

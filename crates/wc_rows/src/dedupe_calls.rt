@@ -80,10 +80,12 @@ fn owner_word(bytes: &CowSlice<'_, u8>) -> &'static str {
 
 /// A line for each renamed import: its module, its original name and the new one.
 fn put_renames(out: &mut Lines, map: &ModuleImportMap) {
-    for rename in map.renames() {
-        out.quoted("renamed ", &rename.module);
-        out.quoted(" ", &rename.original);
-        out.quoted(" ", &rename.name);
+    let renames = map.renames();
+    for index in 0..renames.len() {
+        let rename = renames.at(index);
+        out.quoted("renamed ", rename.module);
+        out.quoted(" ", rename.original);
+        out.quoted(" ", rename.name);
         out.end();
     }
 }

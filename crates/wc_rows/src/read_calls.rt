@@ -3,14 +3,14 @@
 use crate::modules::{put_frames, put_module, put_names};
 use crate::operators::{put_body, put_form, put_opcode, put_operators, put_refs};
 use std::alloc::Global;
-use wc_lines::input::{Stop, bad_row, bytes_of, end_answer};
+use wc_lines::input::{Stop, bad_row, bytes_of, end_answer, number_of};
 use wc_lines::lines::Lines;
 use wc_lines::rows::Row;
 use wc_lines::table::named;
 use wc_lines::values::{put_fault, put_imports, put_refused};
 use wc_read::{
-    Body, Form, MemoryType, Opcode, form_of, frames, function_names, read_body, read_imports,
-    read_init, read_module, read_module_explained, refs,
+    Body, Form, MemoryType, Opcode, form_of, frames, function_names, function_names_at, read_body,
+    read_imports, read_init, read_module, read_module_explained, refs,
 };
 
 /// Appends the answer of a call of `wc_read`. False where a row has another call.
@@ -23,6 +23,7 @@ pub fn answer(alloc: Global, row: &Row<'_>, out: &mut Lines) -> bool {
         "read_module" => end_answer(answer_module(alloc, row, out), out),
         "explain_read" => end_answer(answer_explained(alloc, row, out), out),
         "function_names_of" => end_answer(answer_function_names(alloc, row, out), out),
+        "function_names_at" => end_answer(answer_names_at(alloc, row, out), out),
         "read_init" => end_answer(answer_init(alloc, row, out), out),
         "read_body" | "refs" | "count_operators" => end_answer(answer_body(alloc, row, out), out),
         _ => return false,
@@ -52,6 +53,20 @@ fn answer_imports(alloc: Global, row: &Row<'_>, out: &mut Lines) -> Result<(), S
 fn answer_function_names(alloc: Global, row: &Row<'_>, out: &mut Lines) -> Result<(), Stop> {
     let bytes = bytes_of(alloc, &row.input, out)?;
     match function_names(alloc, &bytes) {
+        Ok(names) => put_names(out, "name of func ", &names),
+        Err(fault) => put_fault(out, fault),
+    }
+    Ok(())
+}
+
+/// `function_names_at INDEX..`: a line for each of these functions that has a name.
+fn answer_names_at(alloc: Global, row: &Row<'_>, out: &mut Lines) -> Result<(), Stop> {
+    let bytes = bytes_of(alloc, &row.input, out)?;
+    let mut wanted = Vec::new(alloc);
+    for word in &row.arguments {
+        wanted.push(number_of(out, "no index", word)?)?;
+    }
+    match function_names_at(alloc, &bytes, &wanted) {
         Ok(names) => put_names(out, "name of func ", &names),
         Err(fault) => put_fault(out, fault),
     }

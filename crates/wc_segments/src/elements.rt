@@ -53,7 +53,7 @@ pub struct ElementSegment<'a> {
     pub elements: Elements<'a>,
 }
 
-/// What bytes have of the type of elements (5.5.12).
+/// The form in which bytes give the type of elements (5.5.12).
 #[derive(Clone, Copy, Debug, PartialEq, Eq)]
 pub enum TypeForm {
     /// Nothing, of functions.

@@ -1,4 +1,4 @@
-//! How segments are used, and the reading of that.
+//! The modes of segments, and their reading.
 
 ghost use Rattle.wc_read.specs.Reading.Reader.{Gives};
 ghost use Rattle.wc_segments.specs.Modes.{mode_value};
@@ -7,7 +7,7 @@ ghost use Rattle.wc_segments.specs.Reading.Modes.{mode_at};
 use std::alloc::Global;
 use wc_read::{ReadFault, Reader};
 
-/// How a segment is used (WebAssembly core specification, 2.5.7 and 2.5.8).
+/// The mode of a segment: how it is used (WebAssembly core specification, 2.5.7 and 2.5.8).
 #[derive(Clone, Copy, Debug, PartialEq, Eq)]
 pub enum SegmentMode<'a> {
     /// Operators copy it, that name it.
@@ -23,7 +23,7 @@ pub enum SegmentMode<'a> {
     Declarative,
 }
 
-/// What bytes have of a mode, as flags say (5.5.12 and 5.5.14).
+/// The form in which bytes give a mode, as flags say (5.5.12 and 5.5.14).
 #[derive(Clone, Copy, Debug, PartialEq, Eq)]
 pub enum ModeForm {
     /// An offset, in table or memory 0.

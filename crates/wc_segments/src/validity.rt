@@ -1,4 +1,4 @@
-//! What holds of segments beside their sections (WebAssembly core specification, 3.4.5 and 3.4.6).
+//! The validity of segments beside that of their sections (WebAssembly core specification, 3.4.5 and 3.4.6).
 
 ghost use Rattle.std.specs.Prelude.{◌≡◌, ◌↔◌, ◌<◌, All, IsTrue, map};
 ghost use Rattle.wc_read.specs.InitTypes.{IsTyped};
@@ -17,7 +17,7 @@ use crate::modes::SegmentMode;
 use std::alloc::Global;
 use wc_read::{Memory, Module, ReadFault, Scope, Table, ValType, has_type_index, is_typed_init};
 
-/// What initialisers of segments may name: all that the module has.
+/// The items that initialisers of segments may name: all that the module has.
 pub fn segment_scope<'a>(module: &'a Module<'_>) -> Scope<'a>
     ensures { scope_value result ≡ segment_scope (module_value «module».now) }
 {

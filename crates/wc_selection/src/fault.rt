@@ -1,4 +1,4 @@
-//! Why a document doesn't have what a request names.
+//! Faults of requests: the reasons why a document doesn't have what one names.
 
 ghost use Rattle.std.specs.Prelude.{◌≡◌};
 ghost use Rattle.wc_selection.specs.Fault.{request_fault_text};

@@ -83,7 +83,7 @@ fn keys_by_index(
     indexed_in(alloc, &set, keys)
 }
 
-/// The same, of the texts in a set.
+/// Keys, in order, each with the text in this set that is its index, or with its own.
 fn indexed_in(
     alloc: Global,
     given: &Set<&str>,
@@ -266,7 +266,7 @@ fn unversioned(key: &(WorldKey, String)) -> &str
     }
 }
 
-/// What is before the first `@` of a text; without one the whole text.
+/// The part of a text before its first `@`; without one the whole text.
 fn unversioned_text(text: &str) -> &str
     ensures { result.now ≡ unversioned_text text.now }
 {

@@ -1,4 +1,4 @@
-//! What modules have to export.
+//! The keys that modules have to export.
 
 ghost use Rattle.std.specs.Prelude.{◌≡◌, All, Contains, IfErr, IfNone, IfOk, IfSome, None, OnOk, map};
 ghost use Rattle.std.specs.Str.{bytes_eq};

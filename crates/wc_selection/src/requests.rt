@@ -1,4 +1,4 @@
-//! Which keys of a world's exports a request gives.
+//! The keys of a world's exports that a request gives.
 
 ghost use Rattle.std.specs.Prelude.{◌≡◌, IfOk, map};
 ghost use Rattle.wc_selection.specs.Requests.{given_keys, request_value};

@@ -1,4 +1,4 @@
-//! Which world is encoded.
+//! The world that is encoded.
 
 ghost use Rattle.std.specs.Prelude.{◌≡◌, ◌<◌, ◌↔◌, All, IfErr, IfOk, IsTrue, length, string_bytes};
 ghost use Rattle.std.specs.Option.{option_map};

@@ -3,7 +3,7 @@
 use crate::call_example::trim_to_write;
 use std::alloc::{AllocError, Global};
 use wc_calls::{
-    Answer, MEMORY, dedupe, fault_text, plan, trim, validate, validated_module, why, world,
+    Answer, MEMORY, dedupe, fault_text, plan, scan, trim, validate, validated_module, why, world,
 };
 use wc_lines::input::{Stop, bad_row, bytes_of, end_answer};
 use wc_lines::lines::Lines;
@@ -21,6 +21,7 @@ pub(crate) fn answer(alloc: Global, row: &Row<'_>, out: &mut Lines) -> bool {
         "trim_into" => answer_trim(alloc, row, out),
         "trim_to_write" => answer_trim_to_write(alloc, row, out),
         "why_into" => answer_why(alloc, row, out),
+        "scan_into" => answer_scan(alloc, row, out),
         "fault_text_into" => answer_fault_text(alloc, row, out),
         "world_into" | "plan_into" | "validate_into" => answer_message(alloc, row, out),
         "record_into" => answer_record(alloc, row, out),
@@ -99,6 +100,15 @@ fn answer_why(alloc: Global, row: &Row<'_>, out: &mut Lines) -> Result<(), Stop>
     let required = slices_of(alloc, &names)?;
     let mut buffer = buffer_of(alloc, row, out)?;
     let answer = why(alloc, row_seed(), &wasm, &required, &mut buffer);
+    put_answer(&answer, &buffer, out);
+    Ok(())
+}
+
+/// `scan_into ROOM`: the imports and exports of a module, and the names of its functions, in a buffer of so many bytes.
+fn answer_scan(alloc: Global, row: &Row<'_>, out: &mut Lines) -> Result<(), Stop> {
+    let wasm = bytes_of(alloc, &row.input, out)?;
+    let mut buffer = buffer_of(alloc, row, out)?;
+    let answer = scan(alloc, &wasm, &mut buffer);
     put_answer(&answer, &buffer, out);
     Ok(())
 }

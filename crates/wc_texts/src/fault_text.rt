@@ -1,7 +1,6 @@
 //! The texts of faults, and how they carry each other's.
 
 ghost use Rattle.std.specs.Prelude.{◌≡◌, ℕ, List, IfOk, Some, string_bytes};
-ghost use Rattle.std.specs.Fmt.{DisplaysOnOk};
 ghost use Rattle.wc_texts.specs.FaultTexts.{about_text, carried_text, quoted_text};
 ghost use Rattle.wc_texts.specs.Pieces.{IsPut};
 
@@ -84,13 +83,13 @@ pub fn put_about<P: Pieces, F: FaultText>(
     fault.put_pieces(out)
 }
 
-/// Writes the text of a fault to a formatter, as its `Display` does.
+/// Puts the text of a fault, and answers as a `Display` does: put to a formatter it is what `Display` of the fault writes.
 ///
 /// # Errors
 ///
-/// `fmt::Error`: the formatter's writer failed.
-pub fn show<F: FaultText, W: fmt::Write>(fault: &F, out: &mut fmt::Formatter<W>) -> fmt::Result
-    ensures { DisplaysOnOk W.write_str_gives out.old result (Some (F.text fault.now)) out.new }
+/// `fmt::Error`: a put failed, which of a formatter is a write of its writer. How much was written is left open.
+pub fn show<P: Pieces, F: FaultText>(fault: &F, out: &mut P) -> fmt::Result
+    ensures { IsPut P.puts P.fails out.old out.new (F.text fault.now) result }
 {
     match fault.put_pieces(out) {
         Ok(()) => Ok(()),

@@ -1,4 +1,4 @@
-//! Where a text goes piece by piece: a sink, or a formatter.
+//! Outputs that take a text piece by piece: a sink, or a formatter.
 
 ghost use Rattle.std.specs.Prelude.{◌≡◌, ◌++◌, ℕ, List, ⊤, true};
 ghost use Rattle.std.specs.Fmt.{HasWritten, IsPlainFormatter};
@@ -9,12 +9,12 @@ ghost use Rattle.wc_texts.specs.Puts.{IsPutTo};
 use crate::sink::{PutFailed, Sink};
 use std::fmt;
 
-/// What the pieces of a text are put into, one after another. Every `Sink` is one, and so is a formatter.
+/// An output that takes the pieces of a text, one after another. Every `Sink` is one, and so is a formatter.
 pub trait Pieces {
-    // What was put took the first to the second: these bytes, in one piece or several.
+    // A put of these bytes, in one piece or several, took the first to the second.
     ghost puts: { Self → List ℕ → Self → Type 0 };
 
-    // What is known after a put that failed.
+    // The facts known after a put that failed.
     ghost fails: { Self → Type 0 };
 
     /// Puts a piece.

@@ -1,15 +1,15 @@
-//! A fault, and what it is about.
+//! A fault with its place.
 
 ghost use Rattle.std.specs.Prelude.{◌≡◌, None};
 
 use std::alloc::{AllocError, AllocFailed};
 
-/// Why something is refused, and what that is about.
+/// A refusal: a fault, and its place.
 #[derive(Debug, PartialEq, Eq, Drop)]
 pub struct Refused<F, P> {
-    /// Why it is refused.
+    /// The fault.
     pub fault: F,
-    /// What the fault is about: `None` where it is about nothing that has a place of its own, and where an allocation
+    /// The place of the fault; `None` where it is about nothing that has a place of its own, and where an allocation
     /// failed.
     pub place: Option<P>,
 }

@@ -1,4 +1,4 @@
-//! Where lines of output go.
+//! Sinks: outputs of bytes.
 
 ghost use Rattle.std.specs.Prelude.{◌≡◌, true, false, ⊤, ℕ, List, Bool, Option, OnOk, OnErr, Some, codes};
 ghost use Rattle.std.specs.Io.KnownBytes.{Appends, Keeps};
@@ -21,15 +21,14 @@ impl fmt::Display for PutFailed {
 
 impl StdError for PutFailed {}
 
-/// What bytes are written to, until a write fails. From then on it is failed: every put fails, and nothing more is
-/// written.
+/// An output of bytes, until a write fails. From then on it is failed: every put fails, and nothing more is written.
 pub trait Sink {
     // The bytes that were written so far, where they are known.
     ghost written: { Self → Option (List ℕ) };
 
     ghost is_failed: { Self → Bool };
 
-    // What is known of a failed put: of the sink before it, the bytes, and the sink after it.
+    // The facts known of a failed put: of the sink before it, the bytes, and the sink after it.
     ghost put_fails: { Self → List ℕ → Self → Type 0 } = { λ _ _ _. ⊤ };
 
     /// Writes bytes, all of them.
@@ -58,10 +57,10 @@ pub trait Destination {
     // The bytes that were written so far, where they are known.
     ghost held: { Self → Option (List ℕ) };
 
-    // What is known of a failed write: of the destination before it, the bytes, and the destination after it.
+    // The facts known of a failed write: of the destination before it, the bytes, and the destination after it.
     ghost write_fails: { Self → List ℕ → Self → Type 0 };
 
-    // What is known of a failed flush: of the destination before it and after it.
+    // The facts known of a failed flush: of the destination before it and after it.
     ghost flush_fails: { Self → Self → Type 0 };
 
     /// Writes bytes, all of them.

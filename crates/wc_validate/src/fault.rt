@@ -1,4 +1,4 @@
-//! Why core modules are refused.
+//! Faults of validation: the reasons why core modules are refused.
 
 ghost use Rattle.std.specs.Prelude.{◌≡◌, ◌≤◌, IfOk, Some};
 ghost use Rattle.wc_validate.specs.Texts.{name_not_exported, not_exported_text};

@@ -47,7 +47,8 @@ pub fn signatures_fixed(resolve: &Resolve)
     meanings_unique(resolve);
 }
 
-/// What a recorded import names is there (`wc_names::laws::meanings_in_range`). It does nothing when it runs.
+/// A recorded import names only items that are there (`wc_names::laws::meanings_in_range`). It does nothing when it
+/// runs.
 pub fn entries_in_range(resolve: &Resolve)
     ensures { EntriesInRange resolve.now }
 {
@@ -62,8 +63,8 @@ pub fn records_are_imports(encoder: &ComponentEncoder)
     let _ = encoder;
 }
 
-/// What the recorded imports of a module name is there (`wc_names::laws::meanings_in_range`). It does nothing when it
-/// runs.
+/// The recorded imports of a module name only items that are there (`wc_names::laws::meanings_in_range`). It does
+/// nothing when it runs.
 pub fn records_in_range(encoder: &ComponentEncoder)
     ensures { RecordsInRange encoder.now }
 {
@@ -71,8 +72,8 @@ pub fn records_in_range(encoder: &ComponentEncoder)
     meanings_in_range(&metadata.resolve);
 }
 
-/// What the recorded exports of a module are for is there (`wc_names::laws::exports_in_range`). It does nothing when it
-/// runs.
+/// The recorded exports of a module are for items that are there (`wc_names::laws::exports_in_range`). It does nothing
+/// when it runs.
 pub fn recorded_exports_in_range(encoder: &ComponentEncoder)
     ensures { RecordedExportsInRange encoder.now }
 {
@@ -97,8 +98,8 @@ pub fn restrictions_valid(encoder: &ComponentEncoder)
     exports_unique();
 }
 
-/// What is recorded of a module that restricts a valid one, and is valid too: of its imports what is recorded of those
-/// that it has of the other, and functions of the main module; and the same exports. It does nothing when it runs.
+/// The record of a module that restricts a valid one, and is valid too: of its imports the records of those that it has
+/// of the other, and functions of the main module; and the same exports. It does nothing when it runs.
 pub fn restrictions_recorded(encoder: &ComponentEncoder)
     ensures { RestrictionsRecorded encoder.now }
 {

@@ -1,4 +1,4 @@
-//! Why the name of an import or an export is refused.
+//! Faults of names: the reasons why the name of an import or an export is refused.
 
 use crate::ValidateFault;
 use std::alloc::{AllocError, AllocFailed};

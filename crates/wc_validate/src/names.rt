@@ -1,4 +1,4 @@
-//! What the names of a core module's imports are looked up in.
+//! The scope of the names of a core module's imports.
 
 ghost use Rattle.std.specs.Prelude.{◌≡◌, Some, slice_get};
 ghost use Rattle.wc_resolve.specs.Views.{world_view};
@@ -21,7 +21,7 @@ pub(crate) struct Names<'a> {
     ghost listed: { slice_get resolve.now.worlds world_id.0 ≡ Some (world_view world.now) },
 }
 
-/// What the names of functions, resources and built-ins are looked up in, and the index of its world.
+/// The scope of the names of functions, resources and built-ins, and the index of its world.
 #[derive(Drop)]
 pub(crate) struct ContextInWorld<'a> {
     pub(crate) lookup: PayloadLookupContext<'a>,

@@ -1,4 +1,4 @@
-//! What faults of core modules are about.
+//! The places of faults of core modules.
 
 ghost use Rattle.std.specs.Prelude.{Some};
 
@@ -6,7 +6,7 @@ use crate::signatures::names_types;
 use std::fmt;
 use wc_read::{FuncType, ReadPlace, ValType};
 
-/// What a fault is about, by its names.
+/// The subject of a fault, by its names.
 #[derive(Debug, PartialEq, Eq, Drop)]
 pub enum Subject {
     /// An import.
@@ -84,7 +84,7 @@ impl fmt::Display for TypeDifference {
     }
 }
 
-/// What a fault is about, and the core types that differ, where it compares types.
+/// The place of a fault: its subject, and the core types that differ, where it compares types.
 #[derive(Debug, PartialEq, Eq, Drop)]
 pub struct Place {
     pub subject: Subject,

@@ -1,4 +1,4 @@
-//! How names begin.
+//! The prefixes of names.
 
-/// How names begin that are always read by the standard scheme.
+/// The prefix of names that are always read by the standard scheme.
 pub(crate) const STANDARD_MARKER: &str = "cm32p2";

@@ -1,4 +1,4 @@
-//! Why core modules are refused, and what that is about.
+//! Refusals of core modules: the fault, and its place.
 
 ghost use Rattle.std.specs.Prelude.{◌≡◌, ◌↔◌, IsTrue, None};
 ghost use Rattle.wc_validate.specs.Refused.{IsReadRefusal};
@@ -10,7 +10,7 @@ use std::alloc::AllocError;
 use wc_read::{ReadFault, ReadPlace};
 use wc_texts::Refused;
 
-/// A core module that is refused: why, and what that is about.
+/// The refusal of a core module: the fault, and its place.
 pub(crate) type RefusedModule = Refused<ValidateFault, Place>;
 
 /// Why an import is refused, and the types that differ, where that compares types.

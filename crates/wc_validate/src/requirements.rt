@@ -1,4 +1,4 @@
-//! What has to be among the exports of a core module.
+//! Requirements on the exports of a core module.
 
 ghost use Rattle.std.specs.Prelude.{◌≡◌, ◌≤◌, All, IfErr, IfOk, MatchOption, OnOk, map};
 ghost use Rattle.wc_read.specs.Modules.{HaveTypes, module_value};
@@ -31,15 +31,15 @@ use wc_names::Export;
 use wc_read::{FuncType, Module};
 use wc_resolve::{AbiVariant, Resolve, WorldItem, WorldKey};
 
-/// What a module has to export: what the keys of an export set are for, and functions that other modules import from
-/// it, with their types.
+/// The exports that a module has to have: those that the keys of an export set are for, and functions that other
+/// modules import from it, with their types.
 #[derive(Clone, Copy)]
 pub(crate) struct RequiredExports<'a> {
     pub(crate) keys: &'a Set<WorldKey>,
     pub(crate) functions: &'a Map<String, FuncType>,
 }
 
-/// A module, and what is recorded of its exports.
+/// A module, and the records of its exports.
 #[derive(Clone, Copy)]
 pub(crate) struct RecordedModule<'m> {
     pub(crate) module: &'m Module<'m>,

@@ -367,7 +367,7 @@ pub(crate) fn adapter_validation_input<'a>(
     }
 }
 
-/// What is answered, without the place of a refusal.
+/// A result without the place of a refusal.
 pub(crate) fn without_place<T: Drop>(answer: Result<T, RefusedModule>) -> Result<T, ValidateFault>
     ensures { IsWithoutPlace answer result }
 {

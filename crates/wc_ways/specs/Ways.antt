@@ -40,7 +40,7 @@ recorded_paths r key adapter records = flat_map (recorded_path r key adapter) (i
 -- the steps to an export of an adapter: the main module's import of it, if there is one, and the export
 abbrev pub first_steps : WantedFunctions → List ℕ → List ℕ → List StepView
 first_steps wanted adapter export =
-    cond (is_wanted wanted export) (imported None adapter export ∷ exported (Some adapter) export ∷ []) (exported (Some adapter) export ∷ [])
+    cond (is_wanted wanted export) (imported None adapter export ∷ exported adapter export ∷ []) (exported adapter export ∷ [])
 
 -- the path to a function through an adapter by a chain: these steps to the export that it begins with, its items, and the import
 abbrev pub adapter_path : Original → FunctionName → Chain → ImportValue → PathView

@@ -1,4 +1,4 @@
-//! What leads to the imports of the adapters of a component's world.
+//! Paths to the imports of the adapters of a component's world.
 
 ghost use Rattle.std.specs.Prelude.{◌≡◌, ◌⊎◌, ◌++◌, IfErr, OnOk};
 ghost use Rattle.std.specs.List.{flat_map};

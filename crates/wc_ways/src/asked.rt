@@ -1,4 +1,4 @@
-//! Which imports of modules are asked about.
+//! The imports of modules that are asked about.
 
 ghost use Rattle.std.specs.Prelude.{◌≡◌, IfOk, string_bytes};
 ghost use Rattle.std.specs.Option.{option_map};
@@ -23,7 +23,7 @@ const ALL: &str = "all";
 /// The name that stands for the interface of what is the world's own, as in the lines of a plan.
 const ROOT: &str = "$root";
 
-/// What is asked about: the name of its interface, and its own.
+/// A function that is asked about: the name of its interface, and its own.
 #[derive(Drop)]
 pub(crate) struct Function<'a> {
     pub(crate) interface: String,
@@ -39,8 +39,8 @@ pub(crate) enum Imported<'a> {
     Own(&'a str),
 }
 
-/// What an import of a module is, if it belongs to an import of the world that is asked about: a function, or a built-in
-/// under the name that it has in the module.
+/// The function that a module imports, if it belongs to an import of the world that is asked about; a built-in has the
+/// name that it has in the module.
 pub(crate) fn asked_function<'a>(
     alloc: Global,
     resolve: &Resolve,
@@ -58,7 +58,7 @@ pub(crate) fn asked_function<'a>(
     }
 }
 
-/// What is of this name, if it belongs to an import of the world that is asked about.
+/// The function of this name, if it belongs to an import of the world that is asked about.
 fn asked_world_import<'a>(
     alloc: Global,
     resolve: &Resolve,
@@ -81,7 +81,7 @@ fn asked_world_import<'a>(
     }
 }
 
-/// What is of an interface, if this is asked about.
+/// The function of an interface, if this is asked about.
 fn asked_interface<'a>(key: &str, interface: String, name: &'a str) -> Option<Function<'a>>
     ensures { option_map function_value result
         ≡ asked_interface key.now name.now (string_bytes interface) }
@@ -93,7 +93,7 @@ fn asked_interface<'a>(key: &str, interface: String, name: &'a str) -> Option<Fu
     }
 }
 
-/// What belongs to an import of the world with this text, if this is asked about.
+/// The function that belongs to an import of the world with this text, if this is asked about.
 fn asked_name<'a>(key: &str, interface: String, text: &str, name: &'a str) -> Option<Function<'a>>
     ensures { option_map function_value result
         ≡ asked_name key.now (string_bytes interface) text.now name.now }

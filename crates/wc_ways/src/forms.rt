@@ -33,27 +33,28 @@ pub(crate) struct Module<'a> {
     pub(crate) imports: &'a ImportMap,
 }
 
-/// What takes what is said of modules, one after another.
+/// A form of output, which writes the paths of modules, one module after another.
 pub(crate) trait Form {
-    // What is said is a list of these, and of each of them some of those are printed.
+    // The parts that are said, each of which shows a list.
     ghost Part: { Type 0 };
 
     ghost Shown: { Type 0 };
 
     ghost shown: { Part → List Shown };
 
-    // What was printed, and what stood there before.
+    // The list that was printed, and the text that stood there before.
     ghost printed: { Self → List Shown };
 
     ghost before: { Self → List ℕ };
 
-    // What is said of a module of which only its imports are known.
+    // The parts that are said of a module of which only its imports are known.
     ghost alone: { ResolveView → List ℕ → Option (List ℕ) → List ℕ → List ℕ → Records → List Part };
 
-    // What is said of an adapter that was trimmed, by the key and the adapter's index.
+    // The parts that are said of an adapter that was trimmed, by the key and the adapter's index.
     ghost saying: { List ℕ → ℕ → Original → List Part → Type 0 };
 
-    // What is said of an interface that is imported for its types alone, by its name and that of the first that uses them.
+    // The parts that are said of an interface that is imported for its types alone, by its name and that of the first
+    // that uses them.
     ghost typed: { List ℕ → Option (List ℕ) → List Part };
 
     /// Says what leads to imports of a module of which only its imports are known.

@@ -1,4 +1,4 @@
-//! Which imports of a world a key is about.
+//! Keys that ask about imports of a world.
 
 ghost use Rattle.std.specs.Prelude.{◌≡◌, ◌<◌, IfOk, string_bytes};
 ghost use Rattle.std.specs.Option.{option_map};

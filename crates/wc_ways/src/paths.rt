@@ -142,7 +142,7 @@ fn first_steps<'p>(
     let adapter = walk.adapter.name;
     let mut steps = Vec::new(alloc);
     let last = Step::Export {
-        adapter: Some(adapter),
+        adapter,
         name: export,
     };
     if !is_wanted(walk, export) {

@@ -19,7 +19,7 @@ use wc_resolve::Resolve;
 use wc_validate::ImportMap;
 use wc_why::{Path, PathPrinter, Step, Target};
 
-/// What is asked of the imports of a module.
+/// A question about the imports of a module.
 #[derive(Clone, Copy)]
 pub(crate) struct Question<'a> {
     pub(crate) resolve: &'a Resolve,

@@ -1,4 +1,4 @@
-//! Which interface of a world is the first that uses types of another one.
+//! The first interface of a world that uses the types of another one.
 
 ghost use Rattle.std.specs.Prelude.{◌≡◌, ◌∷◌, [], IfOk, OnOk, map};
 ghost use Rattle.std.specs.Option.{option_map};
@@ -48,7 +48,7 @@ pub(crate) fn users_in(alloc: Global, world: &ComponentWorld<'_>) -> Result<User
     Ok(users)
 }
 
-/// What an encoder's world exports.
+/// The exports of an encoder's world.
 fn exports_of(encoder: &ComponentEncoder) -> &Map<WorldKey, WorldItem>
     ensures { entries_of result.now ≡ world_exports encoder.now }
 {
@@ -68,7 +68,7 @@ pub(crate) fn user_of(users: &Users, id: InterfaceId) -> Option<&str>
     }
 }
 
-/// Notes what imports use.
+/// Notes the interfaces whose types imports use.
 fn note_imports(
     resolve: &Resolve,
     world: &ComponentWorld<'_>,
@@ -84,7 +84,7 @@ fn note_imports(
     Ok(())
 }
 
-/// Notes what the live types of an import use.
+/// Notes the interfaces whose types the live types of an import use.
 fn note_import(
     resolve: &Resolve,
     live: &Map<InterfaceId, Set<TypeId>>,

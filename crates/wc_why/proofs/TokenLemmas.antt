@@ -1,13 +1,15 @@
 -- Tokens that are written one after another.
-use Rattle.std.proofs.Common.{◌≡◌, ℕ, ◌<◌, ◌+◌, List, [], ◌∷◌, ◌++◌, length, map, take, get_or, Result, Ok, Err, OnOk, refl, sym, ◌∙◌, ap, subst, append_assoc, append-nil, arith}
+use Rattle.std.proofs.Common.{◌≡◌, ℕ, ◌<◌, ◌+◌, List, [], ◌∷◌, ◌++◌, length, map, take, get_or, codes, Result, Ok, Err, OnOk, refl, sym, ◌∙◌, ap, subst, append_assoc, append-nil, arith}
 use Rattle.std.proofs.lemmas.List.{map-append, take_all, take_more}
 use Rattle.std.proofs.lemmas.List.Concat.{flat_map-append}
 use Rattle.std.specs.List.{flat_map}
 use Rattle.json.specs.Json.{Json}
-use Rattle.json.specs.Token.{Token, begin_array, end_array, end_object, key, string}
+use Rattle.json.specs.Token.{Token, begin_array, begin_object, end_array, end_object, key, string}
 use Rattle.json.specs.Tree.{items_tokens, json_tokens}
 use Rattle.json.specs.Written.{Writes, Written}
-use Rattle.wc_json.specs.Shapes.{array_of, items_of}
+use Rattle.wc_json.specs.Shapes.{array_of, items_of, object_of}
+use Rattle.wc_why.specs.JsonPaths.{begun_tokens, ended_tokens, path_json, paths_json}
+use Rattle.wc_why.specs.Paths.{PathView}
 use Rattle.wc_why.specs.Private.Tokens.{Puts}
 
 -- tokens after others
@@ -84,3 +86,15 @@ written_of a b xs (Err e) p = tt
 pub kept_of : {E : Type 0} (a b : Written) (xs : List Token) (r : Result (Unit {0}) E) → OnOk r (Puts a b xs) → OnOk r (b.before ≡ a.before)
 kept_of a b xs (Ok u) p = p.before
 kept_of a b xs (Err e) p = tt
+
+-- the tokens of the object of a list of paths
+pub paths_tokens : (paths : List PathView) → ended_tokens (begun_tokens ++ flat_map (λ p. json_tokens (path_json p)) paths) ≡ json_tokens (paths_json paths)
+unfolding object_of
+paths_tokens paths =
+    ap (λ z. begin_object ∷ key (codes "ways") ∷ z)
+    (ap (λ z. begin_array ∷ z) (ap (λ z. z ++ end_array ∷ end_object ∷ []) (of_map paths)
+    ∙ sym (append_assoc (flat_map json_tokens (map path_json paths)) (end_array ∷ []) (end_object ∷ [])))
+    ∙ ap (λ z. z ++ end_object ∷ []) (sym (array_are (map path_json paths)))) where
+      of_map : (ps : List PathView) → flat_map (λ p. json_tokens (path_json p)) ps ≡ flat_map json_tokens (map path_json ps)
+      of_map [] = refl
+      of_map (p ∷ ps) = ap (λ z. json_tokens (path_json p) ++ z) (of_map ps)

@@ -1,11 +1,14 @@
 -- Paths as JSON.
-use Rattle.std.specs.Prelude.{ℕ, List, [], ◌∷◌, ◌++◌, map, codes, Option}
+use Rattle.std.specs.Prelude.{ℕ, List, [], ◌∷◌, ◌++◌, map, codes, Option, Some, None}
 use Rattle.json.specs.Json.{Json, null, string}
 use Rattle.json.specs.Token.{Token, begin_array, begin_object, end_array, end_object, key}
 use Rattle.wc_json.specs.Shapes.{array_of, nullable_json, number_json, object_of}
-use Rattle.wc_read.specs.declared.operators.Space.{Space}
-use Rattle.wc_why.specs.Lines.{space_name}
-use Rattle.wc_why.specs.Paths.{PathView, StepView, TargetView, named, typed, imported, exported, passed}
+use Rattle.wc_segments.specs.Segments.{segment_section_name}
+use Rattle.wc_paths.specs.PathRoots.{RootView, by_export, by_start, by_table, by_memory}
+use Rattle.wc_why.specs.Lines.{kind_name, space_name}
+use Rattle.wc_why.specs.Paths.{PathView, StepView, TargetView, named, typed, imported, exported, begun, unfollowed, passed, segment}
+use Rattle.wc_why.specs.declared.paths.Unfollowed.{Unfollowed}
+use Rattle.wc_why.specs.declared.paths.Unfollowed.TheVariants.{Unreached, Body, Section}
 
 -- a text; null for none
 abbrev pub text_or_null : Option (List ℕ) → Json
@@ -24,17 +27,44 @@ abbrev pub export_json : Option (List ℕ) → List ℕ → Json
 export_json adapter name =
     object_of ((codes "kind", string (codes "export")) ∷ (codes "adapter", text_or_null adapter) ∷ (codes "name", string name) ∷ [])
 
-abbrev pub item_json : Space → ℕ → Option (List ℕ) → Json
+abbrev pub kind_json : List ℕ → Json
+kind_json kind = object_of ((codes "kind", string kind) ∷ [])
+
+abbrev pub fills_json : List ℕ → ℕ → Json
+fills_json space index =
+    object_of ((codes "kind", string (codes "fills")) ∷ (codes "space", string space) ∷ (codes "index", number_json index) ∷ [])
+
+abbrev pub root_json : RootView → Json
+root_json (by_export name) = export_json None name
+root_json by_start = kind_json (codes "start")
+root_json (by_table index) = fills_json (codes "table") index
+root_json (by_memory index) = fills_json (codes "memory") index
+
+abbrev pub unread_body_json : ℕ → Json
+unread_body_json index = object_of ((codes "kind", string (codes "unread")) ∷ (codes "function", number_json index) ∷ [])
+
+abbrev pub unread_section_json : List ℕ → Json
+unread_section_json name = object_of ((codes "kind", string (codes "unread")) ∷ (codes "section", string name) ∷ [])
+
+abbrev pub unfollowed_json : Unfollowed → Json
+unfollowed_json Unreached = kind_json (codes "unreached")
+unfollowed_json (Body index) = unread_body_json index
+unfollowed_json (Section section) = unread_section_json (segment_section_name section)
+
+abbrev pub item_json : List ℕ → ℕ → Option (List ℕ) → Json
 item_json space index name =
     object_of (
-    (codes "kind", string (codes "item")) ∷ (codes "space", string (space_name space)) ∷ (codes "index", number_json index)
+    (codes "kind", string (codes "item")) ∷ (codes "space", string space) ∷ (codes "index", number_json index)
     ∷ (codes "name", text_or_null name) ∷ []
     )
 
 abbrev pub step_json : StepView → Json
 step_json (imported adapter from name) = import_json adapter from name
-step_json (exported adapter name) = export_json adapter name
-step_json (passed space index name) = item_json space index name
+step_json (exported adapter name) = export_json (Some adapter) name
+step_json (begun of_main root) = root_json root
+step_json (unfollowed why) = unfollowed_json why
+step_json (passed space index name) = item_json (space_name space) index name
+step_json (segment kind index) = item_json (kind_name kind) index None
 
 -- a path: the interface, what of it the path leads to, and its steps
 

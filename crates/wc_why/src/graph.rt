@@ -1,6 +1,9 @@
 //! Paths through a module as a graph, in the language of Graphviz: the tree that they are in.
 
 ghost use Rattle.std.specs.Prelude.{◌≡◌, ◌<◌, IfOk, length, string_bytes};
+ghost use Rattle.wc_read.specs.Names.{name_entries};
+ghost use Rattle.wc_why.specs.Lines.{item_text};
+ghost use Rattle.wc_why.specs.Paths.{name_in};
 ghost use Rattle.wc_why.specs.Graph.{AreNodesIn, IsArrowTo, IsNodeIn, IsNodeOf, arrow_text, export_id, export_node, item_id, target_box, target_node};
 
 use crate::lines::item_text;
@@ -10,6 +13,7 @@ use std::alloc::{AllocError, Global};
 use wc_gc::ImportChains;
 use wc_json::escaped;
 use wc_maps::OrderedMap;
+use wc_read::Space;
 
 /// The tree that all paths through a module are in.
 #[derive(Clone, Copy)]
@@ -23,9 +27,9 @@ pub struct Tree<'a, 'r> {
 /// How the nodes of a module are written.
 #[derive(Clone, Copy)]
 pub struct NodeNames<'a> {
-    /// What comes before each line.
+    /// The text before each line.
     pub indent: &'a str,
-    /// What comes before each identifier, so that those of several modules differ.
+    /// The text before each identifier, so that those of several modules differ.
     pub prefix: &'a str,
 }
 
@@ -81,14 +85,25 @@ fn item_node(
     requires { index < length tree.chains.now.order.items }
     ensures { IfOk result (λ s. IsNodeOf tree.entry nodes.entry index (string_bytes s)) }
 {
-    let item = tree.chains.order[index];
-    let (space, number) = item;
-    let text = item_text(alloc, space, number, name_in(tree.names, item))?;
+    let text = named_text(alloc, tree.names, tree.chains.order[index])?;
     let label = graph_text(alloc, &text)?;
     let arrow = arrow_to(alloc, tree, nodes, index)?;
     let id = item_id(alloc, nodes.prefix, index)?;
     let indent = nodes.indent;
     format!(in alloc; "{indent}{id} [label=\"{label}\"];\n{arrow}")
+}
+
+/// An item, with its name if it is a function that has one.
+fn named_text(
+    alloc: Global,
+    names: &OrderedMap<u32, &str>,
+    item: (Space, u32),
+) -> Result<String, AllocError>
+    ensures { IfOk result (λ s. string_bytes s
+        ≡ item_text item.0 item.1 (name_in (name_entries names.now) item)) }
+{
+    let (space, index) = item;
+    item_text(alloc, space, index as usize, name_in(names, item))
 }
 
 /// The arrow to the item at an index.

@@ -6,24 +6,31 @@ ghost use Rattle.json.specs.Print.{print};
 ghost use Rattle.json.specs.Lex.{tokens};
 ghost use Rattle.json.specs.Token.{begin_object, end_object, key, null, string};
 ghost use Rattle.json.specs.Tree.{json_tokens};
-ghost use Rattle.wc_json.specs.Shapes.{array_of};
-ghost use Rattle.wc_why.specs.JsonPaths.{begun_tokens, ended_tokens, export_json, import_json, item_json, named_json, path_json, step_json, text_or_null, typed_json};
+ghost use Rattle.wc_json.specs.Shapes.{array_of, number_json};
+ghost use Rattle.wc_paths.specs.PathRoots.{root_view};
+ghost use Rattle.wc_why.specs.JsonPaths.{begun_tokens, ended_tokens, export_json, fills_json, import_json, item_json, kind_json, named_json, path_json, root_json, step_json, text_or_null, typed_json, unfollowed_json, unread_body_json, unread_section_json};
 ghost use Rattle.wc_why.specs.Paths.{path_view, step_view, text_of};
 ghost use Rattle.wc_why.specs.Private.Tokens.{Puts};
 
-use crate::lines::space_name;
-use crate::paths::{Path, PathPrinter, Step, Target};
+use crate::lines::{kind_name, space_name};
+use crate::paths::{Path, PathPrinter, Step, Target, Unfollowed};
 use json::Writer;
 use std::alloc::{AllocError, Global};
-use wc_read::Space;
+use wc_paths::PathRoot;
 
 /// An object with `interface`, `name` and `steps`, the list of the path's steps. For the types of the interface alone `name`
 /// is null, and a fourth member is `used_by`: the interface that uses them, or null. A step is an object whose first member
 /// is `kind`:
 ///
 /// - `import`, with `adapter`, `module` and `name`: that adapter imports it; null stands for the main module;
-/// - `export`, with `adapter` and `name`: that adapter exports it; null stands for a module alone;
-/// - `item`, with `space` (`type`, `func`, `table`, `memory` or `global`), `index` and `name`, which is null where it has none.
+/// - `export`, with `adapter` and `name`: that adapter exports it; null stands for the main module, or a module that stands
+///   alone;
+/// - `start`: the start function of that module;
+/// - `fills`, with `space` (`table` or `memory`) and `index`: what an active segment of that module fills;
+/// - `unreached`: nothing in the main module leads to the import;
+/// - `unread`, with `function` or `section`: the index of the function whose body, or the name of the section, can't be read;
+/// - `item`, with `space` (`type`, `func`, `table`, `memory`, `global`, `elem` or `data`), `index` and `name`, which is null
+///   where it has none.
 impl PathPrinter for Writer {
     ghost use Rattle.json.specs.Token.{Token};
     ghost use Rattle.json.specs.Tree.{json_tokens};
@@ -145,9 +152,75 @@ fn put_step(out: &mut Writer, step: Step<'_>) -> Result<(), AllocError>
             module,
             name,
         } => put_import(out, adapter, module, name),
-        Step::Export { adapter, name } => put_export(out, adapter, name),
-        Step::Item { space, index, name } => put_item(out, space, index, name),
+        Step::Export { adapter, name } => put_export(out, Some(adapter), name),
+        Step::Begin { root, .. } => put_root(out, root),
+        Step::Unfollowed(why) => put_unfollowed(out, why),
+        Step::Item { space, index, name } => put_item(out, space_name(space), index, name),
+        Step::Segment { kind, index } => put_item(out, kind_name(kind), index, None),
     }
+}
+
+/// Writes where a path begins.
+fn put_root(out: &mut Writer, root: PathRoot<'_>) -> Result<(), AllocError>
+    ensures { OnOk result (Puts out.old out.new (json_tokens (root_json (root_view root.entry)))) }
+{
+    match root {
+        PathRoot::Export(name) => put_export(out, None, name),
+        PathRoot::Start => put_kind(out, "start"),
+        PathRoot::FillsTable(index) => put_fills(out, "table", index),
+        PathRoot::FillsMemory(index) => put_fills(out, "memory", index),
+    }
+}
+
+/// Writes a step that is of a kind, and has no other members.
+fn put_kind(out: &mut Writer, kind: &str) -> Result<(), AllocError>
+    ensures { OnOk result (Puts out.old out.new (json_tokens (kind_json kind.now))) }
+{
+    begin_object(out)?;
+    put_text(out, "kind", kind)?;
+    end_object(out)
+}
+
+/// Writes what a segment fills.
+fn put_fills(out: &mut Writer, space: &str, index: u32) -> Result<(), AllocError>
+    ensures { OnOk result (Puts out.old out.new (json_tokens (fills_json space.now index))) }
+{
+    begin_object(out)?;
+    put_text(out, "kind", "fills")?;
+    put_text(out, "space", space)?;
+    put_number(out, "index", index as usize)?;
+    end_object(out)
+}
+
+/// Writes why no path through the main module is shown.
+fn put_unfollowed(out: &mut Writer, why: Unfollowed) -> Result<(), AllocError>
+    ensures { OnOk result (Puts out.old out.new (json_tokens (unfollowed_json why))) }
+{
+    match why {
+        Unfollowed::Unreached => put_kind(out, "unreached"),
+        Unfollowed::Body(index) => put_unread_body(out, index),
+        Unfollowed::Section(section) => put_unread_section(out, section.name()),
+    }
+}
+
+/// Writes the function whose body can't be read.
+fn put_unread_body(out: &mut Writer, index: usize) -> Result<(), AllocError>
+    ensures { OnOk result (Puts out.old out.new (json_tokens (unread_body_json index))) }
+{
+    begin_object(out)?;
+    put_text(out, "kind", "unread")?;
+    put_number(out, "function", index)?;
+    end_object(out)
+}
+
+/// Writes the section that can't be read.
+fn put_unread_section(out: &mut Writer, name: &str) -> Result<(), AllocError>
+    ensures { OnOk result (Puts out.old out.new (json_tokens (unread_section_json name.now))) }
+{
+    begin_object(out)?;
+    put_text(out, "kind", "unread")?;
+    put_text(out, "section", name)?;
+    end_object(out)
 }
 
 /// Writes an import.
@@ -183,18 +256,17 @@ fn put_export(out: &mut Writer, adapter: Option<&str>, name: &str) -> Result<(),
 /// Writes an item.
 fn put_item(
     out: &mut Writer,
-    space: Space,
-    index: u32,
+    space: &str,
+    index: usize,
     name: Option<&str>,
 ) -> Result<(), AllocError>
     ensures { OnOk result (Puts out.old out.new
-        (json_tokens (item_json space index (option_map text_of name.entry)))) }
+        (json_tokens (item_json space.now index (option_map text_of name.entry)))) }
 {
     begin_object(out)?;
     put_text(out, "kind", "item")?;
-    put_text(out, "space", space_name(space))?;
-    out.key("index")?;
-    out.u64(index as u64)?;
+    put_text(out, "space", space)?;
+    put_number(out, "index", index)?;
     put_text_or_null(out, "name", name)?;
     end_object(out)
 }
@@ -216,6 +288,15 @@ fn put_text(out: &mut Writer, name: &str, text: &str) -> Result<(), AllocError>
 {
     out.key(name)?;
     out.string(text)
+}
+
+/// Writes a member that is a number.
+fn put_number(out: &mut Writer, name: &str, number: usize) -> Result<(), AllocError>
+    ensures { OnOk result (Puts out.old out.new
+        (key name.now ∷ json_tokens (number_json number))) }
+{
+    out.key(name)?;
+    out.u64(number as u64)
 }
 
 /// Writes a member that is null.

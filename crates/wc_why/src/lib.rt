@@ -1,4 +1,4 @@
-//! Why a module imports something: the path to an import, as a value of steps, and what prints paths: as lines, as JSON
+//! Why a module imports something: the path to an import, as a value of steps, and printers of paths: as lines, as JSON
 //! and as a graph in the language of Graphviz.
 //!
 //! A `Path` leads to one import by its `Step`s. It is made once, from a chain of `wc_gc::why_imports` (`push_items`), and
@@ -17,7 +17,12 @@ pub use graph::{
     NodeNames, Tree, arrow_text, export_id, item_id, item_nodes, target_box, target_node,
 };
 pub use json_paths::{begin_paths, end_paths};
-pub use lines::{importer_text, item_text, push_path, target_text};
+pub use lines::{
+    importer_text, item_text, main_root_text, push_path, root_text, segment_text, target_text,
+    unfollowed_text,
+};
 pub use marks::marks_of;
-pub use paths::{Path, PathPrinter, Step, Target, push_items};
+pub use paths::{
+    Path, PathPrinter, SegmentKind, Step, Target, Unfollowed, push_items, push_path_items,
+};
 pub use texts::{graph_text, two_words, word};

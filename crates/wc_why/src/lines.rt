@@ -3,13 +3,15 @@
 ghost use Rattle.std.specs.Prelude.{◌≡◌, ◌++◌, IfOk, OnOk, map, string_bytes};
 ghost use Rattle.std.specs.List.{flat_map};
 ghost use Rattle.std.specs.Option.{option_map};
-ghost use Rattle.wc_why.specs.Lines.{export_line, import_line, importer_text, item_text, path_lines, space_name, step_line, target_text, types_text, used_text};
+ghost use Rattle.wc_paths.specs.PathRoots.{root_view};
+ghost use Rattle.wc_why.specs.Lines.{begin_text, export_line, import_line, importer_text, item_text, kind_name, line_of, main_root_text, path_lines, root_text, segment_text, space_name, step_line, target_text, types_text, unfollowed_text, used_text};
 ghost use Rattle.wc_why.specs.Paths.{path_view, step_view, target_view, text_of};
 
-use crate::paths::{Path, PathPrinter, Step, Target};
+use crate::paths::{Path, PathPrinter, SegmentKind, Step, Target, Unfollowed};
 use crate::texts::{two_words, word};
 use std::alloc::{AllocError, Global};
 use wc_json::escaped;
+use wc_paths::PathRoot;
 use wc_read::Space;
 
 /// The lines of a path (`push_path`).
@@ -33,8 +35,10 @@ impl PathPrinter for String {
 /// Appends the line of what a path leads to (`target_text`), and then a line for each step, after two blanks:
 ///
 /// - `main imports MODULE NAME`, or `adapter ADAPTER imports MODULE NAME`;
-/// - `export NAME`, or `adapter ADAPTER exports NAME`;
-/// - an item as `item_text` has it.
+/// - `adapter ADAPTER exports NAME`;
+/// - where a path begins in the main module, as `main_root_text` has it, or in a module that stands alone, as `root_text`
+///   has it; or why no path through the main module is shown (`unfollowed_text`);
+/// - an item as `item_text` has it, a segment as `segment_text` has it.
 ///
 /// Texts from outside are escaped (`wc_json::escaped`), and a blank in them is `\u{20}`; but in the name of an item, and of
 /// an export of a module that stands alone, which end their lines, it stays.
@@ -52,8 +56,8 @@ pub fn push_path(alloc: Global, path: &Path<'_>, text: &mut String) -> Result<()
     push_steps(alloc, &path.steps, text)
 }
 
-/// What a path leads to: `INTERFACE NAME`; or `INTERFACE: for its types`, and after it `, used by INTERFACE`, if one uses
-/// them. Each text is a word (`word`).
+/// Returns the text of the import that a path leads to: `INTERFACE NAME`; or `INTERFACE: for its types`, and after it
+/// `, used by INTERFACE`, if one uses them. Each text is a word (`word`).
 ///
 /// # Errors
 ///
@@ -114,11 +118,30 @@ fn step_line(alloc: Global, step: Step<'_>) -> Result<String, AllocError>
             name,
         } => import_line(alloc, adapter, module, name),
         Step::Export { adapter, name } => export_line(alloc, adapter, name),
+        Step::Begin { of_main, root } => {
+            let text = begin_text(alloc, of_main, root)?;
+            line_of(alloc, &text)
+        }
+        Step::Unfollowed(why) => {
+            let text = unfollowed_text(alloc, why)?;
+            line_of(alloc, &text)
+        }
         Step::Item { space, index, name } => {
-            let item = item_text(alloc, space, index, name)?;
-            format!(in alloc; "  {item}\n")
+            let text = item_text(alloc, space, index, name)?;
+            line_of(alloc, &text)
+        }
+        Step::Segment { kind, index } => {
+            let text = segment_text(alloc, kind, index)?;
+            line_of(alloc, &text)
         }
     }
+}
+
+/// A text as a line, after two blanks.
+fn line_of(alloc: Global, text: &str) -> Result<String, AllocError>
+    ensures { IfOk result (λ s. string_bytes s ≡ line_of text.now) }
+{
+    format!(in alloc; "  {text}\n")
 }
 
 /// The line of an import.
@@ -153,21 +176,106 @@ pub fn importer_text(alloc: Global, adapter: Option<&str>) -> Result<String, All
     }
 }
 
-/// The line of an export.
-fn export_line(alloc: Global, adapter: Option<&str>, name: &str) -> Result<String, AllocError>
-    ensures { IfOk result (λ s. string_bytes s
-        ≡ export_line (option_map text_of adapter.entry) name.now) }
+/// The line of an export of an adapter.
+fn export_line(alloc: Global, adapter: &str, name: &str) -> Result<String, AllocError>
+    ensures { IfOk result (λ s. string_bytes s ≡ export_line adapter.now name.now) }
 {
-    match adapter {
-        Some(adapter) => {
-            let adapter = word(alloc, adapter)?;
-            let name = word(alloc, name)?;
-            format!(in alloc; "  adapter {adapter} exports {name}\n")
-        }
-        None => {
+    let adapter = word(alloc, adapter)?;
+    let name = word(alloc, name)?;
+    format!(in alloc; "  adapter {adapter} exports {name}\n")
+}
+
+/// Where a path begins in the main module of a component, or in a module that stands alone.
+fn begin_text(alloc: Global, of_main: bool, root: PathRoot<'_>) -> Result<String, AllocError>
+    ensures { IfOk result (λ s. string_bytes s ≡ begin_text of_main (root_view root.entry)) }
+{
+    if of_main {
+        main_root_text(alloc, root)
+    } else {
+        root_text(alloc, root)
+    }
+}
+
+/// Where a path begins in a module that stands alone: `export NAME`, the name escaped (`wc_json::escaped`), `start`,
+/// `fills table T` or `fills memory M`.
+///
+/// # Errors
+///
+/// `AllocError`: an allocation failed.
+pub fn root_text(alloc: Global, root: PathRoot<'_>) -> Result<String, AllocError>
+    ensures { IfOk result (λ s. string_bytes s ≡ root_text (root_view root.entry)) }
+{
+    match root {
+        PathRoot::Export(name) => {
             let name = escaped(alloc, name)?;
-            format!(in alloc; "  export {name}\n")
+            format!(in alloc; "export {name}")
         }
+        PathRoot::Start => String::from_str(alloc, "start"),
+        PathRoot::FillsTable(index) => format!(in alloc; "fills table {index}"),
+        PathRoot::FillsMemory(index) => format!(in alloc; "fills memory {index}"),
+    }
+}
+
+/// Where a path begins in the main module of a component: the same after `main`, with `main exports NAME`, the name as a
+/// word.
+///
+/// # Errors
+///
+/// `AllocError`: an allocation failed.
+pub fn main_root_text(alloc: Global, root: PathRoot<'_>) -> Result<String, AllocError>
+    ensures { IfOk result (λ s. string_bytes s ≡ main_root_text (root_view root.entry)) }
+{
+    match root {
+        PathRoot::Export(name) => {
+            let name = word(alloc, name)?;
+            format!(in alloc; "main exports {name}")
+        }
+        PathRoot::Start => String::from_str(alloc, "main start"),
+        PathRoot::FillsTable(index) => format!(in alloc; "main fills table {index}"),
+        PathRoot::FillsMemory(index) => format!(in alloc; "main fills memory {index}"),
+    }
+}
+
+/// Why no path through the main module is shown: `main reaches it nowhere`, or `main is not followed: ` and what can't be
+/// read.
+///
+/// # Errors
+///
+/// `AllocError`: an allocation failed.
+pub fn unfollowed_text(alloc: Global, why: Unfollowed) -> Result<String, AllocError>
+    ensures { IfOk result (λ s. string_bytes s ≡ unfollowed_text why) }
+{
+    match why {
+        Unfollowed::Unreached => String::from_str(alloc, "main reaches it nowhere"),
+        Unfollowed::Body(index) => {
+            format!(in alloc; "main is not followed: body of function {index}")
+        }
+        Unfollowed::Section(section) => {
+            let name = section.name();
+            format!(in alloc; "main is not followed: {name}")
+        }
+    }
+}
+
+/// A segment: `elem` or `data`, and its index.
+///
+/// # Errors
+///
+/// `AllocError`: an allocation failed.
+pub fn segment_text(alloc: Global, kind: SegmentKind, index: usize) -> Result<String, AllocError>
+    ensures { IfOk result (λ s. string_bytes s ≡ segment_text kind index) }
+{
+    let kind = kind_name(kind);
+    format!(in alloc; "{kind} {index}")
+}
+
+/// The word for a segment.
+pub(crate) fn kind_name(kind: SegmentKind) -> &'static str
+    ensures { result.now ≡ kind_name kind }
+{
+    match kind {
+        SegmentKind::Elements => "elem",
+        SegmentKind::Data => "data",
     }
 }
 
@@ -180,7 +288,7 @@ fn export_line(alloc: Global, adapter: Option<&str>, name: &str) -> Result<Strin
 pub fn item_text(
     alloc: Global,
     space: Space,
-    index: u32,
+    index: usize,
     name: Option<&str>,
 ) -> Result<String, AllocError>
     ensures { IfOk result (λ s. string_bytes s

@@ -1,4 +1,4 @@
-//! Which items are on paths to imports that are asked for.
+//! Marks of the items that are on paths to imports that are asked for.
 
 ghost use Rattle.std.specs.Prelude.{◌≡◌, ◌<◌, IfOk, IfSome, false, length, replicate};
 ghost use Rattle.wc_why.specs.Marks.{AreInside, AreMarks};

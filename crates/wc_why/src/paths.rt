@@ -3,11 +3,13 @@
 ghost use Rattle.std.specs.Prelude.{◌≡◌, ◌++◌, ℕ, List, OnOk, map};
 ghost use Rattle.std.specs.Option.{option_map};
 ghost use Rattle.wc_read.specs.Names.{name_entries};
-ghost use Rattle.wc_why.specs.Paths.{PathView, item_step, name_in, path_view, step_view, text_of};
+ghost use Rattle.wc_why.specs.Paths.{PathView, item_step, name_in, name_of, path_step, path_view, step_view, text_of};
 
 use std::alloc::{AllocError, Global};
 use wc_maps::OrderedMap;
+use wc_paths::{PathItem, PathRoot};
 use wc_read::Space;
+use wc_segments::SegmentSection;
 
 /// A step of a path.
 #[derive(Clone, Copy, Debug, PartialEq, Eq)]
@@ -21,28 +23,64 @@ pub enum Step<'a> {
         /// Its name there.
         name: &'a str,
     },
-    /// A module exports a name.
+    /// An adapter exports a name.
     Export {
-        /// The adapter that exports it; `None` for a module that stands alone.
-        adapter: Option<&'a str>,
+        /// The adapter.
+        adapter: &'a str,
         /// The name of the export.
         name: &'a str,
     },
+    /// A path begins in a module that is not an adapter.
+    Begin {
+        /// Whether it is the main module of a component; else it stands alone.
+        of_main: bool,
+        /// Where it begins there.
+        root: PathRoot<'a>,
+    },
+    /// The main module of a component, where the path through it is not known.
+    Unfollowed(Unfollowed),
     /// An item of a module, which the step before it names.
     Item {
         /// Its index space.
         space: Space,
         /// Its index there.
-        index: u32,
+        index: usize,
         /// The name of a function that has one.
         name: Option<&'a str>,
     },
+    /// A segment of a module, which the step before it names.
+    Segment {
+        /// Its kind.
+        kind: SegmentKind,
+        /// Its index among those of its kind.
+        index: usize,
+    },
 }
 
-/// What of an interface a path leads to.
+/// The kind of a segment.
+#[derive(Clone, Copy, Debug, PartialEq, Eq)]
+pub enum SegmentKind {
+    /// References, which it copies to a table.
+    Elements,
+    /// Bytes, which it copies to a memory.
+    Data,
+}
+
+/// Why no path through the main module is shown.
+#[derive(Clone, Copy, Debug, PartialEq, Eq)]
+pub enum Unfollowed {
+    /// Nothing in it leads to the import.
+    Unreached,
+    /// The body of the function of this index is reached, and can't be read.
+    Body(usize),
+    /// This section can't be read.
+    Section(SegmentSection),
+}
+
+/// The part of an interface that a path leads to.
 #[derive(Clone, Copy, Debug, PartialEq, Eq)]
 pub enum Target<'a> {
-    /// What is imported under this name.
+    /// The import of this name.
     Name(&'a str),
     /// Its types alone.
     Types {
@@ -56,24 +94,24 @@ pub enum Target<'a> {
 pub struct Path<'a> {
     /// The interface, or the module, that is imported from.
     pub interface: &'a str,
-    /// What of it is imported.
+    /// The part of it that is imported.
     pub target: Target<'a>,
     /// The steps of the path, from its begin.
     pub steps: Vec<Step<'a>>,
 }
 
-/// What prints paths, one after another.
+/// A printer of paths, which takes one after another.
 pub trait PathPrinter {
-    // What is printed is a list of these: bytes, or tokens.
+    // The parts of printed text: bytes, or tokens.
     ghost Part: { Type 0 };
 
-    // What is printed of a path.
+    // The parts that are printed of a path.
     ghost parts: { PathView → List Part };
 
-    // What was printed.
+    // The parts that were printed.
     ghost printed: { Self → List Part };
 
-    // What stood there before.
+    // The text that stood there before.
     ghost before: { Self → List ℕ };
 
     /// Prints a path after what was printed.
@@ -112,7 +150,11 @@ fn item_step<'r>(names: &OrderedMap<u32, &'r str>, item: (Space, u32)) -> Step<'
 {
     let (space, index) = item;
     let name = name_in(names, item);
-    Step::Item { space, index, name }
+    Step::Item {
+        space,
+        index: index as usize,
+        name,
+    }
 }
 
 /// The name of a function that has one. Items of other spaces have none.
@@ -122,5 +164,54 @@ pub(crate) fn name_in<'r>(names: &OrderedMap<u32, &'r str>, item: (Space, u32)) 
     match item {
         (Space::Funcs, index) => names.get(&index).copied(),
         _ => None,
+    }
+}
+
+/// Appends a step for each item of a path of `wc_paths`, in order. A function has the one of these names that its index has.
+///
+/// # Errors
+///
+/// `AllocError`: an allocation failed. Some of the steps may have been appended.
+pub fn push_path_items<'r>(
+    names: &OrderedMap<u32, &'r str>,
+    items: &[PathItem],
+    steps: &mut Vec<Step<'r>>,
+) -> Result<(), AllocError>
+    ensures { OnOk result (map step_view steps.new.items ≡ map step_view steps.old.items
+        ++ map (path_step (name_entries names.now)) items.now) }
+{
+    for item in items {
+        steps.push(path_step(names, *item))?;
+    }
+    Ok(())
+}
+
+/// The step of an item of a path.
+fn path_step<'r>(names: &OrderedMap<u32, &'r str>, item: PathItem) -> Step<'r>
+    ensures { step_view result ≡ path_step (name_entries names.now) item }
+{
+    match item {
+        PathItem::Item(space, index) => {
+            let name = name_of(names, space, index);
+            Step::Item { space, index, name }
+        }
+        PathItem::Elements(index) => Step::Segment {
+            kind: SegmentKind::Elements,
+            index,
+        },
+        PathItem::Data(index) => Step::Segment {
+            kind: SegmentKind::Data,
+            index,
+        },
+    }
+}
+
+/// The name of an item that is a function, if it has one.
+fn name_of<'r>(names: &OrderedMap<u32, &'r str>, space: Space, index: usize) -> Option<&'r str>
+    ensures { option_map text_of result ≡ name_of (name_entries names.now) space index }
+{
+    match u32::try_from(index) {
+        Ok(index) => name_in(names, (space, index)),
+        Err(_) => None,
     }
 }

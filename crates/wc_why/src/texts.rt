@@ -8,17 +8,17 @@ ghost use Rattle.wc_why.specs.Texts.{graph_text, two_words, word};
 use std::alloc::{AllocError, Global};
 use wc_json::escaped;
 
-/// What each character of a text becomes.
+/// A mapping from characters to texts.
 trait Mapping {
     // The text of a character.
     ghost text: { ℕ → List ℕ };
 
-    /// Appends what a character becomes.
+    /// Appends the text of a character.
     fn push(&self, out: &mut String, c: char) -> Result<(), AllocError>
         ensures { OnOk result (string_bytes out.new ≡ string_bytes out.old ++ text c) };
 }
 
-/// A text in which each character is what it becomes.
+/// Replaces each character of a text by its text.
 fn mapped<M: Mapping>(alloc: Global, mapping: &M, text: &str) -> Result<String, AllocError>
     ensures { IfOk result (λ s. string_bytes s ≡ flat_map M.text (chars text.now)) }
 {
@@ -26,7 +26,7 @@ fn mapped<M: Mapping>(alloc: Global, mapping: &M, text: &str) -> Result<String, 
     mapped_characters(alloc, mapping, &characters)
 }
 
-/// What these characters become, one after another.
+/// The texts of these characters, one after another.
 fn mapped_characters<M: Mapping>(
     alloc: Global,
     mapping: &M,
@@ -41,7 +41,7 @@ fn mapped_characters<M: Mapping>(
     Ok(out)
 }
 
-/// A blank becomes `\u{20}`.
+/// The mapping of a word: a blank becomes `\u{20}`.
 struct AsWord;
 
 impl Mapping for AsWord {
@@ -57,7 +57,7 @@ impl Mapping for AsWord {
     }
 }
 
-/// What Graphviz would read otherwise between quotes is escaped.
+/// The mapping of a label: each character that Graphviz would read otherwise between quotes is escaped.
 struct AsLabel;
 
 impl Mapping for AsLabel {

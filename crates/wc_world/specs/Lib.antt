@@ -1,3 +1,4 @@
+pub mod ExportOptions
 pub mod Fault
 pub mod Options
 pub mod Used

@@ -10,7 +10,7 @@ pub struct WorldAdapter<'a> {
     /// The bytes: of a library those of the encoder, borrowed; of an adapter those that it is
     /// trimmed to.
     pub wasm: CowSlice<'a, u8>,
-    /// What these bytes import and export.
+    /// The record of the imports and exports of these bytes.
     pub info: ValidatedModule,
     /// How it is instantiated, if it is a library.
     pub library_info: Option<&'a LibraryInfo>,

@@ -1,4 +1,4 @@
-//! Why a component has no world.
+//! Faults of worlds: the reasons why a component has no world.
 
 ghost use Rattle.std.specs.Prelude.{◌≡◌, ◌≤◌};
 ghost use Rattle.wc_world.specs.declared.fault.WorldFault.TheVariants.{Memory};

@@ -1,4 +1,4 @@
-//! How the imports of a world are met.
+//! The map of a world's imports: how each is met.
 
 ghost use Rattle.std.specs.Prelude.{◌≡◌, ◌<◌, All, IfOk, None, OnOk, Some, length, map};
 ghost use Rattle.std.specs.Option.{option_map};

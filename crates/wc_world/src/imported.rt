@@ -1,4 +1,4 @@
-//! How imports are met.
+//! Lowerings of imports, interface by interface.
 
 use crate::options::RequiredOptions;
 use wc_maps::Map;
@@ -21,10 +21,11 @@ pub enum Lowering {
     ResourceDrop(TypeId),
 }
 
-/// What core modules import of an interface, or of the functions and types that the world itself imports.
+/// The imports that core modules have of an interface, or of the functions and types that the world itself imports.
 #[derive(Debug, Drop)]
 pub struct ImportedInterface {
-    /// What is imported, by its name and by how it is called: drops of resources, named `NAME_drop`, and functions.
+    /// The lowering of each import, by its name and by how it is called: drops of resources, named `NAME_drop`, and
+    /// functions.
     pub lowerings: Map<(String, AbiVariant), Lowering>,
     /// The interface; `None` for the world itself.
     pub interface: Option<InterfaceId>,

@@ -3,13 +3,14 @@
 //! which types these need.
 //!
 //! `ImportOptions` decides which canonical options (component model, Canonical ABI, "canonopt") lowered functions need,
-//! and `PlainOptions` decides it by what the functions pass.
+//! and `PlainOptions` decides it by what the functions pass. `RequiredOptions::for_export` has those of lifted functions.
 //!
 //! `ComponentWorld::new` makes it of an encoder (`wc_encoder::ComponentEncoder`).
 #![tactic(auto)]
 
 mod adapter;
 mod adapters;
+mod export_options;
 mod fault;
 mod import_map;
 mod imported;

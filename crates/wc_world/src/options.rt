@@ -1,4 +1,4 @@
-//! What a component has to say where it lowers an imported function.
+//! The canonical options that a component needs where it lowers an imported function.
 
 ghost use Rattle.std.specs.Prelude.{◌≡◌, ◌||◌, IfOk, false};
 ghost use Rattle.std.specs.List.{list_any};
@@ -11,15 +11,15 @@ use bitflags::{Flag, Flags};
 use std::alloc::{AllocError, Global};
 use wc_resolve::{AbiVariant, Function, Resolve, WasmSignature, WitType};
 
-/// Which canonical options (component model, Canonical ABI, "canonopt") a lowered function needs. They are a set:
-/// `bitflags::Flags` has its operations.
+/// The canonical options (component model, Canonical ABI, "canonopt") that a lowered or a lifted function needs. They are
+/// a set: `bitflags::Flags` has its operations.
 #[derive(Clone, Copy, Debug, PartialEq, Eq)]
 pub struct RequiredOptions(u8);
 
 impl RequiredOptions {
     /// A memory: parameters or the result are passed in it.
     pub const MEMORY: RequiredOptions = RequiredOptions(1);
-    /// A realloc: the result is put into memory.
+    /// A realloc: the result is put into memory; of a lifted function the parameters are.
     pub const REALLOC: RequiredOptions = RequiredOptions(2);
     /// How strings are encoded.
     pub const STRING_ENCODING: RequiredOptions = RequiredOptions(4);
@@ -79,7 +79,12 @@ fn bit_if(bit: u8, is_needed: bool) -> u8
 }
 
 /// The set of the options that are needed.
-fn required(memory: bool, realloc: bool, encoding: bool, is_async: bool) -> RequiredOptions
+pub(crate) fn required(
+    memory: bool,
+    realloc: bool,
+    encoding: bool,
+    is_async: bool,
+) -> RequiredOptions
     ensures { result.0 ≡ option_bits memory realloc encoding is_async }
 {
     let memory = bit_if(RequiredOptions::MEMORY.0, memory);
@@ -127,21 +132,21 @@ fn params_hold_text(resolve: &Resolve, params: &[(String, WitType)], lists: bool
 }
 
 /// Whether one of a function's parameters holds a string (or, where `lists` is true, a list).
-fn takes_text(resolve: &Resolve, function: &Function, lists: bool) -> bool
+pub(crate) fn takes_text(resolve: &Resolve, function: &Function, lists: bool) -> bool
     ensures { result ≡ any_param (holds_text lists resolve.now) (function_view function.now) }
 {
     params_hold_text(resolve, &function.params, lists)
 }
 
 /// Whether a parameter or the result of a function holds a string (or, where `lists` is true, a list).
-fn passes_text(resolve: &Resolve, function: &Function, lists: bool) -> bool
+pub(crate) fn passes_text(resolve: &Resolve, function: &Function, lists: bool) -> bool
     ensures { result ≡ function_does (holds_text lists resolve.now) (function_view function.now) }
 {
     takes_text(resolve, function, lists) || optional_holds_text(resolve, function.result, lists)
 }
 
 /// Whether something is passed in memory.
-fn passes_in_memory(signature: &WasmSignature, passes_text: bool) -> bool
+pub(crate) fn passes_in_memory(signature: &WasmSignature, passes_text: bool) -> bool
     ensures { result ≡ (signature.now.indirect_params || (signature.now.retptr || passes_text)) }
 {
     signature.indirect_params || signature.retptr || passes_text

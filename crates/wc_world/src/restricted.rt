@@ -8,9 +8,9 @@ use wc_gc::laws::trimmed_restricts;
 use wc_read::laws::modules_unique;
 use wc_validate::laws::{restrictions_recorded, restrictions_valid};
 
-/// What is recorded of a trimmed adapter is, of what is recorded of the adapter, what its required exports reach,
-/// besides the main module's realloc. It is refused only where it imports one name of the main module twice. It does
-/// nothing when it runs.
+/// The record of a trimmed adapter is the part of the adapter's record that its required exports reach, besides the
+/// main module's realloc. It is refused only where it imports one name of the main module twice. It does nothing when
+/// it runs.
 pub(crate) fn trimmed_is_restricted(encoder: &ComponentEncoder)
     ensures restricted { TrimmedIsRestricted encoder.now }
     ensures collides { RefusedAsCollision encoder.now }

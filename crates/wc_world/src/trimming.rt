@@ -1,4 +1,4 @@
-//! Which adapters a component has, and what each is trimmed by.
+//! The adapters that a component needs, and the settings by which each is trimmed.
 
 ghost use Rattle.std.specs.Prelude.{◌≡◌, ◌++◌, ◌∷◌, [], ℕ, IfOk, List, OnOk, map, option_copied};
 ghost use Rattle.std.specs.List.{list_any};

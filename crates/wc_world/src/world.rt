@@ -34,13 +34,13 @@ use wc_texts::Refused;
 use wc_validate::laws::records_in_range;
 use wc_validate::{ImportMap, ValidatedModule, validate_module_explained};
 
-/// What a component encoder has to know of modules before it encodes them: what the main module and the adapters
-/// import and export, how their imports are met, and which types they need.
+/// The world of a component: the facts about modules that an encoder needs before it encodes them. These are the
+/// imports and exports of the main module and of the adapters, how their imports are met, and the types that they need.
 #[derive(Drop)]
 pub struct ComponentWorld<'a> {
-    /// What the component is encoded from.
+    /// The parts that the component is encoded from.
     pub encoder: &'a ComponentEncoder,
-    /// What the main module imports and exports.
+    /// The record of the main module's imports and exports.
     pub info: ValidatedModule,
     /// The adapters that are needed, and the libraries, by their names.
     pub adapters: Map<&'a str, WorldAdapter<'a>>,
@@ -90,7 +90,7 @@ fn adapter_uses_slot_1<'a>(adapters: &Map<&'a str, WorldAdapter<'a>>) -> bool
     false
 }
 
-/// What the main module of an encoder imports and exports.
+/// Validates the main module of an encoder, and returns its record.
 fn main_record(
     alloc: Global,
     encoder: &ComponentEncoder,
@@ -108,8 +108,8 @@ fn main_record(
     }
 }
 
-/// What is made of the modules of a component: how imports are met, the live types of imports, and which exported
-/// interfaces use which.
+/// The maps of a component's world: how imports are met, the live types of imports, and which exported interfaces use
+/// which.
 #[derive(Drop)]
 struct WorldMaps {
     import_map: Map<Option<String>, ImportedInterface>,
@@ -117,7 +117,7 @@ struct WorldMaps {
     exports_used: Map<InterfaceId, Set<InterfaceId>>,
 }
 
-/// What is made of this main module and these adapters.
+/// Makes the maps for this main module and these adapters.
 fn world_maps<'a, O: ImportOptions>(
     alloc: Global,
     encoder: &ComponentEncoder,

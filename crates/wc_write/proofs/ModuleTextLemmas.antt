@@ -35,7 +35,7 @@ use Rattle.wc_write.proofs.VectorTextLemmas.{back_shorter}
 use Rattle.wc_write.proofs.ModuleSectionLemmas.{SectionSizes, each_size_fits}
 use Rattle.wc_write.proofs.SectionLemmas.{sections_of, SectionsAfter, sections_after_more, sections_after_last, or_none, content_at}
 use Rattle.wc_write.proofs.ContentLemmas.{types_content, imports_content, indices_content, tables_content, memories_content, init_spelled, made_global, IsDefinedGlobal, globals_content, exports_content, start_content, code_content, all_item_sizes_fit}
-use Rattle.wc_write.proofs.SpaceLemmas.{imported_front, imported_none, defined_back, space_is, items_same, funcs_zipped, map_again, of_groups}
+use Rattle.wc_write.proofs.SpaceLemmas.{content_of_global, type_of_global, imported_front, imported_none, defined_back, space_is, items_same, funcs_zipped, map_again, of_groups}
 
 -- the sections
 
@@ -75,12 +75,6 @@ parts_of b = record {
 }
 
 -- initialisers, by their globals
-abbrev content_of_global : DefinedValue GlobalType (List InstrValue) → List InstrValue
-content_of_global g = g.content
-
-abbrev type_of_global : DefinedValue GlobalType (List InstrValue) → GlobalType
-type_of_global g = g.ty
-
 abbrev HasValType : GlobalType → Type 0
 HasValType g = IsValType g.content_type
 

@@ -3,7 +3,7 @@ use Rattle.std.proofs.Common.{◌≡◌, ℕ, ◌+◌, ◌≤◌, List, [], ◌�
 use Rattle.std.specs.Prelude.{All, MatchOption, ⊤}
 use Rattle.std.specs.List.{AllZip, flat_map, zip}
 use Rattle.std.specs.Option.{option_map}
-use Rattle.std.proofs.lemmas.List.{length-append, length-map}
+use Rattle.std.proofs.lemmas.List.{length-append, length-map, map-id}
 use Rattle.std.proofs.lemmas.List.Elements.{filter_map-append}
 use Rattle.wc_read.specs.Formats.{Format, SpellsNumber, SpellsName, SpellsItems, SpellsVector}
 use Rattle.wc_read.specs.Types.{FuncTypeValue, SpellsValType}
@@ -38,7 +38,7 @@ use Rattle.wc_write.proofs.NumberTextLemmas.{number_shortest, some_byte}
 use Rattle.wc_write.proofs.ShortestTextLemmas.{joined, name_shortest, global_type_shortest, table_shortest, memory_shortest, import_shortest}
 use Rattle.wc_write.proofs.ValueTypeLemmas.{val_type_shortest}
 use Rattle.wc_write.proofs.VectorTextLemmas.{items_shortest, vector_shortest}
-use Rattle.wc_write.proofs.SpaceLemmas.{map_again}
+use Rattle.wc_write.proofs.SpaceLemmas.{content_of_global, map_again, type_of_global}
 use Rattle.wc_write.proofs.ShortestBodyLemmas.{instr_shortest, body_shortest}
 use Rattle.wc_write.proofs.WritableModuleLemmas.{HasBytes, all_bytes, content_bytes}
 use Rattle.wc_write.proofs.SizeLemmas.{number_grows, section_grows, total, flat_total, total_append, total_one, size_of, size_if, frames_total, ids_total, first_size}
@@ -184,10 +184,6 @@ module _ {A T C : Type 0} (of : ImportType → Option T) (ty : A → T) (content
   imports_space : (kind : T → ImportType) (is : List ImportValue) (xs : List A) → imports_of kind (imported_items of is ++ map made xs) ≡ imports_of kind (imported_items {T = T} {C = C} of is)
   imports_space kind is xs = filter_map-append (λ i. import_by (kind i.ty) i.def) (imported_items of is) (map made xs) ∙ rw (none_imported kind xs) (append-nil _)
 
-map_same : {A : Type 0} (xs : List A) → map (λ (x : A). x) xs ≡ xs
-map_same [] = refl
-map_same {A} (x ∷ xs) = ap (λ (r : List A). x ∷ r) (map_same xs)
-
 abbrev first : ℕ × List ℕ → ℕ
 first f = f.0
 
@@ -259,14 +255,8 @@ imports_least content is all h = section_least SpellsImport import_text 2 conten
 abbrev init_of : LocalGlobalValue → List ℕ
 init_of g = g.init
 
-abbrev content_of_global : DefinedValue GlobalType (List InstrValue) → List InstrValue
-content_of_global g = g.content
-
 abbrev type_of : LocalGlobalValue → GlobalType
 type_of g = g.ty
-
-abbrev type_of_global : DefinedValue GlobalType (List InstrValue) → GlobalType
-type_of_global g = g.ty
 
 global_shortest : (bytes : List ℕ) (g : LocalGlobalValue) (o : DefinedValue GlobalType (List InstrValue)) → SpellsLocalGlobal bytes g → g.ty ≡ o.ty
     → SpellsInit g.init o.content → AreBytes bytes → length (defined_global_text o) ≤ length bytes
@@ -346,10 +336,10 @@ module _ (ss : List SectionValue) (p : SectionContentsValue) (c : CustomValue) (
   bodies_are = rw (defined_space func_of first second p.imports (zip p.func_types p.bodies)) (map_again (λ o. o.content) _ (zip p.func_types p.bodies) ∙ seconds p.func_types p.bodies as_many)
 
   tables_are : defined_types m.tables ≡ p.tables
-  tables_are = rw (defined_space {C = ⊤} table_of (λ t. t) (λ _. tt) p.imports p.tables) (map_again (λ o. o.ty) _ p.tables ∙ map_same p.tables)
+  tables_are = rw (defined_space {C = ⊤} table_of (λ t. t) (λ _. tt) p.imports p.tables) (map_again (λ o. o.ty) _ p.tables ∙ map-id p.tables)
 
   memories_are : defined_types m.memories ≡ p.memories
-  memories_are = rw (defined_space {C = ⊤} memory_of (λ t. t) (λ _. tt) p.imports p.memories) (map_again (λ o. o.ty) _ p.memories ∙ map_same p.memories)
+  memories_are = rw (defined_space {C = ⊤} memory_of (λ t. t) (λ _. tt) p.imports p.memories) (map_again (λ o. o.ty) _ p.memories ∙ map-id p.memories)
 
   inits_are : defined_contents m.globals ≡ map init_of p.globals
   inits_are = rw (defined_space global_of (λ g. g.ty) init_of p.imports p.globals) (map_again (λ o. o.content) _ p.globals)

@@ -6,7 +6,9 @@ use Rattle.std.proofs.lemmas.List.{map-append}
 use Rattle.std.proofs.lemmas.List.Elements.{filter_map-append}
 use Rattle.wc_read.specs.Imports.{ImportValue}
 use Rattle.wc_read.specs.Items.{DefValue, imported, local, ItemValue}
+use Rattle.wc_read.specs.Operators.{InstrValue}
 use Rattle.wc_read.specs.Spaces.{imported_item, imported_items, local_funcs}
+use Rattle.wc_read.specs.declared.types.GlobalType.{GlobalType}
 use Rattle.wc_read.specs.declared.types.ImportType.{ImportType}
 use Rattle.wc_write.specs.Spaces.{imports_of, DefinedValue, defined}
 use Rattle.wc_write.specs.BuiltValues.{item_seen, is_imported, is_defined, HasImportsFirst}
@@ -63,6 +65,13 @@ items_same (i ∷ items) = rw (item_same i i.def refl, items_same items) refl
 pub funcs_zipped : {C : Type 0} (view : C → List ℕ) (os : List (DefinedValue ℕ C)) → local_funcs (map (λ o. o.ty) os) (map view (map (λ o. o.content) os)) ≡ map (λ o. record { ty = o.ty; def = local (view o.content) }) os
 funcs_zipped view [] = refl
 funcs_zipped view (o ∷ os) = ap (λ (r : List (ItemValue ℕ (List ℕ))). record { ty = o.ty; def = local (view o.content) } ∷ r) (funcs_zipped view os)
+
+-- what a global is defined by
+abbrev pub content_of_global : DefinedValue GlobalType (List InstrValue) → List InstrValue
+content_of_global g = g.content
+
+abbrev pub type_of_global : DefinedValue GlobalType (List InstrValue) → GlobalType
+type_of_global g = g.ty
 
 -- a map of a map
 pub map_again : {A B E : Type 0} (f : B → E) (g : A → B) (xs : List A) → map f (map g xs) ≡ map (λ x. f (g x)) xs

@@ -168,7 +168,7 @@ IsIndex n = n < 2 ^ 32
 abbrev HasIndex : FuncValue → Type 0
 HasIndex f = IsIndex f.ty
 
-abbrev local_func : ℕ × List ℕ → FuncValue
+abbrev pub local_func : ℕ × List ℕ → FuncValue
 local_func f = record { ty = f.0; def = local f.1 }
 
 funcs_can : (types : List ℕ) (bodies : List (List ℕ)) → All IsIndex types → All HasIndex (local_funcs types bodies)

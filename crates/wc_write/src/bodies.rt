@@ -23,7 +23,7 @@ impl Written for Locals {
     }
 }
 
-/// What can append the text of a function's body, without its size (5.5.13).
+/// A body of a function that can append its text, without its size (5.5.13).
 pub trait BodyText: Sized + Drop {
     /// The body.
     ghost body: { Self → BodyValue };

@@ -1,4 +1,4 @@
-//! Why nothing was written.
+//! Faults of writing: the reasons why nothing was written.
 
 ghost use Rattle.std.specs.Prelude.{◌≡◌};
 ghost use Rattle.wc_write.specs.declared.fault.WriteFault.TheVariants.{Memory};

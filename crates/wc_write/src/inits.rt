@@ -9,7 +9,7 @@ use crate::vectors::put_all;
 use std::alloc::AllocError;
 use wc_read::Init;
 
-/// What can append the text of an initialiser, its `end` as the last operator (5.4.9).
+/// An initialiser that can append its text, its `end` as the last operator (5.4.9).
 pub trait InitText: Sized + Drop {
     /// The operators of the initialiser.
     ghost init: { Self → List InstrValue };

@@ -59,8 +59,8 @@ pub fn write_module(alloc: Global, built: &Built<'_>) -> Result<Vec<u8>, WriteFa
     write_module_of(alloc, built)
 }
 
-/// The same of a module whose bodies and initialisers are given by any contents that can append their texts (5.4.9 and
-/// 5.5.13): no operator need be kept.
+/// Writes a module whose bodies and initialisers are given by any contents that can append their texts (5.4.9 and
+/// 5.5.13), as `write_module` does: no operator need be kept.
 ///
 /// # Errors
 ///
@@ -71,7 +71,8 @@ pub fn write_module_of<C: BodyText, I: InitText>(
     alloc: Global,
     built: &Built<'_, C, I>,
 ) -> Result<Vec<u8>, WriteFault>
-    ensures written { IfOk result (λ v. v.items ≡ built_text (built_value_by C.body I.init built.now)) }
+    ensures written { IfOk result (λ v. v.items
+        ≡ built_text (built_value_by C.body I.init built.now)) }
     ensures fits { IsOk result → SizesFit (built_value_by C.body I.init built.now) }
     ensures too_large { IsErrOf result WriteFault.TooLarge
         → ¬ (SizesFit (built_value_by C.body I.init built.now)) }

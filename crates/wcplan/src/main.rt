@@ -1,7 +1,7 @@
 //! `wcplan`: says what a component of a core module and adapters needs for a world that is read from
 //! JSON, and trims the adapters.
 //!
-//! What it does is proved in `wcplan_command`. Here it gets the system's arguments and shell, of `wc_program`.
+//! Its contract is proved in `wcplan_command`. Here it gets the system's arguments and shell, of `wc_program`.
 #![tactic(auto)]
 
 use std::io::BufWriter;

@@ -1,4 +1,4 @@
-//! What adapters there are.
+//! The names of adapters, for the texts of faults.
 
 ghost use Rattle.std.specs.Prelude.{◌≡◌, IfOk, map, string_bytes};
 ghost use Rattle.std.specs.Option.{option_map};
@@ -49,7 +49,7 @@ pub(crate) fn no_adapter<'a>(
     }
 }
 
-/// What adapters there are, and the first whose name is near a name.
+/// Lists the names of adapters, and finds the first that is near a name.
 fn no_adapter_texts(
     alloc: Global,
     adapters: &[(&str, &str)],
@@ -77,8 +77,8 @@ fn near_name(alloc: Global, names: &[&str], name: &str) -> Result<Option<String>
     Ok(None)
 }
 
-/// What adapters an encoder has, where a fault is that the main module imports of a module that is unknown, or whose name
-/// is not of the standard scheme; `None` for all other faults.
+/// Lists the adapters of an encoder, where a fault is that the main module imports from a module that is unknown, or
+/// whose name is not of the standard scheme; `None` for all other faults.
 ///
 /// # Errors
 ///
@@ -98,7 +98,7 @@ pub(crate) fn given_adapters(
     }
 }
 
-/// What adapters an encoder has.
+/// Lists the adapters of an encoder.
 fn some_adapters(alloc: Global, encoder: &ComponentEncoder) -> Result<Option<String>, AllocError>
     ensures { IfOk result (λ r. option_map string_bytes r
         ≡ Some (adapters_text (names_of encoder.now.adapters))) }
@@ -119,7 +119,7 @@ fn adapter_names(alloc: Global, adapters: &Map<String, Adapter>) -> Result<Vec<&
     Ok(names)
 }
 
-/// The text of what adapters there are.
+/// The text that lists adapters, or says that none is given.
 fn adapters_text(alloc: Global, names: &[&str]) -> Result<String, AllocError>
     ensures { IfOk result (λ text. string_bytes text ≡ adapters_text (map text_of names.now)) }
 {

@@ -13,7 +13,7 @@ use std::path::Path;
 pub use wc_options::{NoCommand, WrongArgument};
 use wc_options::{ProgramOption, Value, check, is_given, pair, text_count, texts, value, values};
 
-/// What the program is asked to do. Paths, names and keys are any texts.
+/// A command: the work that arguments ask the program to do. Paths, names and keys are any texts.
 #[derive(Debug, Drop)]
 pub struct Command<'a> {
     /// The path of the file that has the worlds as JSON.
@@ -232,7 +232,7 @@ fn option_value<'a>(arguments: &'a [String], name: &str) -> Option<&'a str>
     value(options(), arguments, name)
 }
 
-/// What a command says of modules.
+/// The parts of a command that are about modules.
 #[derive(Drop)]
 struct Modules<'a> {
     adapters: Vec<(&'a str, &'a str)>,
@@ -240,7 +240,7 @@ struct Modules<'a> {
     adapter_exports: Vec<(&'a str, &'a str)>,
 }
 
-/// What arguments say of modules.
+/// Reads the parts of a command that are about modules.
 fn modules_of(alloc: Global, arguments: &[String]) -> Result<Modules<'_>, AllocError>
     ensures { IfOk result (AreModules (said_by option_table (texts_in arguments.now))) }
 {

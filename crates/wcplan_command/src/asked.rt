@@ -1,4 +1,4 @@
-//! What a command asks about that its world imports.
+//! The check that a command asks about an import of its world.
 
 ghost use Rattle.std.specs.Prelude.{◌≡◌, ◌<◌, IfErr, IfOk, OnOk, find, length, map, string_bytes};
 ghost use Rattle.std.specs.List.{list_any};
@@ -61,7 +61,7 @@ fn asks_about_any(key: &str, keys: &[(WorldKey, String)]) -> bool
     has_asked(key, keys)
 }
 
-/// The same of the texts as they are.
+/// Whether a key asks about the text of one of these imports.
 fn has_asked(key: &str, keys: &[(WorldKey, String)]) -> bool
     ensures { result ≡ list_any (λ k. asks_about key.now (string_bytes k.1)) keys.now }
 {
@@ -78,7 +78,7 @@ fn no_import<'a>(alloc: Global, key: &'a str, keys: &[(WorldKey, String)]) -> Pr
     }
 }
 
-/// What imports there are, and the first that is near a key, or else the first whose package is.
+/// Lists imports, and finds the first that is near a key, or else the first whose package is.
 fn no_import_texts(
     alloc: Global,
     key: &str,

@@ -1,4 +1,4 @@
-//! What is printed under the text of a fault.
+//! The lines that are printed under the text of a fault.
 
 ghost use Rattle.std.specs.Prelude.{◌≡◌, ◌≢◌, ◌++◌, [], Some, IfOk, IsErr, codes, string_bytes};
 ghost use Rattle.std.specs.Option.{option_map};
@@ -77,7 +77,7 @@ impl ProgramFault<'_> {
     }
 }
 
-/// The line of what worlds look like that are not text or not JSON.
+/// The line on the format of a file of worlds that is not text or not JSON, if it is recognized.
 fn likeness_line(alloc: Global, likeness: Option<Likeness>) -> Result<String, AllocError>
     ensures text { IfOk result (λ text. string_bytes text ≡ likeness_line likeness) }
     ensures lines { IsErr result → likeness_line likeness ≢ [] }
@@ -88,7 +88,7 @@ fn likeness_line(alloc: Global, likeness: Option<Likeness>) -> Result<String, Al
     }
 }
 
-/// What worlds look like that are not text or not JSON, and what prints JSON of them.
+/// Names the format that a file of worlds seems to have instead of JSON, and the command that prints it as JSON.
 fn likeness_text(likeness: Likeness) -> &'static str
     ensures { result.now ≡ likeness_text likeness }
 {

@@ -1,4 +1,4 @@
-//! What a fault of a component's world is about.
+//! Explanations of the faults of a component's world: their places, and the names that were meant.
 
 ghost use Rattle.std.specs.Prelude.{IfOk};
 ghost use Rattle.wc_world.specs.Refused.{IsPlaceOrNone, IsRefusedAt};
@@ -14,7 +14,7 @@ use wc_plan::{PlanFault, PlanPlace};
 use wc_texts::Refused;
 use wc_world::{WorldFault, WorldPlace};
 
-/// What a fault of a component's world is about.
+/// The explanation of a fault of a component's world.
 #[derive(Debug, Drop)]
 pub struct Explained {
     /// The place that the fault is about.
@@ -22,7 +22,7 @@ pub struct Explained {
     /// The first name that is there in place of one that isn't, and is the same but for its version or for the case of
     /// letters: of an interface, of what the world imports, or of a function of an interface. `None` where there is none.
     pub nearest: Option<String>,
-    /// What adapters there are, or that none is given, where the main module imports of a module that is unknown.
+    /// The list of adapters, or the text that none is given, where the main module imports from an unknown module.
     pub adapters: Option<String>,
 }
 
@@ -46,7 +46,7 @@ pub(crate) fn world_fault<'a>(
     }
 }
 
-/// What a fault is about, by its place.
+/// Explains a fault by its place.
 ///
 /// # Errors
 ///

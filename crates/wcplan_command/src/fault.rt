@@ -1,4 +1,4 @@
-//! Why the program could not do what its arguments say.
+//! Faults of the program: the reasons why a command could not be done.
 
 ghost use Rattle.std.specs.Prelude.{◌≡◌, ◌++◌, IfNone, IfOk, IfSome, codes, string_bytes};
 ghost use Rattle.std.specs.Option.{option_map};

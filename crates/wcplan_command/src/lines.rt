@@ -1,4 +1,4 @@
-//! What is printed of a component's plan.
+//! The lines that are printed of a component's plan.
 
 ghost use Rattle.std.specs.Prelude.{◌≡◌, IfOk, map, string_bytes, unwrap_or};
 ghost use Rattle.std.specs.Option.{option_map};

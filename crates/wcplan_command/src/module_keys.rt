@@ -1,4 +1,4 @@
-//! What a command asks of adapters and of exports.
+//! The adapters and the keys of exports that a command names.
 
 ghost use Rattle.std.specs.Prelude.{◌≡◌, ◌<◌, IfErr, IfOk, OnOk, length, map, string_bytes};
 ghost use Rattle.wc_resolve.specs.Views.{key_view};

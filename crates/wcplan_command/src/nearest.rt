@@ -21,8 +21,8 @@ use wc_texts::strip_prefix;
 use wc_validate::{Subject, ValidateFault};
 use wc_world::{ModulePlace, WorldFault};
 
-/// What is there in place of what a fault is about: the first name that differs only in its version or in the case of
-/// letters. For `UnknownInterface` it is one of all that the world imports, or exports where the name is after
+/// Finds the nearest name to the one that a fault is about: the first that differs only in its version or in the case
+/// of letters. For `UnknownInterface` it is one of all that the world imports, or exports where the name is after
 /// `[export]` or `_ex_`; for `NoRootImport` one of all that the world imports; for `MissingFunction` a function of the
 /// interface that has the module's name, or else of the first that has it but for its version and for the case of letters;
 /// for `NoSuchExport`, where the name is after `[task-return]`, one of all that the world exports. A function's name is
@@ -46,7 +46,7 @@ pub(crate) fn near_place(
     }
 }
 
-/// What is there in place of an import or an export.
+/// Finds the nearest name to that of an import or an export.
 fn nearest(
     alloc: Global,
     encoder: &ComponentEncoder,
@@ -64,7 +64,7 @@ fn nearest(
     }
 }
 
-/// What is there in place of what a fault of a module is about.
+/// Finds the nearest name to the one that a fault of a module is about.
 fn near_subject(
     alloc: Global,
     encoder: &ComponentEncoder,
@@ -84,7 +84,7 @@ fn near_subject(
     }
 }
 
-/// What is there in place of an import that is refused.
+/// Finds the nearest name to that of an import that is refused.
 fn near_import(
     alloc: Global,
     encoder: &ComponentEncoder,
@@ -124,7 +124,7 @@ fn near_interface(
     }
 }
 
-/// What the world exports that a module's name is about: after the first `]`, or in the standard scheme after `_ex_`.
+/// The name of the export that a module's name is about: after the first `]`, or in the standard scheme after `_ex_`.
 fn exported_interface(module_name: &str) -> Option<&str>
     ensures { option_map (λ t. t.now) result ≡ exported_interface module_name.now }
 {
@@ -144,7 +144,7 @@ fn function_name(name: &str) -> &str
     }
 }
 
-/// What the world exports in place of the function whose result a name is about.
+/// Finds the nearest export of the world to the function whose result a name is about.
 fn near_result(
     alloc: Global,
     encoder: &ComponentEncoder,
@@ -158,7 +158,7 @@ fn near_result(
     }
 }
 
-/// What is after the first `]` of a name.
+/// The part of a name after its first `]`.
 fn exported_name(text: &str) -> Option<&str>
     ensures { option_copied result ≡ exported_name text.now }
 {
@@ -168,7 +168,7 @@ fn exported_name(text: &str) -> Option<&str>
     }
 }
 
-/// What is after the first `|` of a module's name; without one the whole name.
+/// The part of a module's name after its first `|`; without one the whole name.
 fn imported_name(module_name: &str) -> &str
     ensures { result.now ≡ imported_name module_name.now }
 {
@@ -371,7 +371,7 @@ fn same_letters(left: &str, right: &str) -> bool
     left.eq_ignore_ascii_case(right)
 }
 
-/// What is before the first `@` of a text; without one the whole text.
+/// The part of a text before its first `@`; without one the whole text.
 fn unversioned(text: &str) -> &str
     ensures { result.now ≡ unversioned_text text.now }
 {

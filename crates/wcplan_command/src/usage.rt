@@ -7,7 +7,7 @@ ghost use Rattle.wcplan_command.specs.Usage.{help_text, usage_text};
 use crate::arguments::OPTIONS;
 use wc_options::Page;
 
-/// What the program says of its arguments.
+/// The usage and help texts of the program.
 pub(crate) fn page() -> Page<'static>
     ensures usage { page_usage result ≡ usage_text }
     ensures help { page_help result ≡ help_text }

@@ -1,7 +1,7 @@
 //! `wctrim`: renames the repeated imports of a core WebAssembly module, trims an adapter to the exports that are
 //! required of it, or lists a module's imports and exports.
 //!
-//! What it does is proved in `wctrim_command`. Here it gets the system's arguments and shell, of `wc_program`.
+//! Its contract is proved in `wctrim_command`. Here it gets the system's arguments and shell, of `wc_program`.
 #![tactic(auto)]
 
 use std::process::ExitCode;

@@ -1,4 +1,4 @@
-//! Why a command could not be executed.
+//! Faults of the program: the reasons why a command could not be executed.
 
 ghost use Rattle.std.specs.Prelude.{◌≡◌};
 ghost use Rattle.wctrim_command.specs.declared.fault.CommandFault.TheVariants.{Memory, Output};

@@ -1,10 +1,10 @@
 //! The lines that print renamed imports.
 
-ghost use Rattle.wc_dedupe.specs.Renames.{rename_view, rename_values};
+ghost use Rattle.wc_dedupe.specs.Renames.{rename_view};
 ghost use Rattle.wc_texts.specs.Puts.{Puts, PutsAny};
 ghost use Rattle.wctrim_command.specs.Lines.{line_of, lines_of};
 
-use wc_dedupe::Rename;
+use wc_dedupe::{Rename, RenameList};
 use wc_write::{PutFailed, Sink};
 
 /// Between a module's name and an import's.
@@ -20,20 +20,19 @@ pub(crate) const SPACE: &[u8] = b" ";
 pub(crate) const LINE_FEED: &[u8] = b"\n";
 
 /// Puts a line for each rename, in order.
-pub(crate) fn put_renames<S: Sink>(out: &mut S, renames: &[Rename]) -> Result<(), PutFailed>
-    ensures { PutsAny S.written S.is_failed out.old out.new
-        (lines_of (rename_values renames.now)) result }
+pub(crate) fn put_renames<S: Sink>(out: &mut S, renames: &RenameList) -> Result<(), PutFailed>
+    ensures { PutsAny S.written S.is_failed out.old out.new (lines_of renames.now) result }
 {
-    for rename in renames {
-        put_rename(out, rename)?;
+    for index in 0..renames.len() {
+        put_rename(out, renames.at(index))?;
     }
     Ok(())
 }
 
 /// Puts the line `MODULE: OLD -> NEW` of a rename.
-fn put_rename<S: Sink>(out: &mut S, rename: &Rename) -> Result<(), PutFailed>
+fn put_rename<S: Sink>(out: &mut S, rename: Rename<'_>) -> Result<(), PutFailed>
     ensures { Puts S.written S.is_failed out.old out.new
-        (line_of (rename_view rename.now)) result }
+        (line_of (rename_view rename.entry)) result }
 {
     out.put(rename.module.as_bytes())?;
     out.put(COLON)?;

@@ -1,6 +1,6 @@
 //! `wcwhy`: says why an adapter imports something: by which path of items a required export leads to the import.
 //!
-//! What it does is proved in `wcwhy_command`. Here it gets the system's arguments and shell, of `wc_program`.
+//! Its contract is proved in `wcwhy_command`. Here it gets the system's arguments and shell, of `wc_program`.
 #![tactic(auto)]
 
 use std::io::BufWriter;

@@ -15,16 +15,19 @@ use Rattle.wc_gc.specs.declared.fault.GcFault.{GcFault}
 use Rattle.wc_gc.specs.declared.fault.GcFault.TheVariants.{Memory as gc_memory}
 use Rattle.wc_program.specs.Screen.{Printing, nothing}
 use Rattle.wcwhy_command.specs.Arguments.{CommandView, text_of}
-use Rattle.wcwhy_command.specs.Fault.{of_adapter}
-use Rattle.wcwhy_command.specs.Program.{HasNoCause, IsPrintCause, IsPrintedOf}
-use Rattle.wcwhy_command.specs.Private.Execution.{ArePrinted, IsReasonsCause, PrintsSome}
+use Rattle.wcwhy_command.specs.Fault.{of_source}
+use Rattle.wcwhy_command.specs.Following.{IsRefusal}
+use Rattle.wcwhy_command.specs.Program.{IsSourceOf, HasNoCause, IsGraphOf}
+use Rattle.wcwhy_command.specs.Private.Execution.{ArePrinted, IsSourcePrinted, IsFollowedCause, IsGraphPrintCause, IsSourcePrintCause, IsReasonsCause, PrintsSome}
+use Rattle.wcwhy_command.specs.Private.Followed.{IsSource, followed_view}
+use Rattle.wcwhy_command.specs.declared.followed.Followed.{Followed}
 use Rattle.wcwhy_command.specs.declared.fault.WhyFault.{WhyFault}
 use Rattle.wcwhy_command.specs.declared.fault.WhyFault.TheVariants.{Memory, NoImport, Output}
 
 -- a fault of liveness, with each export counted once
 pub adapter_cause : (c : CommandView) (bytes : List ℕ) (names : List (List ℕ)) (out : Printing → Type 0) (f : GcFault) (place : Option TrimPlace)
     → names ≡ first_occurrences c.exports → out nothing → IsFault (record { bytes = bytes; required = names }) f
-    → IsExplained (record { bytes = bytes; required = names }) f place → IsPrintCause c bytes out (of_adapter f place)
+    → IsExplained (record { bytes = bytes; required = names }) f place → IsGraphPrintCause c bytes out (of_source f place)
 adapter_cause c bytes names out gc_memory place same still h at = tt
 adapter_cause c bytes names out f place same still h at = (
   (
@@ -41,20 +44,43 @@ no_cause c bytes names same none = subst (λ (ns : List (List ℕ)). (f : GcFaul
 
 module _ (c : CommandView) (bytes : List ℕ) (m : ModuleValue) (spelled : SpellsModule bytes m) (out : Printing → Type 0) where
   pub printed_of : {T : Type 0} (names : List GlobalNameValue) (r : Result T WhyFault) → AreFunctionNames bytes names → OnOk r (ArePrinted c m names out)
-      → OnOk r (PrintsSome (IsPrintedOf c bytes) out)
+      → OnOk r (PrintsSome (IsGraphOf c bytes) out)
   printed_of names (Ok x) named (text, known, is, shown) =
       (text, record { adapter = m; spelled = spelled; known = known; names = names; named = named; is = is }, shown)
   printed_of names (Err f) named h = tt
 
-  cause_of : HasNoCause c bytes → (f : WhyFault) → IsReasonsCause c m out f → IsPrintCause c bytes out f
+  cause_of : HasNoCause c bytes → (f : WhyFault) → IsReasonsCause c m out f → IsGraphPrintCause c bytes out f
   cause_of none Memory h = tt
   cause_of none Output h = h
   cause_of none (NoImport p near) h = ((none, m, spelled, h.0), h.1)
   cause_of none f h = absurd h
 
-  pub some_cause_of : {T : Type 0} (r : Result T WhyFault) → HasNoCause c bytes → IfErr r (IsReasonsCause c m out) → IfErr r (IsPrintCause c bytes out)
+  pub some_cause_of : {T : Type 0} (r : Result T WhyFault) → HasNoCause c bytes → IfErr r (IsReasonsCause c m out) → IfErr r (IsGraphPrintCause c bytes out)
   some_cause_of (Ok x) none h = tt
   some_cause_of (Err f) none h = cause_of none f h
+
+-- a module that can't be followed
+pub refused_cause : (c : CommandView) (bytes : List ℕ) (out : Printing → Type 0) (f : GcFault) (place : Option TrimPlace) → out nothing
+    → IsRefusal c bytes f place → IsSourcePrintCause c bytes out (of_source f place)
+refused_cause c bytes out gc_memory place still h = tt
+refused_cause c bytes out f place still h = (((λ e. cc), h), still)
+
+-- what was printed of a module that is followed, or why it could not be
+module _ (c : CommandView) (bytes : List ℕ) (f : Followed) (is : IsSource c bytes f) (out : Printing → Type 0) where
+  pub source_of : {T : Type 0} (r : Result T WhyFault) → OnOk r (IsSourcePrinted c f out) → OnOk r (PrintsSome (IsSourceOf c bytes) out)
+  source_of (Ok x) (text, known, shows, shown) =
+      (text, record { source = followed_view f; followed = is.followed; known = known; named = is.named; is = shows }, shown)
+  source_of (Err e) h = tt
+
+  source_cause : (e : WhyFault) → IsFollowedCause c f out e → IsSourcePrintCause c bytes out e
+  source_cause Memory h = tt
+  source_cause Output h = h
+  source_cause (NoImport p near) h = ((followed_view f, is.followed, h.0), h.1)
+  source_cause e h = absurd h
+
+  pub some_source_cause : {T : Type 0} (r : Result T WhyFault) → IfErr r (IsFollowedCause c f out) → IfErr r (IsSourcePrintCause c bytes out)
+  some_source_cause (Ok x) h = tt
+  some_source_cause (Err e) h = source_cause e h
 
 -- one more export, in the set of their names
 pub required_more : (keys new : List (String Global)) (xs : List (Bor (List ℕ))) (k : ℕ) (d : Bor (List ℕ)) (name : String Global) → k < length xs

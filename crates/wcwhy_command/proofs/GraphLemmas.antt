@@ -7,13 +7,13 @@ use Rattle.wc_why.specs.Graph.{AreNodes}
 use Rattle.wc_why.specs.Marks.{AreMarks}
 use Rattle.wcwhy_command.specs.Arguments.{PatternView}
 use Rattle.wcwhy_command.specs.Patterns.{is_shown}
-use Rattle.wcwhy_command.specs.Private.Reasons.{AreImportNodesOf, AreReasons, IsGraphOf, adapter_in, names_in}
+use Rattle.wcwhy_command.specs.Private.Reasons.{AreImportNodesOf, AreReasons, IsGraphIn, adapter_in, names_in}
 use Rattle.wcwhy_command.specs.declared.reasons.Reasons.{Reasons}
 
 pub graph_made : {E : Type 0} (r : Reasons) (patterns : List PatternView) (marks : List Bool) (items imports : List ℕ) (t : Result (String Global) E) → AreReasons r
     → AreMarks r.chains.now (map (is_shown patterns) (adapter_in r).imports) marks → AreNodes r.chains.now (names_in r) (codes "  ") [] marks items
     → AreImportNodesOf r patterns imports → IfOk t (λ s. string_bytes s ≡ codes "digraph wcwhy {\n" ++ (items ++ (imports ++ codes "}\n")))
-    → IfOk t (λ s. IsGraphOf r patterns (string_bytes s))
+    → IfOk t (λ s. IsGraphIn r patterns (string_bytes s))
 graph_made r patterns marks items imports (Ok s) are marked are_items are_imports h = record {
   chains = r.chains.now;
   are = are;

@@ -1,61 +1,66 @@
--- What is printed of an import, by whether it is asked for and where its item is.
-use Rattle.std.proofs.Common.{◌≡◌, ℕ, List, Bool, Result, Ok, Err, IfOk, String, Global, string_bytes, true, Some, None, sym, ◌∙◌, ap, subst, inl, inr}
-use Rattle.wc_gc.specs.LiveChains.{IsChainTo}
-use Rattle.wc_gc.specs.declared.import_chains.Chain.{Chain}
+-- The path to an import, and what is printed of it, by whether it is asked for.
+use Rattle.std.proofs.Common.{◌≡◌, ℕ, List, [], ◌∷◌, Bool, Result, Ok, Err, IfOk, String, Global, string_bytes, true, false, Option, Some, None, refl, sym, ◌∙◌, ap, subst, inl, inr}
 use Rattle.std.proofs.lemmas.Option.{same_Some}
 use Rattle.std.specs.List.{slice_get}
 use Rattle.wc_read.specs.Imports.{ImportValue}
-use Rattle.wc_read.specs.Modules.{ModuleValue}
-use Rattle.wc_read.specs.Names.{GlobalNameValue}
-use Rattle.wc_gc.specs.Decoded.{ItemIndex}
-use Rattle.wc_gc.specs.LiveChains.{AreImportChains}
-use Rattle.wc_gc.specs.declared.import_chains.ImportChains.{ImportChains}
+use Rattle.wc_read.specs.Modules.{module_value}
+use Rattle.wc_paths.specs.Paths.{IsAnswer, IsPathAnswer}
+use Rattle.wc_paths.specs.Roots.{import_item}
+use Rattle.wc_paths.specs.declared.items.PathItem.{PathItem}
+use Rattle.wc_paths.specs.declared.paths.Path.{Path}
 use Rattle.wc_why.specs.Lines.{path_lines}
+use Rattle.wc_why.specs.Paths.{PathView}
 use Rattle.wcwhy_command.specs.Arguments.{PatternView}
-use Rattle.wcwhy_command.specs.Lines.{IsLineText, IsPathText, IsTextOf, import_path, unreached_text}
+use Rattle.wcwhy_command.specs.Following.{first_in, graph_in, second_in}
+use Rattle.wcwhy_command.specs.Lines.{IsPathTo, IsTextOf, IsUnreached, IsWayAt, IsWayOf, unreached_text}
 use Rattle.wcwhy_command.specs.Patterns.{are_asked, is_shown}
-use Rattle.wc_why.proofs.ItemLemmas.{got_contains}
+use Rattle.wcwhy_command.specs.Private.Followed.{HasPaths, IsLineIn, IsPathIn, IsShownPath, followed_view}
+use Rattle.wcwhy_command.specs.declared.followed.Followed.{Followed}
 
-module _ (required : List (List ℕ)) (m : ModuleValue) (names : List GlobalNameValue) (patterns : List PatternView) (position : ℕ) (j : ImportValue) (text : List ℕ)
-    (at : slice_get m.imports position ≡ Some j) where
-  of_this : IsTextOf required m names patterns position j text → IsLineText required m names patterns position text
-  of_this t i e = subst (λ z. IsTextOf required m names patterns position z text) (same_Some j i (sym at ∙ e)) t
+module _ (f : Followed) (position : ℕ) (j : ImportValue) (at : slice_get (module_value f.code).imports position ≡ Some j) where
+  -- the path that was found
+  module _ (x : PathItem) (item : x ≡ import_item (module_value f.code).imports position j) (h : HasPaths f) (answer : Option Path) (found : IsPathAnswer f.paths x answer) where
+    found_here : IsAnswer (graph_in (followed_view f)) (first_in (followed_view f)) (second_in (followed_view f)) x answer
+    found_here = found (graph_in (followed_view f)) (first_in (followed_view f)) (second_in (followed_view f)) h.paths
 
-  module _ (c : ImportChains) (a : AreImportChains required m c) (shown : is_shown patterns j ≡ true) where
-    pub reached_line : (index : ℕ) → slice_get c.imports.items position ≡ Some (Some index)
-        → ((x : ItemIndex) → slice_get c.order.items index ≡ Some x → IsPathText required m names j x text)
-        → IsLineText required m names patterns position text
-    reached_line index e chain = of_this (inr (
-      shown,
-      λ x item.
-          let found = a.imports.at position x (Some index) item e in
-          inl ((a.live x).0 (got_contains c.order.items index x found), chain x found),
-    ))
+    pub path_is : (p : Path) (shown : PathView) → answer ≡ Some p → IsShownPath f j p shown → IsPathIn f position (Some shown)
+    path_is p shown is (root, begins, same) i e =
+        let leads = subst (IsAnswer (graph_in (followed_view f)) (first_in (followed_view f)) (second_in (followed_view f)) x) is found_here in
+        let here : IsPathTo (followed_view f) j x shown =
+        record { is_second = p.is_second; items = p.items.items; leads = leads; root = root; begins = begins; is = same } in
+        subst (λ k. IsPathTo (followed_view f) k (import_item (module_value f.code).imports position k) shown) (same_Some j i (sym at ∙ e))
+        (subst (λ y. IsPathTo (followed_view f) j y shown) item here)
 
-    pub unreached_line : slice_get c.imports.items position ≡ Some None → text ≡ unreached_text (are_asked patterns) j
-        → IsLineText required m names patterns position text
-    unreached_line e is = of_this (inr (shown, λ x item. inr (a.imports.at position x None item e, is)))
+    pub none_is : answer ≡ None → IsPathIn f position None
+    none_is is i e =
+        let none = subst (IsAnswer (graph_in (followed_view f)) (first_in (followed_view f)) (second_in (followed_view f)) x) is found_here in
+        subst (λ k. IsUnreached (followed_view f) (import_item (module_value f.code).imports position k)) (same_Some j i (sym at ∙ e))
+        (subst (IsUnreached (followed_view f)) item none)
 
--- the lines of an import, of which it is known what was answered for them
+  -- the lines of it
+  module _ (patterns : List PatternView) where
+    pub reached_lines : {E : Type 0} (r : Result (String Global) E) (p : PathView) → is_shown patterns j ≡ true → IsPathIn f position (Some p)
+        → IfOk r (λ t. string_bytes t ≡ path_lines p) → IfOk r (λ t. IsLineIn f patterns position (string_bytes t))
+    reached_lines (Ok t) p shown is text = λ i e.
+        subst (λ k. IsTextOf (followed_view f) patterns position k (string_bytes t)) (same_Some j i (sym at ∙ e)) (inr (shown, inl (p, is j at, text)))
+    reached_lines (Err e) p shown is text = tt
 
-pub path_by_chain : {E : Type 0} (r : Result (String Global) E) (required : List (List ℕ)) (m : ModuleValue) (names : List GlobalNameValue) (i : ImportValue)
-    (chains : ImportChains) (index : ℕ) (c : Chain) → AreImportChains required m chains
-    → ((needed : List (List ℕ)) (n : ModuleValue) (x : ItemIndex) → AreImportChains needed n chains → slice_get chains.order.items index ≡ Some x → IsChainTo needed n x c)
-    → IfOk r (λ t. string_bytes t ≡ path_lines (import_path names i c))
-    → IfOk r (λ t. (x : ItemIndex) → slice_get chains.order.items index ≡ Some x → IsPathText required m names i x (string_bytes t))
-path_by_chain (Ok t) required m names i chains index c a found h = λ x e. (c, found required m x a e, h)
-path_by_chain (Err e) required m names i chains index c a found h = tt
+    pub unreached_lines : {E : Type 0} (r : Result (String Global) E) (asked : Bool) → is_shown patterns j ≡ true → IsPathIn f position None
+        → asked ≡ are_asked patterns → IfOk r (λ t. string_bytes t ≡ unreached_text asked j) → IfOk r (λ t. IsLineIn f patterns position (string_bytes t))
+    unreached_lines (Ok t) asked shown none same text = λ i e.
+        subst (λ k. IsTextOf (followed_view f) patterns position k (string_bytes t)) (same_Some j i (sym at ∙ e))
+        (inr (shown, inr (none j at, text ∙ ap (λ b. unreached_text b j) same)))
+    unreached_lines (Err e) asked shown none same text = tt
 
-module _ (required : List (List ℕ)) (m : ModuleValue) (names : List GlobalNameValue) (patterns : List PatternView) (position : ℕ) (j : ImportValue)
-    (at : slice_get m.imports position ≡ Some j) (c : ImportChains) (a : AreImportChains required m c) (shown : is_shown patterns j ≡ true) where
-  pub reached_lines : {E : Type 0} (r : Result (String Global) E) (index : ℕ) → slice_get c.imports.items position ≡ Some (Some index)
-      → IfOk r (λ t. (x : ItemIndex) → slice_get c.order.items index ≡ Some x → IsPathText required m names j x (string_bytes t))
-      → IfOk r (λ t. IsLineText required m names patterns position (string_bytes t))
-  reached_lines (Ok t) index e h = reached_line required m names patterns position j (string_bytes t) at c a shown index e h
-  reached_lines (Err f) index e h = tt
+    -- the same where paths are collected
+    of_this : (paths : List PathView) → IsWayOf (followed_view f) patterns position j paths → IsWayAt (followed_view f) patterns position paths
+    of_this paths way i e = subst (λ k. IsWayOf (followed_view f) patterns position k paths) (same_Some j i (sym at ∙ e)) way
 
-  pub unreached_lines : {E : Type 0} (r : Result (String Global) E) (asked : Bool) → slice_get c.imports.items position ≡ Some None → asked ≡ are_asked patterns
-      → IfOk r (λ t. string_bytes t ≡ unreached_text asked j) → IfOk r (λ t. IsLineText required m names patterns position (string_bytes t))
-  unreached_lines (Ok t) asked e same h =
-      unreached_line required m names patterns position j (string_bytes t) at c a shown e (h ∙ ap (λ b. unreached_text b j) same)
-  unreached_lines (Err f) asked e same h = tt
+    pub way_hidden : is_shown patterns j ≡ false → IsWayAt (followed_view f) patterns position []
+    way_hidden hidden = of_this [] (inl (hidden, refl))
+
+    pub way_found : (p : PathView) → is_shown patterns j ≡ true → IsPathIn f position (Some p) → IsWayAt (followed_view f) patterns position (p ∷ [])
+    way_found p shown is = of_this (p ∷ []) (inr (shown, inl (p, is j at, refl)))
+
+    pub way_missing : is_shown patterns j ≡ true → IsPathIn f position None → IsWayAt (followed_view f) patterns position []
+    way_missing shown none = of_this [] (inr (shown, inr (none j at, refl)))

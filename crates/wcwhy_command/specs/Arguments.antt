@@ -20,6 +20,7 @@ pub record CommandView : Type 0 where
   pub source : List ℕ
   pub imports : List PatternView
   pub dot : Bool
+  pub json : Bool
   pub exports : List (List ℕ)
 
 abbrev pub command_view : Command → CommandView
@@ -27,5 +28,6 @@ command_view c = record {
   source = c.source.now;
   imports = map pattern_view c.imports.items;
   dot = c.dot;
+  json = c.json;
   exports = map text_of c.exports.items;
 }

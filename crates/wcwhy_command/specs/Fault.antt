@@ -16,7 +16,7 @@ use Rattle.wcwhy_command.specs.Arguments.{PatternView, pattern_view}
 use Rattle.wcwhy_command.specs.Patterns.{near_import, near_pattern}
 use Rattle.wc_why.specs.Texts.{word}
 use Rattle.wcwhy_command.specs.declared.fault.WhyFault.{WhyFault}
-use Rattle.wcwhy_command.specs.declared.fault.WhyFault.TheVariants.{Memory, CannotRead, Adapter, NoImport, Output}
+use Rattle.wcwhy_command.specs.declared.fault.WhyFault.TheVariants.{Memory, CannotRead, Source, NoImport, Output}
 
 -- a text that was given, as a word; an empty one as two quotes
 abbrev pub given_word : List ℕ → List ℕ
@@ -34,7 +34,7 @@ pattern_text p = pattern_by p.0 p.1
 abbrev pub near_text : List ImportValue → PatternView → Option (List ℕ)
 near_text imports p = option_map (λ (i : ImportValue). pattern_text (near_pattern p i)) (near_import imports p)
 
--- an adapter has none of the imports that an option asks for, and under it what is there
+-- a module has none of the imports that an option asks for, and under it what is there
 abbrev pub unknown_text : PatternView → Option (List ℕ) → List ℕ
 unknown_text p None = codes "no import " ++ pattern_text p
 unknown_text p (Some near) = codes "no import " ++ (pattern_text p ++ (codes "\n  is there: " ++ near))
@@ -43,16 +43,16 @@ unknown_text p (Some near) = codes "no import " ++ (pattern_text p ++ (codes "\n
 abbrev pub unread_text : List ℕ → FileProblem → List ℕ
 unread_text path p = codes "cannot read " ++ (escaped path ++ problem_text p)
 
--- a fault of liveness, and under it what it is about
-abbrev pub adapter_text : GcFault → Option TrimPlace → List ℕ
-adapter_text f None = escaped (gc_fault_text f)
-adapter_text f (Some p) = escaped (gc_fault_text f) ++ (codes "\n  " ++ place_text p)
+-- why a module can't be followed, and under it what it is about
+abbrev pub source_text : GcFault → Option TrimPlace → List ℕ
+source_text f None = escaped (gc_fault_text f)
+source_text f (Some p) = escaped (gc_fault_text f) ++ (codes "\n  " ++ place_text p)
 
 -- the text of a fault
 abbrev pub why_fault_text : WhyFault → List ℕ
 why_fault_text Memory = memory_text
 why_fault_text (CannotRead path p) = unread_text path.now p
-why_fault_text (Adapter f place) = adapter_text f place
+why_fault_text (Source f place) = source_text f place
 why_fault_text (NoImport p near) = unknown_text (pattern_view p) (option_map string_bytes near)
 why_fault_text Output = codes "cannot print"
 
@@ -62,7 +62,7 @@ NeedsText Memory = ⊥
 NeedsText Output = ⊥
 NeedsText f = ⊤
 
--- the fault for one of liveness
-abbrev pub of_adapter : GcFault → Option TrimPlace → WhyFault
-of_adapter gc_memory place = Memory
-of_adapter f place = Adapter f place
+-- the fault for it
+abbrev pub of_source : GcFault → Option TrimPlace → WhyFault
+of_source gc_memory place = Memory
+of_source f place = Source f place

@@ -3,6 +3,8 @@ pub mod Reading
 pub mod Usage
 pub mod Texts
 pub mod Patterns
+pub mod Roots
+pub mod Following
 pub mod Lines
 pub mod Graph
 pub mod Fault

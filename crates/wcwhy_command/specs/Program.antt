@@ -24,32 +24,45 @@ use Rattle.wc_options.specs.Wrong.{Reading, Stop, WrongView, help, version, wron
 use Rattle.wcwhy_command.specs.Arguments.{CommandView, PatternView, pattern_view}
 use Rattle.wcwhy_command.specs.Reading.{AsksMemory, read_arguments}
 use Rattle.wcwhy_command.specs.Usage.{usage_text, help_text, version_text, no_text, fault_line, fault_and_usage}
-use Rattle.wcwhy_command.specs.Lines.{AreLines}
+use Rattle.wcwhy_command.specs.Following.{FollowedView, IsFollowed, IsRefusal}
+use Rattle.wcwhy_command.specs.Lines.{AreLines, IsJson}
 use Rattle.wcwhy_command.specs.Graph.{IsGraph}
 use Rattle.wcwhy_command.specs.Patterns.{first_unknown}
 use Rattle.wcwhy_command.specs.Fault.{NeedsText, near_text, why_fault_text}
 use Rattle.wcwhy_command.specs.declared.arguments.ImportPattern.{ImportPattern}
 use Rattle.wcwhy_command.specs.declared.fault.WhyFault.{WhyFault}
-use Rattle.wcwhy_command.specs.declared.fault.WhyFault.TheVariants.{Memory, CannotRead, Adapter, NoImport, Output}
+use Rattle.wcwhy_command.specs.declared.fault.WhyFault.TheVariants.{Memory, CannotRead, Source, NoImport, Output}
 
--- what is printed of an adapter of which exports are required, and whose functions have these names: a graph, where it is asked
--- for; else lines
-abbrev pub IsReasonsText : Bool → List (List ℕ) → ModuleValue → List GlobalNameValue → List PatternView → List ℕ → Type 0
-IsReasonsText true required m names patterns text = IsGraph required m names patterns text
-IsReasonsText false required m names patterns text = AreLines required m names patterns text
-
--- the same for a command, with each export counted once
-abbrev pub IsTextFor : CommandView → ModuleValue → List GlobalNameValue → List ℕ → Type 0
-IsTextFor c m names text = IsReasonsText c.dot (first_occurrences c.exports) m names c.imports text
-
--- the bytes spell an adapter that has some of the imports that each option asks for, and this is printed of it
-pub record IsPrintedOf (c : CommandView) (bytes text : List ℕ) : Type 0 where
+-- with `--dot` the bytes spell an adapter that has some of the imports that each option asks for, and this is its graph, with each
+-- export counted once
+pub record IsGraphOf (c : CommandView) (bytes text : List ℕ) : Type 0 where
   pub adapter : ModuleValue
   pub spelled : SpellsModule bytes adapter
   pub known : first_unknown adapter.imports c.imports ≡ None
   pub names : List GlobalNameValue
   pub named : AreFunctionNames bytes names
-  pub is : IsTextFor c adapter names text
+  pub is : IsGraph (first_occurrences c.exports) adapter names c.imports text
+
+-- what is printed of a module that is followed: JSON, where it is asked for; else lines
+abbrev pub IsSourceTextBy : Bool → FollowedView → List PatternView → List ℕ → Type 0
+IsSourceTextBy true f patterns text = IsJson f patterns text
+IsSourceTextBy false f patterns text = AreLines f patterns text
+
+-- without it the bytes spell a module that is followed and has some of these imports, and this is printed of it
+pub record IsSourceOf (c : CommandView) (bytes text : List ℕ) : Type 0 where
+  pub source : FollowedView
+  pub followed : IsFollowed c bytes source
+  pub known : first_unknown source.code.imports c.imports ≡ None
+  pub named : AreFunctionNames bytes source.names
+  pub is : IsSourceTextBy c.json source c.imports text
+
+abbrev pub IsPrintedBy : Bool → CommandView → List ℕ → List ℕ → Type 0
+IsPrintedBy true c bytes text = IsGraphOf c bytes text
+IsPrintedBy false c bytes text = IsSourceOf c bytes text
+
+-- what is printed of bytes
+abbrev pub IsPrintedOf : CommandView → List ℕ → List ℕ → Type 0
+IsPrintedOf c bytes text = IsPrintedBy c.dot c bytes text
 
 -- no fault of liveness has a cause
 abbrev pub HasNoCause : CommandView → List ℕ → Type 0
@@ -60,13 +73,27 @@ abbrev pub IsNoImport : List ImportValue → List PatternView → ImportPattern 
 IsNoImport imports patterns p near =
     (first_unknown imports patterns ≡ Some (pattern_view p)) × (option_map string_bytes near ≡ near_text imports (pattern_view p))
 
--- why nothing is printed of the bytes of an adapter
-abbrev pub IsBytesCause : CommandView → List ℕ → WhyFault → Type 0
-IsBytesCause c bytes (Adapter f place) =
+-- why no graph is printed of the bytes of an adapter
+abbrev pub IsGraphCause : CommandView → List ℕ → WhyFault → Type 0
+IsGraphCause c bytes (Source f place) =
     (f ≢ gc_memory) × IsFault (trim_input_for_names bytes c.exports) f × IsExplained (trim_input_for_names bytes c.exports) f place
-IsBytesCause c bytes (NoImport p near) =
+IsGraphCause c bytes (NoImport p near) =
     HasNoCause c bytes × (m : ModuleValue) × SpellsModule bytes m × IsNoImport m.imports c.imports p near
-IsBytesCause c bytes f = ⊥
+IsGraphCause c bytes f = ⊥
+
+-- why nothing else is printed of the bytes of a module
+abbrev pub IsSourceCause : CommandView → List ℕ → WhyFault → Type 0
+IsSourceCause c bytes (Source f place) = (f ≢ gc_memory) × IsRefusal c bytes f place
+IsSourceCause c bytes (NoImport p near) =
+    (source : FollowedView) × IsFollowed c bytes source × IsNoImport source.code.imports c.imports p near
+IsSourceCause c bytes f = ⊥
+
+abbrev pub IsCauseBy : Bool → CommandView → List ℕ → WhyFault → Type 0
+IsCauseBy true c bytes f = IsGraphCause c bytes f
+IsCauseBy false c bytes f = IsSourceCause c bytes f
+
+abbrev pub IsBytesCause : CommandView → List ℕ → WhyFault → Type 0
+IsBytesCause c bytes f = IsCauseBy c.dot c bytes f
 
 -- why bytes could not be printed of: where memory runs out, it is left open what was printed before
 abbrev pub IsPrintCause : CommandView → List ℕ → (Printing → Type 0) → WhyFault → Type 0

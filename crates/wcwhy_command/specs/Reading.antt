@@ -1,16 +1,17 @@
 -- What arguments are read as.
-use Rattle.std.specs.Prelude.{◌≡◌, ℕ, true, false, List, [], ◌∷◌, codes, map, Option, Some, None, Ok, Err}
+use Rattle.std.specs.Prelude.{◌≡◌, ℕ, true, false, cond, List, [], ◌∷◌, codes, map, Option, Some, None, Ok, Err}
 use Rattle.wc_options.specs.Reading.{TokenView, is_given, pair_of, plain_texts, read, values_of}
 use Rattle.wc_options.specs.Table.{Table}
-use Rattle.wc_options.specs.Wrong.{Reading, missing, wrong}
+use Rattle.wc_options.specs.Wrong.{Reading, missing, together, wrong}
 use Rattle.wc_options.specs.declared.table.Value.TheVariants.{Nothing, Text}
 use Rattle.wcwhy_command.specs.Arguments.{CommandView, PatternView}
 
--- the options: `--import` has a value, which may be any text, and may come several times; `--dot` has none
+-- the options: `--import` has a value, which may be any text, and may come several times; `--dot` and `--json` have none
 abbrev pub option_table : Table
 option_table =
     record { name = codes "--import"; value = Text; repeats = true }
-    ∷ record { name = codes "--dot"; value = Nothing; repeats = false } ∷ []
+    ∷ record { name = codes "--dot"; value = Nothing; repeats = false }
+    ∷ record { name = codes "--json"; value = Nothing; repeats = false } ∷ []
 
 -- the imports that a value asks for: those of `MODULE`, or of `MODULE=NAME`
 abbrev pub pattern_by : List ℕ → Option (List ℕ × List ℕ) → PatternView
@@ -20,12 +21,13 @@ pattern_by value (Some p) = (p.0, Some p.1)
 abbrev pub pattern_of : List ℕ → PatternView
 pattern_of value = pattern_by value (pair_of value)
 
--- a command by the texts that are no options: the path, and then the exports, one at least
+-- a command by the texts that are no options: the path, and then the exports, one at least where a graph is asked for
 abbrev pub command_with : List TokenView → List ℕ → List (List ℕ) → CommandView
 command_with tokens source exports = record {
   source = source;
   imports = map pattern_of (values_of (codes "--import") tokens);
   dot = is_given (codes "--dot") tokens;
+  json = is_given (codes "--json") tokens;
   exports = exports;
 }
 
@@ -36,10 +38,16 @@ command_by tokens (source ∷ exports) = command_with tokens source exports
 abbrev pub command_of : List TokenView → CommandView
 command_of tokens = command_by tokens (plain_texts tokens)
 
+-- a graph is of required exports, and is no JSON
+abbrev pub graph_by : List TokenView → List ℕ → List (List ℕ) → Reading CommandView
+graph_by tokens source [] = Err (wrong (missing (codes "EXPORT")))
+graph_by tokens source (first ∷ others) =
+    cond (is_given (codes "--json") tokens) (Err (wrong (together (codes "--dot") (codes "--json")))) (Ok (command_with tokens source (first ∷ others)))
+
 abbrev pub finish_with : List TokenView → List (List ℕ) → Reading CommandView
 finish_with tokens [] = Err (wrong (missing (codes "IN")))
-finish_with tokens (source ∷ []) = Err (wrong (missing (codes "EXPORT")))
-finish_with tokens (source ∷ first ∷ others) = Ok (command_with tokens source (first ∷ others))
+finish_with tokens (source ∷ exports) =
+    cond (is_given (codes "--dot") tokens) (graph_by tokens source exports) (Ok (command_with tokens source exports))
 
 abbrev pub finish : Reading (List TokenView) → Reading CommandView
 finish (Ok tokens) = finish_with tokens (plain_texts tokens)

@@ -3,17 +3,18 @@ use Rattle.std.specs.Prelude.{ℕ, List, ◌++◌, codes}
 
 -- the usage text
 abbrev pub usage_text : List ℕ
-usage_text = codes "usage: wcwhy IN [--import MODULE[=NAME]]... [--dot] EXPORT...\n" ++ codes "       wcwhy --help | --version\n"
+usage_text = codes "usage: wcwhy IN [--import MODULE[=NAME]]... [--dot] [--json] [EXPORT]...\n" ++ codes "       wcwhy --help | --version\n"
 
 -- what each argument is
 abbrev pub options_text : List ℕ
 options_text =
-    codes "  IN                      an adapter, as a core module\n"
-    ++ (codes "  EXPORT                  an export that is required of it\n"
+    codes "  IN                      a core module; with --dot an adapter\n"
+    ++ (codes "  EXPORT                  an export at which paths may begin; else all\n"
     ++ (codes "  --import MODULE[=NAME]  an import that is asked for; else all that stay\n"
     ++ (codes "  --dot                   print a graph, in the language of Graphviz\n"
+    ++ (codes "  --json                  print the paths as JSON\n"
     ++ (codes "  -h, --help              print this text\n"
-    ++ codes "  --version               print the version\n"))))
+    ++ codes "  --version               print the version\n")))))
 
 abbrev pub help_text : List ℕ
 help_text = usage_text ++ options_text

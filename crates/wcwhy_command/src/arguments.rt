@@ -13,13 +13,15 @@ pub use wc_options::{NoCommand, WrongArgument};
 /// A request to the program. Paths and names are any texts.
 #[derive(Debug, Drop)]
 pub struct Command<'a> {
-    /// The path of the adapter.
+    /// The path of the module.
     pub source: &'a str,
     /// The imports that are asked for, in order; all that stay, if there are none.
     pub imports: Vec<ImportPattern<'a>>,
     /// Whether a graph is printed in place of lines.
     pub dot: bool,
-    /// The exports that are required, in order, one at least.
+    /// Whether JSON is printed in place of lines.
+    pub json: bool,
+    /// The exports at which paths may begin, in order; all, if there are none.
     pub exports: Vec<&'a str>,
 }
 
@@ -33,7 +35,7 @@ pub struct ImportPattern<'a> {
 }
 
 /// The options.
-pub(crate) const OPTIONS: [ProgramOption; 2] = [
+pub(crate) const OPTIONS: [ProgramOption; 3] = [
     ProgramOption {
         name: "--import",
         value: Value::Text,
@@ -48,20 +50,29 @@ pub(crate) const OPTIONS: [ProgramOption; 2] = [
         usage: " [--dot]",
         help: "  --dot                   print a graph, in the language of Graphviz\n",
     },
+    ProgramOption {
+        name: "--json",
+        value: Value::Nothing,
+        repeats: false,
+        usage: " [--json]",
+        help: "  --json                  print the paths as JSON\n",
+    },
 ];
 
-/// The command of these arguments, the first of them the one after the program's name: `IN` and one `EXPORT` or more in
-/// this order, and options before, between and after them. `--import MODULE[=NAME]` may come several times, `--dot`
-/// once. What comes after `--import` is its value, whatever it is; in one argument there is a `=` between them, as in
-/// `--import=MODULE`. MODULE ends at the first `=`. `--` is not an argument, and says that those after it are no
-/// options. No option is `-` alone, nor what begins with another character.
+/// The command of these arguments, the first of them the one after the program's name: `IN` and then each `EXPORT`, and
+/// options before, between and after them. With `--dot` there is one `EXPORT` at least, and no `--json`.
+/// `--import MODULE[=NAME]` may come several times, `--dot` and `--json` once. What comes after `--import` is its value,
+/// whatever it is; in one argument there is a `=` between them, as in `--import=MODULE`. MODULE ends at the first `=`. `--`
+/// is not an argument, and says that those after it are no options. No option is `-` alone, nor what begins with another
+/// character.
 ///
 /// # Errors
 ///
 /// They are read in order, and the first of these is named:
 ///
 /// - `Help`, `Version`: an option is `--help` or `-h`, or `--version`.
-/// - `Wrong`: an argument is wrong; or, after the last, the value of an option, or IN or EXPORT is missing.
+/// - `Wrong`: an argument is wrong; or, after the last, the value of an option, or IN, or with
+///   `--dot` EXPORT, is missing, or `--json` is given with `--dot`.
 /// - `Memory`: an allocation failed. It may come only where nothing is wrong.
 pub fn parse(alloc: Global, arguments: &[String]) -> Result<Command<'_>, NoCommand<'_>>
     ensures { IsRead command_view (AsksMemory (texts_in arguments.now)) result
@@ -70,8 +81,23 @@ pub fn parse(alloc: Global, arguments: &[String]) -> Result<Command<'_>, NoComma
     check(options(), None, arguments)?;
     match text_count(options(), arguments) {
         0 => Err(NoCommand::Wrong(WrongArgument::Missing("IN"))),
-        1 => Err(NoCommand::Wrong(WrongArgument::Missing("EXPORT"))),
-        _ => Ok(command_of(alloc, arguments)?),
+        1 => {
+            if is_given(options(), arguments, "--dot") {
+                Err(NoCommand::Wrong(WrongArgument::Missing("EXPORT")))
+            } else {
+                Ok(command_of(alloc, arguments)?)
+            }
+        }
+        _ => {
+            if is_given(options(), arguments, "--dot") && is_given(options(), arguments, "--json") {
+                Err(NoCommand::Wrong(WrongArgument::Together {
+                    option: "--dot",
+                    other: "--json",
+                }))
+            } else {
+                Ok(command_of(alloc, arguments)?)
+            }
+        }
     }
 }
 
@@ -82,9 +108,9 @@ fn options() -> &'static [ProgramOption]
     &OPTIONS
 }
 
-/// The command of arguments that are read, two of which at least are no options.
+/// The command of arguments that are read, one of which at least is no option.
 fn command_of(alloc: Global, arguments: &[String]) -> Result<Command<'_>, AllocError>
-    requires { 1 < length (plain_texts (said_by option_table (texts_in arguments.now))) }
+    requires { 0 < length (plain_texts (said_by option_table (texts_in arguments.now))) }
     ensures { IfOk result (λ c. command_view c
         ≡ command_of (said_by option_table (texts_in arguments.now))) }
 {
@@ -95,6 +121,7 @@ fn command_of(alloc: Global, arguments: &[String]) -> Result<Command<'_>, AllocE
         source: words[0],
         imports,
         dot: is_given(options(), arguments, "--dot"),
+        json: is_given(options(), arguments, "--json"),
         exports,
     })
 }

@@ -1,4 +1,4 @@
-//! What options ask for, and which imports that is.
+//! The imports that options ask for.
 
 ghost use Rattle.std.specs.Prelude.{◌≡◌, IfOk, List, OnOk, map};
 ghost use Rattle.std.specs.List.{list_any};
@@ -19,12 +19,12 @@ use wc_read::Import;
 /// So many patterns, or fewer, are gone through one after another: that takes less time than to look for them by hashes.
 const FEW: usize = 8;
 
-/// What options ask for.
+/// The patterns of the imports that options ask for.
 #[derive(Drop)]
 pub(crate) struct Asked<'p, 'a> {
     /// In the order of the options.
     patterns: &'p [ImportPattern<'a>],
-    /// The same, to look for.
+    /// The patterns as a set, for looking them up.
     set: Set<ImportPattern<'a>>,
 }
 
@@ -41,7 +41,7 @@ impl<'p, 'a> Model for Asked<'p, 'a> {
 }
 
 impl<'p, 'a> Asked<'p, 'a> {
-    /// What these options ask for. `seed`: the seed of the sets that are made.
+    /// Makes the patterns of these options ready to look up. `seed`: the seed of the sets that are made.
     ///
     /// # Errors
     ///

@@ -1,4 +1,4 @@
-//! The text that is printed for the bytes of an adapter.
+//! The text that is printed for the bytes of a module.
 
 ghost use Rattle.std.specs.Prelude.{◌≡◌, IfErr, IfOk, IsErrOf, OnOk, map, true};
 ghost use Rattle.wc_read.specs.Imports.{import_value};
@@ -6,14 +6,17 @@ ghost use Rattle.wc_gc.specs.LiveItems.{names_of};
 ghost use Rattle.wc_texts.specs.Names.{first_occurrences};
 ghost use Rattle.wc_program.specs.Screen.{Becomes, output_ends};
 ghost use Rattle.wcwhy_command.specs.Arguments.{command_view, text_of};
-ghost use Rattle.wcwhy_command.specs.Program.{IsPrintCause, IsPrintedOf};
-ghost use Rattle.wcwhy_command.specs.Private.Reasons.{AreReasons, IsSearched, IsTextOfReasons, PutsSome, adapter_in, names_in, required_in};
-ghost use Rattle.wcwhy_command.specs.Private.Execution.{ArePrinted, IsNoImportFault, IsReasonsCause, PrintsSome};
+ghost use Rattle.wcwhy_command.specs.Program.{IsGraphOf, IsPrintCause, IsPrintedOf, IsSourceOf};
+ghost use Rattle.wcwhy_command.specs.Private.Execution.{ArePrinted, IsFollowedCause, IsGraphPrintCause, IsNoImportFault, IsReasonsCause, IsSourcePrintCause, IsSourcePrinted, PrintsSome};
+ghost use Rattle.wcwhy_command.specs.Private.Followed.{HasPaths, IsSourceText};
+ghost use Rattle.wcwhy_command.specs.Private.Reasons.{AreReasons, IsGraphIn, IsSearched, PutsSome, adapter_in, names_in, required_in};
 
 use crate::arguments::{Command, ImportPattern};
 use crate::asked::Asked;
 use crate::fault::{PrintFault, WhyFault, near_text};
+use crate::followed::{Followed, follow};
 use crate::graph::put_graph;
+use crate::json_paths::put_json;
 use crate::lines::put_lines;
 use crate::reasons::{Found, Reasons};
 use std::alloc::{AllocError, Global};
@@ -22,9 +25,9 @@ use wc_maps::{Seed, Set};
 use wc_program::Output;
 use wc_read::laws::modules_unique;
 use wc_read::{Import, function_names, read_module};
-use wc_write::Sink;
+use wc_texts::Sink;
 
-/// Prints why imports of the adapter with these bytes stay.
+/// Prints why imports of the module with these bytes stay: as a graph, if it is asked for, or else in lines or as JSON.
 pub(crate) fn print_reasons<'a, O: Output>(
     alloc: Global,
     seed: Seed,
@@ -35,6 +38,26 @@ pub(crate) fn print_reasons<'a, O: Output>(
     ensures done { OnOk result (PrintsSome (IsPrintedOf (command_view command.now) bytes.now)
         (Becomes (output_ends O.written O.sent O.is_failed) out.old out.new)) }
     ensures fault { IfErr result (IsPrintCause (command_view command.now) bytes.now
+        (Becomes (output_ends O.written O.sent O.is_failed) out.old out.new)) }
+{
+    if command.dot {
+        print_graph(alloc, seed, command, bytes, out)
+    } else {
+        print_module(alloc, seed, command, bytes, out)
+    }
+}
+
+/// Prints the graph of the adapter with these bytes.
+fn print_graph<'a, O: Output>(
+    alloc: Global,
+    seed: Seed,
+    command: &Command<'a>,
+    bytes: &[u8],
+    out: &mut O,
+) -> Result<(), WhyFault<'a>>
+    ensures done { OnOk result (PrintsSome (IsGraphOf (command_view command.now) bytes.now)
+        (Becomes (output_ends O.written O.sent O.is_failed) out.old out.new)) }
+    ensures fault { IfErr result (IsGraphPrintCause (command_view command.now) bytes.now
         (Becomes (output_ends O.written O.sent O.is_failed) out.old out.new)) }
 {
     match required_exports(alloc, seed, &command.exports) {
@@ -55,7 +78,7 @@ fn required_exports(alloc: Global, seed: Seed, exports: &[&str]) -> Result<Set<S
     Ok(names)
 }
 
-/// Prints why imports of an adapter stay, of which these exports are required.
+/// Prints the graph of an adapter of which these exports are required.
 fn print_required<'a, O: Output>(
     alloc: Global,
     command: &Command<'a>,
@@ -65,9 +88,9 @@ fn print_required<'a, O: Output>(
 ) -> Result<(), WhyFault<'a>>
     requires { names_of required.now.keys
         ≡ first_occurrences (map text_of command.now.exports.items) }
-    ensures done { OnOk result (PrintsSome (IsPrintedOf (command_view command.now) bytes.now)
+    ensures done { OnOk result (PrintsSome (IsGraphOf (command_view command.now) bytes.now)
         (Becomes (output_ends O.written O.sent O.is_failed) out.old out.new)) }
-    ensures fault { IfErr result (IsPrintCause (command_view command.now) bytes.now
+    ensures fault { IfErr result (IsGraphPrintCause (command_view command.now) bytes.now
         (Becomes (output_ends O.written O.sent O.is_failed) out.old out.new)) }
 {
     match why_imports_explained(alloc, bytes, required) {
@@ -82,7 +105,7 @@ fn print_required<'a, O: Output>(
     }
 }
 
-/// Prints why imports of an adapter stay, whose live items have these chains.
+/// Prints the graph of an adapter whose live items have these chains.
 fn print_found<'a, O: Output>(
     alloc: Global,
     command: &Command<'a>,
@@ -91,9 +114,9 @@ fn print_found<'a, O: Output>(
     out: &mut O,
 ) -> Result<(), WhyFault<'a>>
     requires { IsSearched (command_view command.now) bytes.now found.now }
-    ensures done { OnOk result (PrintsSome (IsPrintedOf (command_view command.now) bytes.now)
+    ensures done { OnOk result (PrintsSome (IsGraphOf (command_view command.now) bytes.now)
         (Becomes (output_ends O.written O.sent O.is_failed) out.old out.new)) }
-    ensures fault { IfErr result (IsPrintCause (command_view command.now) bytes.now
+    ensures fault { IfErr result (IsGraphPrintCause (command_view command.now) bytes.now
         (Becomes (output_ends O.written O.sent O.is_failed) out.old out.new)) }
 {
     // The bytes are those of a module: there is no fault but that memory runs out.
@@ -113,7 +136,7 @@ fn print_found<'a, O: Output>(
     print_adapter(alloc, command, &reasons, out)
 }
 
-/// Prints why imports of an adapter stay, if it has some that each option asks for.
+/// Prints the graph of an adapter, if it has some imports that each option asks for.
 fn print_adapter<'a, O: Output>(
     alloc: Global,
     command: &Command<'a>,
@@ -136,7 +159,7 @@ fn print_adapter<'a, O: Output>(
     }
 }
 
-/// The same, where what options ask for is made ready to look for.
+/// Prints the paths to the imports that options ask for.
 fn print_asked<'a, O: Output>(
     alloc: Global,
     command: &Command<'a>,
@@ -157,7 +180,7 @@ fn print_asked<'a, O: Output>(
 {
     match asked.first_unknown(alloc, &reasons.adapter.imports) {
         Ok(Some(pattern)) => Err(no_import(alloc, pattern, &reasons.adapter.imports)),
-        Ok(None) => match put_and_flush(alloc, command.dot, asked, reasons, out) {
+        Ok(None) => match put_graph_and_flush(alloc, asked, reasons, out) {
             Ok(()) => Ok(()),
             Err(PrintFault::Memory) => Err(WhyFault::Memory),
             Err(PrintFault::Output) => Err(WhyFault::Output),
@@ -166,7 +189,7 @@ fn print_asked<'a, O: Output>(
     }
 }
 
-/// The fault for the imports that an option asks for, of which an adapter with these imports has none.
+/// The fault for the imports that an option asks for, of which a module with these imports has none.
 fn no_import<'a>(alloc: Global, pattern: ImportPattern<'a>, imports: &[Import<'_>]) -> WhyFault<'a>
     ensures { IsNoImportFault (map import_value imports.now) pattern.entry result }
 {
@@ -176,42 +199,123 @@ fn no_import<'a>(alloc: Global, pattern: ImportPattern<'a>, imports: &[Import<'_
     }
 }
 
-/// Puts why imports of an adapter stay, and flushes it.
-fn put_and_flush<O: Output>(
+/// Puts the graph of an adapter, and flushes it.
+fn put_graph_and_flush<O: Output>(
     alloc: Global,
-    dot: bool,
     asked: &Asked<'_, '_>,
     reasons: &Reasons<'_, '_>,
     out: &mut O,
 ) -> Result<(), PrintFault>
     requires { AreReasons reasons.now }
-    ensures done { OnOk result (PrintsSome (IsTextOfReasons reasons.now dot
-        asked.now)
+    ensures done { OnOk result (PrintsSome (IsGraphIn reasons.now asked.now)
         (Becomes (output_ends O.written O.sent O.is_failed) out.old out.new)) }
     ensures output { IsErrOf result PrintFault.Output → O.is_failed out.new ≡ true }
 {
-    put_reasons(alloc, dot, asked, reasons, out)?;
+    put_graph(alloc, asked, reasons, out)?;
     out.flush()?;
     Ok(())
 }
 
-/// Puts why imports of an adapter stay: as a graph, if it is asked for, or else in lines.
-fn put_reasons<S: Sink>(
+/// Prints why imports of the module with these bytes stay, in lines or as JSON.
+fn print_module<'a, O: Output>(
     alloc: Global,
-    dot: bool,
+    seed: Seed,
+    command: &Command<'a>,
+    bytes: &[u8],
+    out: &mut O,
+) -> Result<(), WhyFault<'a>>
+    ensures done { OnOk result (PrintsSome (IsSourceOf (command_view command.now) bytes.now)
+        (Becomes (output_ends O.written O.sent O.is_failed) out.old out.new)) }
+    ensures fault { IfErr result (IsSourcePrintCause (command_view command.now) bytes.now
+        (Becomes (output_ends O.written O.sent O.is_failed) out.old out.new)) }
+{
+    match follow(alloc, seed, command, bytes) {
+        Ok(followed) => print_followed(alloc, seed, command, &followed, out),
+        Err(refusal) => Err(WhyFault::from(refusal)),
+    }
+}
+
+/// Prints why imports of a module that is followed stay, if it has some that each option asks for.
+fn print_followed<'a, O: Output>(
+    alloc: Global,
+    seed: Seed,
+    command: &Command<'a>,
+    followed: &Followed<'_>,
+    out: &mut O,
+) -> Result<(), WhyFault<'a>>
+    requires { HasPaths followed.now }
+    ensures done { OnOk result (IsSourcePrinted (command_view command.now) followed.now
+        (Becomes (output_ends O.written O.sent O.is_failed) out.old out.new)) }
+    ensures fault { IfErr result (IsFollowedCause (command_view command.now) followed.now
+        (Becomes (output_ends O.written O.sent O.is_failed) out.old out.new)) }
+{
+    match Asked::new(alloc, seed, &command.imports) {
+        Ok(asked) => print_source(alloc, command, &asked, followed, out),
+        Err(AllocError) => Err(WhyFault::Memory),
+    }
+}
+
+/// Prints the paths to the imports that options ask for.
+fn print_source<'a, O: Output>(
+    alloc: Global,
+    command: &Command<'a>,
+    asked: &Asked<'_, 'a>,
+    followed: &Followed<'_>,
+    out: &mut O,
+) -> Result<(), WhyFault<'a>>
+    requires paths { HasPaths followed.now }
+    requires asked { asked.now ≡ (command_view command.now).imports }
+    ensures done { OnOk result (IsSourcePrinted (command_view command.now) followed.now
+        (Becomes (output_ends O.written O.sent O.is_failed) out.old out.new)) }
+    ensures fault { IfErr result (IsFollowedCause (command_view command.now) followed.now
+        (Becomes (output_ends O.written O.sent O.is_failed) out.old out.new)) }
+{
+    match asked.first_unknown(alloc, &followed.code.imports) {
+        Ok(Some(pattern)) => Err(no_import(alloc, pattern, &followed.code.imports)),
+        Ok(None) => match put_source_and_flush(alloc, command.json, asked, followed, out) {
+            Ok(()) => Ok(()),
+            Err(PrintFault::Memory) => Err(WhyFault::Memory),
+            Err(PrintFault::Output) => Err(WhyFault::Output),
+        },
+        Err(AllocError) => Err(WhyFault::Memory),
+    }
+}
+
+/// Puts why imports of a module that is followed stay, and flushes it.
+fn put_source_and_flush<O: Output>(
+    alloc: Global,
+    json: bool,
     asked: &Asked<'_, '_>,
-    reasons: &Reasons<'_, '_>,
+    followed: &Followed<'_>,
+    out: &mut O,
+) -> Result<(), PrintFault>
+    requires { HasPaths followed.now }
+    ensures done { OnOk result (PrintsSome (IsSourceText json followed.now asked.now)
+        (Becomes (output_ends O.written O.sent O.is_failed) out.old out.new)) }
+    ensures output { IsErrOf result PrintFault.Output → O.is_failed out.new ≡ true }
+{
+    put_source(alloc, json, asked, followed, out)?;
+    out.flush()?;
+    Ok(())
+}
+
+/// Puts why imports of a module that is followed stay: as JSON, if it is asked for, or else in lines.
+fn put_source<S: Sink>(
+    alloc: Global,
+    json: bool,
+    asked: &Asked<'_, '_>,
+    followed: &Followed<'_>,
     out: &mut S,
 ) -> Result<(), PrintFault>
-    requires { AreReasons reasons.now }
-    ensures done { OnOk result (PutsSome (IsTextOfReasons reasons.now dot
-        asked.now) (S.written out.old) (S.written out.new)) }
+    requires { HasPaths followed.now }
+    ensures done { OnOk result (PutsSome (IsSourceText json followed.now asked.now)
+        (S.written out.old) (S.written out.new)) }
     ensures works { OnOk result (S.is_failed out.new ≡ S.is_failed out.old) }
     ensures output { IsErrOf result PrintFault.Output → S.is_failed out.new ≡ true }
 {
-    if dot {
-        put_graph(alloc, asked, reasons, out)
+    if json {
+        put_json(alloc, asked, followed, out)
     } else {
-        put_lines(alloc, asked, reasons, out)
+        put_lines(alloc, asked, followed, out)
     }
 }

@@ -1,10 +1,10 @@
-//! Why the program could not do what its arguments say.
+//! Faults of the program: the reasons why a command could not be done.
 
 ghost use Rattle.std.specs.Prelude.{◌≡◌, IfNone, IfOk, IfSome, map, string_bytes};
 ghost use Rattle.std.specs.Option.{option_map};
 ghost use Rattle.wc_read.specs.Imports.{import_value};
 ghost use Rattle.wcwhy_command.specs.Arguments.{pattern_view};
-ghost use Rattle.wcwhy_command.specs.Fault.{NeedsText, adapter_text, given_word, near_text, pattern_text, unknown_text, unread_text, why_fault_text};
+ghost use Rattle.wcwhy_command.specs.Fault.{NeedsText, given_word, near_text, pattern_text, source_text, unknown_text, unread_text, why_fault_text};
 
 use crate::arguments::ImportPattern;
 use crate::patterns::{near_import, near_pattern};
@@ -24,9 +24,9 @@ pub enum WhyFault<'a> {
     Memory,
     /// The file of this path could not be read, and why: never `Memory`.
     CannotRead(&'a str, FileProblem),
-    /// It can't be said why items of the adapter are live. It carries why not, never `Memory`, and where.
-    Adapter(GcFault, Option<TrimPlace>),
-    /// An option asks for imports, and the adapter has none of them. It carries what the option asks for; and of the first
+    /// The module can't be followed. It carries why not, never `Memory`, and where.
+    Source(GcFault, Option<TrimPlace>),
+    /// An option asks for imports, and the module has none of them. It carries what the option asks for; and of the first
     /// import that it would ask for, if versions and the case of letters did not count, the module, or after an option with
     /// a name the module and the name, as they are in the fault's text.
     NoImport(ImportPattern<'a>, Option<String>),
@@ -47,7 +47,7 @@ impl WhyFault<'_> {
         match self {
             WhyFault::Memory => String::from_str(alloc, OUT_OF_MEMORY),
             WhyFault::CannotRead(path, problem) => unread_text(alloc, path, *problem),
-            WhyFault::Adapter(fault, place) => adapter_text(alloc, fault, place),
+            WhyFault::Source(fault, place) => source_text(alloc, fault, place),
             WhyFault::NoImport(pattern, near) => unknown_text(alloc, pattern, near),
             WhyFault::Output => String::from_str(alloc, UNPRINTED),
         }
@@ -61,7 +61,7 @@ impl WhyFault<'_> {
         match self {
             WhyFault::Memory => Some(OUT_OF_MEMORY),
             WhyFault::Output => Some(UNPRINTED),
-            WhyFault::CannotRead(_, _) | WhyFault::Adapter(_, _) | WhyFault::NoImport(_, _) => None,
+            WhyFault::CannotRead(_, _) | WhyFault::Source(_, _) | WhyFault::NoImport(_, _) => None,
         }
     }
 }
@@ -78,14 +78,14 @@ fn unread_text(alloc: Global, path: &str, problem: FileProblem) -> Result<String
     format!(in alloc; "cannot read {path}{problem}")
 }
 
-/// The text of a fault of trimming, with what a terminal would act on escaped, and under it what it is about, if it is
-/// about a place.
-fn adapter_text(
+/// The text of why a module can't be followed, with what a terminal would act on escaped, and under it what it is about,
+/// if it is about a place.
+fn source_text(
     alloc: Global,
     fault: &GcFault,
     place: &Option<TrimPlace>,
 ) -> Result<String, AllocError>
-    ensures { IfOk result (λ text. string_bytes text ≡ adapter_text fault.now place.now) }
+    ensures { IfOk result (λ text. string_bytes text ≡ source_text fault.now place.now) }
 {
     let text = text_of(alloc, fault)?;
     let text = escaped(alloc, &text)?;
@@ -95,7 +95,7 @@ fn adapter_text(
     }
 }
 
-/// The fault for an adapter that has none of the imports that an option asks for, and under it what is there in their
+/// The fault for a module that has none of the imports that an option asks for, and under it what is there in their
 /// place, if something is.
 fn unknown_text(
     alloc: Global,
@@ -112,7 +112,7 @@ fn unknown_text(
     }
 }
 
-/// What an option asks for: the module, and the name, if it has one.
+/// The text of an option's pattern: the module, and the name, if it has one.
 fn pattern_text(alloc: Global, pattern: &ImportPattern<'_>) -> Result<String, AllocError>
     ensures { IfOk result (λ text. string_bytes text ≡ pattern_text (pattern_view pattern.now)) }
 {
@@ -126,8 +126,8 @@ fn pattern_text(alloc: Global, pattern: &ImportPattern<'_>) -> Result<String, Al
     }
 }
 
-/// What is there in place of the imports that an option asks for: the module, or the module and the name, of the first of
-/// these imports that it would ask for, if versions and the case of letters did not count.
+/// The nearest text to an option's pattern: the module, or the module and the name, of the first of these imports that
+/// the option would ask for, if versions and the case of letters did not count.
 pub(crate) fn near_text(
     alloc: Global,
     pattern: &ImportPattern<'_>,
@@ -156,15 +156,15 @@ fn given_word(alloc: Global, text: &str) -> Result<String, AllocError>
 }
 
 impl From<Refused<GcFault, TrimPlace>> for WhyFault<'_> {
-    ghost use Rattle.wcwhy_command.specs.Fault.{of_adapter};
+    ghost use Rattle.wcwhy_command.specs.Fault.{of_source};
 
-    ghost from_gives = { λ r e. e ≡ of_adapter r.fault r.place };
+    ghost from_gives = { λ r e. e ≡ of_source r.fault r.place };
 
     fn from(e: Refused<GcFault, TrimPlace>) -> Self {
         let Refused { fault, place } = e;
         match fault {
             GcFault::Memory => WhyFault::Memory,
-            _ => WhyFault::Adapter(fault, place),
+            _ => WhyFault::Source(fault, place),
         }
     }
 }

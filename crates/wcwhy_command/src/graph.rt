@@ -4,7 +4,7 @@ ghost use Rattle.std.specs.Prelude.{◌≡◌, ◌<◌, length, map, IfOk, IsErr
 ghost use Rattle.wc_read.specs.Imports.{import_value};
 ghost use Rattle.wcwhy_command.specs.Graph.{import_node};
 ghost use Rattle.wcwhy_command.specs.Patterns.{is_shown};
-ghost use Rattle.wcwhy_command.specs.Private.Reasons.{AreImportNodesOf, AreReasons, IsGraphOf, IsNodeOf, PutsSome};
+ghost use Rattle.wcwhy_command.specs.Private.Reasons.{AreImportNodesOf, AreReasons, IsGraphIn, IsNodeOf, PutsSome};
 
 use crate::asked::Asked;
 use crate::fault::PrintFault;
@@ -23,7 +23,7 @@ fn graph(
     reasons: &Reasons<'_, '_>,
 ) -> Result<String, AllocError>
     requires { AreReasons reasons.now }
-    ensures { IfOk result (λ s. IsGraphOf reasons.now asked.now
+    ensures { IfOk result (λ s. IsGraphIn reasons.now asked.now
         (string_bytes s)) }
 {
     let shown = shown_imports(alloc, asked, &reasons.adapter.imports)?;
@@ -49,7 +49,7 @@ pub(crate) fn put_graph<S: Sink>(
     out: &mut S,
 ) -> Result<(), PrintFault>
     requires { AreReasons reasons.now }
-    ensures done { OnOk result (PutsSome (IsGraphOf reasons.now asked.now)
+    ensures done { OnOk result (PutsSome (IsGraphIn reasons.now asked.now)
         (S.written out.old) (S.written out.new)) }
     ensures works { OnOk result (S.is_failed out.new ≡ S.is_failed out.old) }
     ensures output { IsErrOf result PrintFault.Output → S.is_failed out.new ≡ true }

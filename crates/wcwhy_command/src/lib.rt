@@ -1,5 +1,6 @@
-//! The program `wcwhy`, without the opening of its file, its standard output and its standard error. It says why an adapter
-//! imports something: by the path of items that leads from a required export to the import (`wc_gc::why_imports`).
+//! The program `wcwhy`, without the opening of its file, its standard output and its standard error. It says why a module
+//! imports something: by the path of items that leads to the import from an export, the start function or an active segment
+//! (`wc_paths`).
 //!
 //! `parse` gives the command of some arguments. `run_command` does a command's work, over any `FileStore` and any `Output`,
 //! and `run` is the program over these and any `Screen` for its faults. Paths are printed by `wc_why`.
@@ -9,11 +10,15 @@ mod arguments;
 mod asked;
 mod execution;
 mod fault;
+mod followed;
 mod graph;
+mod import_paths;
+mod json_paths;
 mod lines;
 mod patterns;
 mod program;
 mod reasons;
+mod roots;
 mod texts;
 mod usage;
 

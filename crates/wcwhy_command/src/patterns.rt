@@ -1,4 +1,4 @@
-//! Which imports are asked for.
+//! Matching of imports by the patterns of options.
 
 ghost use Rattle.std.specs.Prelude.{◌≡◌, map};
 ghost use Rattle.std.specs.List.{list_any};
@@ -116,7 +116,7 @@ fn is_near_name(asked: Option<&str>, name: &str) -> bool
     }
 }
 
-/// What asks for an import as an option does: for its module, and for its name where the option has one.
+/// The pattern that asks for an import as an option does: for its module, and for its name where the option has one.
 pub(crate) fn near_pattern<'r>(
     pattern: &ImportPattern<'_>,
     import: &Import<'r>,

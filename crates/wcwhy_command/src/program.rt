@@ -134,25 +134,32 @@ fn run_and_report<F: FileStore, O: Output, E: Screen>(
     }
 }
 
-/// Reads the adapter of a command, and prints why its imports stay: for each import that is asked for, in the order of
-/// the file, the lines `MODULE NAME` and `  export NAME`, and then a line for each item of the path to it, which is the
-/// chain that `wc_gc::why` answers, as `  func 33 write_all`; or, if it isn't live, the line `MODULE NAME: not reached`
-/// where imports are asked for, and no line where all are shown. With `--dot` it prints the paths as a graph instead. All
-/// lines are flushed. A repeated export counts once. The path `-` of the adapter is that of `/dev/stdin`. `seed`: the seed
-/// of the maps that are made.
+/// Reads the module of a command, and prints why its imports stay: for each import that is asked for, in the order of the
+/// file, the lines of the one path to its item: `MODULE NAME`, where the path begins, as `  export NAME`, `  start`,
+/// `  fills table T` or `  fills memory M`, and then a line for each of its items, as `  func 33 write_all`. Where nothing
+/// leads there, it is the line `MODULE NAME: not reached` if imports are asked for, and no line if all are shown.
 ///
-/// It takes time and memory linear in the adapter and in what is asked for, and time linear in what is printed.
+/// Paths begin at the exports that are asked for, in their order, or at all, in the order of the file, and then at the start
+/// function; only where none of these leads to an import, they begin at an active segment (`wc_paths`).
+///
+/// With `--dot` it prints a graph instead, of the paths from required exports of an adapter, which are the chains that
+/// `wc_gc::why` answers. A repeated export counts once there.
+///
+/// All lines are flushed. The path `-` of the module is that of `/dev/stdin`. `seed`: the seed of the maps that are made.
+///
+/// It takes time and memory linear in the module and in what is asked for, and time linear in what is printed.
 ///
 /// # Errors
 ///
 /// Of several causes the first in this order is named; `Memory` may come in place of any.
 ///
-/// - `CannotRead`: the adapter could not be read. It carries why.
-/// - `Adapter`: the fault of `wc_gc::why_imports`.
-/// - `NoImport`: the adapter has none of the imports that an option asks for. It carries the first such, and the first
+/// - `CannotRead`: the module could not be read. It carries why.
+/// - `Source`: the module can't be followed: `Read` of a module that can't be read, and then of segments; `MissingExport`;
+///   `LiveBody`, of a body that paths reach. With `--dot` the fault of `wc_gc::why_imports`.
+/// - `NoImport`: the module has none of the imports that an option asks for. It carries the first such, and the first
 ///   import that it would ask for, if versions and the case of letters did not count.
 /// - `Output`: a put or the flush failed; `out` is failed, and how much was printed is left open.
-/// - `Memory`: an allocation failed, or the adapter is too large for memory. How much was printed is left open.
+/// - `Memory`: an allocation failed, or the module is too large for memory. How much was printed is left open.
 ///
 /// After each fault but `Output` and `Memory` nothing was printed.
 pub fn run_command<'a, F: FileStore, O: Output>(

@@ -7,16 +7,16 @@ ghost use Rattle.wcwhy_command.specs.Usage.{help_text, usage_text};
 use crate::arguments::OPTIONS;
 use wc_options::Page;
 
-/// What the program says of its arguments.
+/// The usage and help texts of the program.
 pub(crate) fn page() -> Page<'static>
     ensures usage { page_usage result ≡ usage_text }
     ensures help { page_help result ≡ help_text }
 {
     Page {
         usage: "usage: wcwhy IN",
-        end: " EXPORT...\n       wcwhy --help | --version\n",
-        words: "  IN                      an adapter, as a core module
-  EXPORT                  an export that is required of it
+        end: " [EXPORT]...\n       wcwhy --help | --version\n",
+        words: "  IN                      a core module; with --dot an adapter
+  EXPORT                  an export at which paths may begin; else all
 ",
         last: "  -h, --help              print this text
   --version               print the version

@@ -6,7 +6,7 @@ use crate::heap::counts::{add, fail_after, fail_once_after, has_failed, held, ma
 use crate::{
     Adapter, ComponentEncoder, ComponentWorld, ExportKind, FuncType, ImportOptions, Instance, Item,
     LibraryInfo, MainOrAdapter, ModuleImportMap, OrderedMap, Plan, RequiredOptions, Resolved,
-    World, gc, validate_adapter_module, validate_module,
+    World, gc, scan, validate_adapter_module, validate_module,
 };
 use std::alloc::{GlobalAlloc, Layout, System};
 use std::borrow::Cow;
@@ -52,7 +52,7 @@ const THREE: &[u8] = b"\0asm\x01\0\0\0\x01\x04\x01\x60\0\0\x03\x04\x03\0\0\0\x07
 /// A function that is exported as `a`, and is the start function.
 const STARTED: &[u8] = b"\0asm\x01\0\0\0\x01\x04\x01\x60\0\0\x03\x02\x01\0\x07\x05\x01\x01a\0\0\x08\x01\0\x0a\x04\x01\x02\0\x0b";
 
-/// The same as `b`.
+/// As `b`.
 const STARTED_B: &[u8] = b"\0asm\x01\0\0\0\x01\x04\x01\x60\0\0\x03\x02\x01\0\x07\x05\x01\x01b\0\0\x08\x01\0\x0a\x04\x01\x02\0\x0b";
 
 /// An adapter with an imported realloc and an imported memory.
@@ -134,7 +134,7 @@ fn failures<T: Debug + PartialEq>(call: impl Fn() -> Result<T, Error>) -> u64 {
     count
 }
 
-/// The same, where `fail` says which allocations fail after so many.
+/// As the function before, where `fail` says which allocations fail after so many.
 fn refusals<T: Debug + PartialEq>(
     call: impl Fn() -> Result<T, Error>,
     wanted: &Result<T, Error>,
@@ -244,6 +244,8 @@ fn chains() {
     assert!(failures(|| chains.of_import(0)) > 0);
     assert!(failures(|| gc::why(IMPORTS, ["b", "x"])) > 5);
     assert!(failures(|| gc::why(STARTED, ["a"])) > 5);
+    assert!(failures(|| scan(IMPORTS)) > 10);
+    assert!(failures(|| scan(&IMPORTS[..9])) > 0);
 }
 
 #[test]

@@ -1,9 +1,9 @@
-//! What is read of the bytes of core modules, and written: numbers, sections, imports and function types.
+//! Reading and writing of the bytes of core modules: numbers, sections, imports and function types.
 
 use crate::core_types::{FuncType, ValType};
 use crate::memory::OutOfMemory;
 
-/// What a module begins with.
+/// The header of a module.
 pub(crate) const HEADER: &[u8] = b"\0asm\x01\0\0\0";
 
 /// The id of the import section.

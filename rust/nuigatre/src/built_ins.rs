@@ -1,4 +1,4 @@
-//! What the worlds say of the built-ins that core modules import: of which type they are, and what they need.
+//! The built-ins that core modules import, as the worlds have them: of which type they are, and what they need.
 
 use crate::core_types::{FuncType, Signature};
 use crate::encoder::{ComponentEncoder, World};
@@ -13,7 +13,7 @@ use crate::world::ValidatedModule;
 
 /// A function whose result a module returns by `task.return`: its interface and its name, or the key of a function of the
 /// world itself.
-type Returning<'a> = (Option<InterfaceId>, &'a str);
+pub(crate) type Returning<'a> = (Option<InterfaceId>, &'a str);
 
 /// `task.return` of a function.
 #[derive(Clone, Debug, PartialEq, Eq)]
@@ -24,7 +24,7 @@ struct Return {
     options: RequiredOptions,
 }
 
-/// What a future or a stream needs.
+/// The needs of a future or a stream.
 #[derive(Clone, Copy, Debug, PartialEq, Eq)]
 struct Payload {
     id: TypeId,
@@ -65,7 +65,7 @@ impl Payload {
     }
 }
 
-/// What is known of the built-ins that modules import.
+/// The built-ins that modules import, with their types and needs.
 #[derive(Clone, Debug, Default, PartialEq, Eq)]
 pub(crate) struct BuiltIns {
     /// In the order of interfaces and names.
@@ -192,7 +192,7 @@ fn typed(info: &PayloadInfo) -> Option<TypeId> {
 }
 
 /// All items, or the first fault.
-fn all<T>(items: impl Iterator<Item = Result<T, Unread>>) -> Result<Vec<T>, Unread> {
+pub(crate) fn all<T>(items: impl Iterator<Item = Result<T, Unread>>) -> Result<Vec<T>, Unread> {
     let mut found = Vec::new();
     for item in items {
         push(&mut found, item?)?;
@@ -201,7 +201,7 @@ fn all<T>(items: impl Iterator<Item = Result<T, Unread>>) -> Result<Vec<T>, Unre
 }
 
 /// The types of the worlds, and these functions, which are passed in order.
-fn read_worlds(
+pub(crate) fn read_worlds(
     encoder: &ComponentEncoder<'_>,
     returning: &[Returning<'_>],
 ) -> Result<(Types, Vec<Option<Function>>), Unread> {

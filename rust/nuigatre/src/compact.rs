@@ -20,7 +20,7 @@ const MAPS: [&str; 6] = [
 /// How deep values may nest: as deep as those that the archive reads.
 const MAX_DEPTH: usize = 128;
 
-/// What the members of an object are called by.
+/// The names of an object's members.
 #[derive(Clone, Copy, PartialEq, Eq)]
 enum Names {
     /// By words of the format.

@@ -47,7 +47,31 @@ pub struct MemoryType {
     pub page_size_log2: Option<u32>,
 }
 
-/// What is exported. Its text is `func`, `table`, `memory` or `global`.
+/// A table type. `initial` and `maximum` count elements.
+#[derive(Clone, Copy, Debug, PartialEq, Eq, Hash)]
+#[non_exhaustive]
+pub struct TableType {
+    /// The type of the elements.
+    pub element_type: ValType,
+    /// Whether indices of elements have 64 bits.
+    pub table64: bool,
+    /// The minimum.
+    pub initial: u64,
+    /// The maximum.
+    pub maximum: Option<u64>,
+}
+
+/// A global type.
+#[derive(Clone, Copy, Debug, PartialEq, Eq, Hash)]
+#[non_exhaustive]
+pub struct GlobalType {
+    /// The type of the global's value.
+    pub content_type: ValType,
+    /// Whether it may be written.
+    pub mutable: bool,
+}
+
+/// The kind of an export. Its text is `func`, `table`, `memory` or `global`.
 #[derive(Clone, Copy, Debug, PartialEq, Eq, Hash)]
 #[allow(missing_docs)]
 #[non_exhaustive]
@@ -182,6 +206,26 @@ impl Read for MemoryType {
             initial: member(value, "initial")?,
             maximum: optional_member(value, "maximum")?,
             page_size_log2: optional_member(value, "page_size_log2")?,
+        })
+    }
+}
+
+impl Read for TableType {
+    fn read(value: &Value<'_>) -> Result<Self, Unread> {
+        Ok(TableType {
+            element_type: member(value, "element_type")?,
+            table64: member(value, "table64")?,
+            initial: member(value, "initial")?,
+            maximum: optional_member(value, "maximum")?,
+        })
+    }
+}
+
+impl Read for GlobalType {
+    fn read(value: &Value<'_>) -> Result<Self, Unread> {
+        Ok(GlobalType {
+            content_type: member(value, "content_type")?,
+            mutable: member(value, "mutable")?,
         })
     }
 }

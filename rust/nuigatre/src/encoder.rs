@@ -1,4 +1,4 @@
-//! What a component is encoded from.
+//! The parts from which a component is encoded.
 
 use crate::core_types::ExportKind;
 use crate::error::Error;
@@ -25,7 +25,7 @@ pub enum MainOrAdapter {
 pub struct Item {
     /// The name by which the library imports it.
     pub alias: String,
-    /// What it is.
+    /// The module or the function.
     pub kind: ExportKind,
     /// The module that exports it.
     pub which: MainOrAdapter,
@@ -33,7 +33,7 @@ pub struct Item {
     pub name: String,
 }
 
-/// What a library gets under a module's name.
+/// The instance that a library gets under a module's name.
 #[derive(Clone, Debug, PartialEq, Eq, Hash)]
 pub enum Instance {
     /// All exports of a module.
@@ -45,7 +45,7 @@ pub enum Instance {
 /// How a library is instantiated.
 #[derive(Clone, Debug, Default, PartialEq, Eq, Hash)]
 pub struct LibraryInfo {
-    /// What it gets, under the name of each module that it imports from.
+    /// The instances that it gets, by the names of the modules that it imports from.
     pub arguments: Vec<(String, Instance)>,
     /// Whether it is instantiated after the shims.
     pub instantiate_after_shims: bool,
@@ -125,7 +125,7 @@ impl<'a> From<&'a String> for World<'a> {
     }
 }
 
-/// What a component is encoded from: worlds, a main module, and adapters and libraries beside it.
+/// The parts from which a component is encoded: worlds, a main module, and adapters and libraries beside it.
 #[derive(Clone, Debug)]
 #[non_exhaustive]
 pub struct ComponentEncoder<'a> {
@@ -178,7 +178,7 @@ impl<'a> ComponentEncoder<'a> {
         }
     }
 
-    /// What the archive is asked: the message, and the bytes of all modules.
+    /// The question to the archive: the message, and the bytes of all modules.
     pub(crate) fn question(&self) -> Result<(String, Cow<'_, [u8]>), Error> {
         let adapters = collect(self.adapters.iter().map(AskedAdapter::of))?;
         let asked = Asked {

@@ -1,6 +1,6 @@
 //! Why a call has no answer.
 
-use crate::faults::{DedupeError, TrimError};
+use crate::faults::{DedupeError, ReadError, TrimError};
 use crate::memory::OutOfMemory;
 use crate::place::Place;
 use crate::world_error::{ValidateError, WorldError};
@@ -40,6 +40,8 @@ pub enum Error {
     Dedupe(DedupeError),
     /// The adapter could not be trimmed.
     Trim(TrimError),
+    /// The bytes are no module.
+    Read(ReadError),
     /// The module is refused, by itself.
     Validate(ValidateError),
     /// There is no world of the component.
@@ -47,12 +49,13 @@ pub enum Error {
 }
 
 impl Error {
-    /// What the error is about, if that is known: [`Refused::place`](crate::Refused::place).
+    /// The place of the error, if that is known: [`Refused::place`](crate::Refused::place).
     #[must_use]
     pub fn place(&self) -> Option<&Place> {
         match self {
             Error::Dedupe(error) => error.place(),
             Error::Trim(error) => error.place(),
+            Error::Read(error) => error.place(),
             Error::Validate(error) => error.place(),
             Error::World(error) => error.place(),
             _ => None,
@@ -75,6 +78,7 @@ impl Display for Error {
             Error::OtherVersion => f.write_str("libnuigatre.a is of another version"),
             Error::Dedupe(error) => write!(f, "Dedupe: {error}"),
             Error::Trim(error) => write!(f, "Trim: {error}"),
+            Error::Read(error) => write!(f, "Read: {error}"),
             Error::Validate(error) => write!(f, "Validate: {error}"),
             Error::World(error) => write!(f, "{error}"),
         }
@@ -87,6 +91,7 @@ impl error::Error for Error {
         match self {
             Error::Dedupe(error) => error.source(),
             Error::Trim(error) => error.source(),
+            Error::Read(error) => error.source(),
             Error::Validate(error) => error.source(),
             Error::World(error) => error.source(),
             _ => None,

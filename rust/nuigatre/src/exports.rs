@@ -1,4 +1,4 @@
-//! What core modules export, and what is looked up among it. The names are those of `wit-component`.
+//! Exports of core modules, and look-ups among them. The names are those of `wit-component`.
 
 use crate::core_types::MemoryType;
 use crate::ids::{AbiVariant, InterfaceId, TypeId, WorldKey};
@@ -8,7 +8,7 @@ use crate::ordered_map::{Iter, OrderedMap};
 use crate::read::{Read, Unread, map, member};
 use std::iter::FusedIterator;
 
-/// What an export of a core module is, by its name. These are all: another one is a new version of this crate.
+/// The meaning of an export of a core module, by its name. These are all: another one is a new version of this crate.
 #[derive(Clone, Debug, PartialEq, Eq, Hash)]
 #[allow(missing_docs)]
 pub enum Export {
@@ -65,7 +65,7 @@ impl Read for Export {
     }
 }
 
-/// What an export is looked up by. The name of a function is left out where the key is that of the function.
+/// The key by which an export is looked up. The name of a function is left out where the key is that of the function.
 #[derive(Clone, Copy, PartialEq, Eq, Hash)]
 enum Role<'a> {
     Function(&'a WorldKey, &'a str),
@@ -129,7 +129,7 @@ impl ExportMap {
         }
     }
 
-    /// What the export of this name is.
+    /// The meaning of the export of this name.
     #[must_use]
     pub fn get(&self, name: &str) -> Option<&Export> {
         self.names.get(name)
@@ -208,7 +208,7 @@ impl ExportMap {
         self.own_or_general(&Export::GeneralPurposeImportRealloc)
     }
 
-    /// The same. The function makes no difference.
+    /// As the method before. The function makes no difference.
     #[must_use]
     pub fn import_realloc_for(&self, _interface: Option<InterfaceId>, _func: &str) -> Option<&str> {
         self.import_realloc_fallback()

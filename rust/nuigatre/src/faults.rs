@@ -131,12 +131,21 @@ pub enum GcFault {
 /// Why the imports of a module could not be renamed, and where.
 pub type DedupeError = Refused<DedupeFault>;
 
+/// Why bytes are no module, and where.
+pub type ReadError = Refused<ReadFault>;
+
 /// Why an adapter could not be trimmed, and where.
 pub type TrimError = Refused<GcFault>;
 
 /// The error of a fault of renaming that the archive answered.
 pub(crate) fn dedupe_error(answered: &Fault) -> Result<DedupeError, Unread> {
     let fault = DedupeFault::from_number(answered.number)?;
+    Ok(Refused::new(fault, place_of(answered)?)?)
+}
+
+/// The error of a fault of reading that the archive answered.
+pub(crate) fn read_error(answered: &Fault) -> Result<ReadError, Unread> {
+    let fault = ReadFault::from_number(answered.number)?;
     Ok(Refused::new(fault, place_of(answered)?)?)
 }
 
@@ -221,7 +230,7 @@ impl error::Error for GcFault {}
 #[cfg(test)]
 mod tests {
     use super::{DedupeFault, GcFault, ReadFault};
-    use crate::ffi::fault_text::{DEDUPE_CALL, TRIM_CALL, WHY_CALL, fault_text};
+    use crate::ffi::fault_text::{DEDUPE_CALL, SCAN_CALL, TRIM_CALL, WHY_CALL, fault_text};
 
     /// How many numbers are those of a fault, each of one of its own.
     fn count<T: PartialEq>(fault: impl Fn(u32) -> Option<T>) -> usize {
@@ -251,7 +260,10 @@ mod tests {
             let text = fault.map(|it| it.to_string().trim_end_matches(" ``").to_owned());
             assert_eq!(fault_text(TRIM_CALL, number), text, "{number}");
             assert_eq!(fault_text(WHY_CALL, number), text, "{number}");
-            assert_eq!(fault_text(WHY_CALL + 1, number), None);
+            let fault = ReadFault::from_number(number).ok();
+            let text = fault.map(|it| it.to_string());
+            assert_eq!(fault_text(SCAN_CALL, number), text, "{number}");
+            assert_eq!(fault_text(SCAN_CALL + 1, number), None);
         }
     }
 }

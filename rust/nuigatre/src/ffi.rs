@@ -20,7 +20,7 @@ pub(crate) struct Slice<'a> {
     bytes: PhantomData<&'a [u8]>,
 }
 
-/// What a function of the archive answers.
+/// The answer of a function of the archive.
 #[repr(C)]
 struct Answer {
     status: u32,
@@ -41,13 +41,13 @@ const NO_SUCH_FAULT: u32 = 6;
 
 /// The form of the calls, of messages and of answers that this crate knows: the archive's own number has to be this one. Its
 /// symbols have it too, so that another version of this crate, over another form, can be part of the same program.
-const ABI: u32 = 7;
+const ABI: u32 = 8;
 
 unsafe extern "C" {
-    #[link_name = "nuigatre7_abi"]
+    #[link_name = "nuigatre8_abi"]
     safe fn nuigatre_abi() -> u32;
 
-    #[link_name = "nuigatre7_dedupe"]
+    #[link_name = "nuigatre8_dedupe"]
     fn nuigatre_dedupe(
         wasm: *const u8,
         wasm_length: usize,
@@ -55,7 +55,7 @@ unsafe extern "C" {
         out_length: usize,
     ) -> Answer;
 
-    #[link_name = "nuigatre7_trim"]
+    #[link_name = "nuigatre8_trim"]
     fn nuigatre_trim(
         seed0: u64,
         seed1: u64,
@@ -71,7 +71,7 @@ unsafe extern "C" {
         out_length: usize,
     ) -> Answer;
 
-    #[link_name = "nuigatre7_why"]
+    #[link_name = "nuigatre8_why"]
     fn nuigatre_why(
         seed0: u64,
         seed1: u64,
@@ -83,7 +83,7 @@ unsafe extern "C" {
         out_length: usize,
     ) -> Answer;
 
-    #[link_name = "nuigatre7_world"]
+    #[link_name = "nuigatre8_world"]
     fn nuigatre_world(
         seed0: u64,
         seed1: u64,
@@ -95,7 +95,7 @@ unsafe extern "C" {
         out_length: usize,
     ) -> Answer;
 
-    #[link_name = "nuigatre7_plan"]
+    #[link_name = "nuigatre8_plan"]
     fn nuigatre_plan(
         seed0: u64,
         seed1: u64,
@@ -107,7 +107,7 @@ unsafe extern "C" {
         out_length: usize,
     ) -> Answer;
 
-    #[link_name = "nuigatre7_planned_world"]
+    #[link_name = "nuigatre8_planned_world"]
     fn nuigatre_planned_world(
         seed0: u64,
         seed1: u64,
@@ -120,7 +120,7 @@ unsafe extern "C" {
     ) -> Answer;
 
     #[cfg(test)]
-    #[link_name = "nuigatre7_validate"]
+    #[link_name = "nuigatre8_validate"]
     fn nuigatre_validate(
         seed0: u64,
         seed1: u64,
@@ -135,7 +135,7 @@ unsafe extern "C" {
         out_length: usize,
     ) -> Answer;
 
-    #[link_name = "nuigatre7_validated_module"]
+    #[link_name = "nuigatre8_validated_module"]
     fn nuigatre_validated_module(
         seed0: u64,
         seed1: u64,
@@ -152,8 +152,16 @@ unsafe extern "C" {
         out_length: usize,
     ) -> Answer;
 
+    #[link_name = "nuigatre8_scan"]
+    fn nuigatre_scan(
+        wasm: *const u8,
+        wasm_length: usize,
+        out: *mut u8,
+        out_length: usize,
+    ) -> Answer;
+
     #[cfg(test)]
-    #[link_name = "nuigatre7_fault_text"]
+    #[link_name = "nuigatre8_fault_text"]
     fn nuigatre_fault_text(call: u32, number: u32, out: *mut u8, out_length: usize) -> Answer;
 }
 
@@ -166,8 +174,8 @@ pub(crate) fn is_proved() -> bool {
         // SAFETY: it reads the entry of a symbol in a table of the program, which the linker fills.
         unsafe {
             std::arch::asm!(
-                ".weak nuigatre7_unproved",
-                "mov {}, qword ptr [rip + nuigatre7_unproved@GOTPCREL]",
+                ".weak nuigatre8_unproved",
+                "mov {}, qword ptr [rip + nuigatre8_unproved@GOTPCREL]",
                 out(reg) address,
                 options(pure, readonly, nostack, preserves_flags),
             );
@@ -187,7 +195,7 @@ pub(crate) struct TrimArguments<'a> {
     pub(crate) page_size_log2: u32,
 }
 
-/// What a call answers, where memory did not run out.
+/// The answer of a call, where memory did not run out.
 pub(crate) enum Answered {
     /// These bytes, the first of which are modules.
     Bytes {
@@ -208,12 +216,12 @@ pub(crate) struct Fault {
     /// Of a trim where the name of a missing export is among those passed. Of the calls on a message how many bytes the
     /// fault's text has.
     pub(crate) position: usize,
-    /// What the fault is about, as JSON; of the calls on a message the fault's text before it.
+    /// The place of the fault, as JSON; of the calls on a message the fault's text before it.
     pub(crate) text: String,
 }
 
 impl Fault {
-    /// What a fault of a call on a message is about. Its text is passed over: the number says what is wrong.
+    /// The place of a fault of a call on a message. Its text is passed over: the number says which fault it is.
     pub(crate) fn about(&self) -> Result<Option<About>, Unread> {
         About::parse(self.text.get(self.position..).ok_or(Unread::Unknown)?)
     }
@@ -290,6 +298,14 @@ pub(crate) fn why(wasm: &[u8], required: &[Slice<'_>], room: usize) -> Result<An
     })
 }
 
+/// Lists what a module imports and exports. The answer is JSON.
+pub(crate) fn scan(wasm: &[u8], room: usize) -> Result<Answered, Error> {
+    answered(room, |out| {
+        // SAFETY: as above.
+        unsafe { nuigatre_scan(wasm.as_ptr(), wasm.len(), start(out), out.len()) }
+    })
+}
+
 /// A call of the archive on a message and the bytes of modules, under a seed.
 type OnMessage =
     unsafe extern "C" fn(u64, u64, *const u8, usize, *const u8, usize, *mut u8, usize) -> Answer;
@@ -320,7 +336,7 @@ pub(crate) fn planned_world(
     answer_to(nuigatre_planned_world, message, modules, room)
 }
 
-/// What one of these calls answers to a message.
+/// The answer of one of these calls to a message.
 fn answer_to(
     call: OnMessage,
     message: &[u8],
@@ -491,6 +507,7 @@ pub(crate) mod fault_text {
     pub(crate) const DEDUPE_CALL: u32 = 0;
     pub(crate) const TRIM_CALL: u32 = 1;
     pub(crate) const WHY_CALL: u32 = 2;
+    pub(crate) const SCAN_CALL: u32 = 3;
 
     /// The text of the fault that this call answers by this number; `None` where it has none.
     pub(crate) fn fault_text(call: u32, number: u32) -> Option<String> {
@@ -525,7 +542,8 @@ mod tests {
     use std::cell::Cell;
     use std::mem::MaybeUninit;
 
-    /// What an archive answers that has these bytes, with the fewest and the most bytes of the buffers that it was given.
+    /// The answer of an archive that has these bytes, with the fewest and the most bytes of the buffers that it was
+    /// given.
     fn ask(status: u32, bytes: &[u8], room: usize) -> (Result<Answered, Error>, usize, usize) {
         let (least, most) = (Cell::new(usize::MAX), Cell::new(0));
         let call = |out: &mut [MaybeUninit<u8>]| {

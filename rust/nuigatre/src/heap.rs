@@ -57,7 +57,7 @@ impl Allocated {
         }
     }
 
-    /// What the C library answered.
+    /// The answer of the C library.
     fn of(block: *mut c_void) -> Self {
         if block.is_null() {
             Allocated::failed()

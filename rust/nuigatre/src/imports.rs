@@ -1,4 +1,4 @@
-//! What core modules import, and what is looked up among it. The names are those of `wit-component`.
+//! Imports of core modules, and look-ups among them. The names are those of `wit-component`.
 
 use crate::core_types::{ExportKind, FuncType, MemoryType, ValType};
 use crate::encoder::{Item, MainOrAdapter};
@@ -55,8 +55,8 @@ impl PayloadInfo {
     }
 }
 
-/// What an import of a core module is, by its name. Fields are in the order of `wit-component`'s; the function of
-/// `ExportedTaskReturn` is there by its name. These are all: another one is a new version of this crate.
+/// The meaning of an import of a core module, by its name. Fields are in the order of `wit-component`'s; the function
+/// of `ExportedTaskReturn` is there by its name. These are all: another one is a new version of this crate.
 #[derive(Clone, Debug, PartialEq, Eq, Hash)]
 #[allow(missing_docs)]
 pub enum Import {
@@ -333,7 +333,7 @@ impl Read for Import {
     }
 }
 
-/// What is imported from a module: a module of the component, all of it, or single imports by their names.
+/// The imports from a module: a module of the component, all of it, or single imports by their names.
 #[derive(Clone, Debug, PartialEq, Eq)]
 pub enum ImportInstance {
     /// All of a module.
@@ -406,7 +406,7 @@ impl ImportMap {
         })
     }
 
-    /// What is recorded of each module, in the order of their first imports.
+    /// The record of each module, in the order of their first imports.
     #[must_use]
     pub fn modules(&self) -> &OrderedMap<String, ImportInstance> {
         &self.modules

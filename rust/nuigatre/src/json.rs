@@ -60,7 +60,7 @@ impl<'a> Value<'a> {
     }
 }
 
-/// What is left of a text.
+/// The rest of a text.
 pub(crate) struct Reader<'a> {
     rest: &'a str,
 }
@@ -274,7 +274,7 @@ impl<'a> Reader<'a> {
     }
 }
 
-/// What may be between the pieces of a JSON text.
+/// The blanks that may be between the pieces of a JSON text.
 pub(crate) const SPACES: [char; 4] = [' ', '\t', '\n', '\r'];
 
 /// Whether a text is no more than one JSON value wherever it is put: where what is around it makes it part of a JSON

@@ -2,7 +2,7 @@
 //! ([`ModuleImportMap`]), adapters trimmed to what is used of them ([`gc::run`]), and all of that for the world of a
 //! component and its plan ([`ComponentWorld`], [`Plan`]), by resolved worlds as JSON, which may be read once for many
 //! components ([`Resolved`]). One module may be validated alone ([`validate_module`], [`validate_adapter_module`]), and an
-//! adapter asked why it imports what it does ([`gc::why`]). The shim that a component needs is listed too
+//! adapter asked why it imports what it does ([`gc::why`]). Any module's imports and exports are listed by [`scan`](fn@scan). The shim that a component needs is listed too
 //! ([`ComponentWorld::table`]). The names are those of the Rust crate `wit-component`, and so is what they do. An error says
 //! what it is about ([`Error::place`]), which is its source.
 //!
@@ -43,6 +43,7 @@ mod compact;
 mod core_types;
 mod encoder;
 mod error;
+mod export_options;
 mod exports;
 mod faults;
 #[allow(unsafe_code)]
@@ -66,6 +67,7 @@ mod refused;
 mod renames;
 mod required_options;
 mod resolved;
+mod scan;
 mod shapes;
 mod table;
 mod validation;
@@ -90,13 +92,16 @@ pub fn is_proved() -> bool {
     ffi::is_proved()
 }
 
-pub use core_types::{ExportKind, FuncType, MemoryType, ValType, WasmSignature, WasmType};
+pub use core_types::{
+    ExportKind, FuncType, GlobalType, MemoryType, TableType, ValType, WasmSignature, WasmType,
+};
 pub use encoder::{
     Adapter, ComponentEncoder, ImportOptions, Instance, Item, LibraryInfo, MainOrAdapter, World,
 };
 pub use error::Error;
+pub use export_options::ExportOptions;
 pub use exports::{Export, ExportMap, Exports};
-pub use faults::{DedupeError, DedupeFault, GcFault, ReadFault, TrimError};
+pub use faults::{DedupeError, DedupeFault, GcFault, ReadError, ReadFault, TrimError};
 pub use ids::{AbiVariant, InterfaceId, StringEncoding, TypeId, WorldKey};
 pub use imports::{Import, ImportInstance, ImportMap, PayloadInfo, PayloadType};
 pub use module_import_map::{ModuleImportMap, Rename};
@@ -107,6 +112,7 @@ pub use plan::{Plan, Use, UsedImport};
 pub use refused::Refused;
 pub use required_options::RequiredOptions;
 pub use resolved::{Resolved, Worlds};
+pub use scan::{ItemType, Scan, ScannedExport, ScannedImport, scan};
 pub use table::{Filler, Slot, Table};
 pub use validation::{validate_adapter_module, validate_module};
 pub use wit_types::Type;

@@ -1,4 +1,4 @@
-//! What allocates, where it may fail. All memory of this crate is asked for here, or by `try_reserve`.
+//! Allocations that may fail. All memory of this crate is asked for here, or by `try_reserve`.
 
 use std::collections::TryReserveError;
 use std::fmt::{self, Write};
@@ -66,7 +66,7 @@ pub(crate) fn fitted(bytes: Vec<u8>) -> Vec<u8> {
     concat([bytes.as_slice()].into_iter()).unwrap_or(bytes)
 }
 
-/// The same of a text.
+/// As the function before, of a text.
 pub(crate) fn fitted_text(text: String) -> String {
     if text.len() > text.capacity() / 2 {
         return text;

@@ -96,7 +96,7 @@ impl ModuleImportMap {
         &self.renames
     }
 
-    /// The same, one by one.
+    /// The renames, one by one.
     pub fn iter(&self) -> std::slice::Iter<'_, Rename> {
         self.renames.iter()
     }

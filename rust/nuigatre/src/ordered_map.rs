@@ -8,14 +8,14 @@ use std::hash::Hash;
 use std::iter::FusedIterator;
 use std::{ops, slice, vec};
 
-/// What a map with keys `K` can be asked for: a key, or what it is without owning it. It hashes as the key does. Other crates
-/// can't implement it.
+/// A key by which a map with keys `K` can be asked: a key of the map, or what it is without owning it. It hashes as the
+/// key does. Other crates can't implement it.
 pub trait Lookup<K: ?Sized>: Hash + Sealed<K> {
     /// Whether it is this key.
     fn is(&self, key: &K) -> bool;
 }
 
-/// What other crates can't implement.
+/// A trait that other crates can't implement.
 mod sealed {
     pub trait Sealed<K: ?Sized> {}
 }
@@ -31,6 +31,7 @@ impl Sealed<(String, AbiVariant)> for (String, AbiVariant) {}
 impl Sealed<InterfaceId> for InterfaceId {}
 impl Sealed<TypeId> for TypeId {}
 impl Sealed<WorldKey> for WorldKey {}
+impl Sealed<u32> for u32 {}
 
 impl Lookup<String> for str {
     fn is(&self, key: &String) -> bool {
@@ -82,6 +83,12 @@ impl Lookup<InterfaceId> for InterfaceId {
 
 impl Lookup<TypeId> for TypeId {
     fn is(&self, key: &TypeId) -> bool {
+        self == key
+    }
+}
+
+impl Lookup<u32> for u32 {
+    fn is(&self, key: &u32) -> bool {
         self == key
     }
 }

@@ -90,7 +90,7 @@ mod tests {
     const REPEATS: &[u8] = b"\0asm\x01\0\0\0\x01\x04\x01\x60\0\0\x02\x20\x05\x01a\x01f\0\0\x01a\x01f\0\0\x01b\x01f\0\0\
         \x01a\x01f\0\0\x01b\x01f\x02\0\x01\0\x02\x01x";
 
-    /// The same with the names that it gets.
+    /// As the method before, with the names that it gets.
     const RENAMED: &[u8] = b"\0asm\x01\0\0\0\x01\x04\x01\x60\0\0\x02\x2f\x05\x01a\x01f\0\0\x01a\x06f [v2]\0\0\x01b\x01f\0\0\
         \x01a\x06f [v3]\0\0\x01b\x06f [v2]\x02\0\x01\0\x02\x01x";
 

@@ -1,4 +1,4 @@
-//! What faults are about.
+//! The places of faults.
 
 use crate::core_types::FuncType;
 use crate::ids::{AbiVariant, InterfaceId, TypeId};
@@ -7,22 +7,22 @@ use crate::read::{Read, Unread, member, optional_member};
 use std::error;
 use std::fmt::{self, Debug, Display, Formatter};
 
-/// What a fault is about. Its text is as `import "env" "log", wanted (i32) -> (), found () -> (), in adapter "old"`. It is the
-/// source of the error that has it, so what prints a chain of sources prints it.
+/// The place of a fault. Its text is as `import "env" "log", wanted (i32) -> (), found () -> (), in adapter "old"`. It
+/// is the source of the error that has it, so what prints a chain of sources prints it.
 #[derive(Clone, Debug, PartialEq, Eq, Hash)]
 #[non_exhaustive]
 pub struct Place {
     /// The adapter or the library whose module it is in; `None` for the main module, for the adapter of
     /// [`gc::run`](crate::gc::run), which has no name, and for what is in no module.
     pub adapter: Option<String>,
-    /// What it is.
+    /// The place in the module.
     pub subject: Subject,
     /// The core types that differ, where the fault is that they do.
     pub types: Option<TypeDifference>,
 }
 
-/// What a fault is about, by its names or its number. An import or an export of a module is there as it is; what a module
-/// lacks is missing.
+/// The place of a fault, by its names or its number. An import or an export of a module is there as it is; what a
+/// module lacks is missing.
 #[derive(Clone, Debug, PartialEq, Eq, Hash)]
 #[non_exhaustive]
 pub enum Subject {
@@ -120,7 +120,7 @@ pub struct TypeDifference {
     pub found: FuncType,
 }
 
-/// What a fault is about, as the archive writes it after the fault.
+/// The place of a fault, as the archive writes it after the fault.
 #[derive(Debug, PartialEq, Eq)]
 pub(crate) enum About {
     /// A place.
@@ -138,7 +138,7 @@ pub(crate) enum About {
 }
 
 impl About {
-    /// What a fault is about, of this text; `None` where the archive wrote none.
+    /// The place that this text has; `None` where the archive wrote none.
     pub(crate) fn parse(text: &str) -> Result<Option<About>, Unread> {
         if text.is_empty() {
             return Ok(None);
@@ -283,7 +283,7 @@ impl Display for Place {
     }
 }
 
-/// What a section of this id is called, if the format has one.
+/// The name of the section of this id, if the format has one.
 fn section_name(id: u8) -> Option<&'static str> {
     let names = [
         "custom",
@@ -481,7 +481,7 @@ mod tests {
         }
     }
 
-    /// What an error has in its fault, and not as a place.
+    /// The part of an error that is in its fault, and is no place.
     #[test]
     fn others() {
         for (json, about) in [

@@ -17,7 +17,8 @@ use std::{iter, slice, str, vec};
 /// How many bytes of a first buffer are for each byte of the message.
 const PER_BYTE: usize = 2;
 
-/// What a function that core modules import needs. Its text is the line that the program `wcplan` prints.
+/// A use of a function that core modules import, with what it needs. Its text is the line that the program `wcplan`
+/// prints.
 #[derive(Clone, Debug, PartialEq, Eq, Hash)]
 #[non_exhaustive]
 pub struct Use {
@@ -52,7 +53,7 @@ impl PartialEq for Plan {
 
 impl Eq for Plan {}
 
-/// What a function is found by: the name of its adapter, the name that its interface has, its own, and how it is called.
+/// The key of a function: the name of its adapter, the name that its interface has, its own, and how it is called.
 type Call<'a> = (Option<&'a str>, Option<&'a str>, &'a str, AbiVariant);
 
 impl Plan {
@@ -87,13 +88,13 @@ impl Plan {
         &self.uses
     }
 
-    /// The same, one by one.
+    /// The uses, one by one.
     pub fn iter(&self) -> slice::Iter<'_, Use> {
         self.uses.iter()
     }
 
-    /// What an import of a module needs, by the world that the plan is of: `module` is the name of the adapter, or `None` for
-    /// the main module. `None` where the import is no function that the world imports.
+    /// The use that an import of a module is, by the world that the plan is of: `module` is the name of the adapter, or
+    /// `None` for the main module. `None` where the import is no function that the world imports.
     #[must_use]
     pub fn of(
         &self,
@@ -148,9 +149,9 @@ pub struct UsedImport<'a> {
     pub module: &'a str,
     /// Its name there.
     pub name: &'a str,
-    /// What it is.
+    /// The function.
     pub import: &'a Import,
-    /// What it needs.
+    /// Its needs.
     pub used: &'a Use,
 }
 

@@ -26,13 +26,13 @@ impl<F> Refused<F> {
         (self.fault, self.place.into_option())
     }
 
-    /// What is wrong.
+    /// The fault.
     #[must_use]
     pub fn fault(&self) -> &F {
         &self.fault
     }
 
-    /// What the fault is about, if that has a place.
+    /// The place of the fault, if it has one.
     ///
     /// Of renaming and of trimming:
     ///

@@ -105,7 +105,7 @@ impl RequiredOptions {
 impl BitOr for RequiredOptions {
     type Output = RequiredOptions;
 
-    /// What is in one of two sets.
+    /// The options that are in one of two sets, or in both.
     fn bitor(self, others: RequiredOptions) -> RequiredOptions {
         RequiredOptions(self.0 | others.0)
     }
@@ -114,7 +114,7 @@ impl BitOr for RequiredOptions {
 impl BitAnd for RequiredOptions {
     type Output = RequiredOptions;
 
-    /// What is in both sets.
+    /// The options that are in both sets.
     fn bitand(self, others: RequiredOptions) -> RequiredOptions {
         RequiredOptions(self.0 & others.0)
     }
@@ -123,7 +123,7 @@ impl BitAnd for RequiredOptions {
 impl Sub for RequiredOptions {
     type Output = RequiredOptions;
 
-    /// What is in the first set and not in the second.
+    /// The options that are in the first set and not in the second.
     fn sub(self, others: RequiredOptions) -> RequiredOptions {
         RequiredOptions(self.0 & !others.0)
     }

@@ -30,7 +30,7 @@ use std::str::FromStr;
 #[derive(Clone, Debug, PartialEq, Eq)]
 pub struct Resolved {
     json: String,
-    /// What futures and streams carry, by their ids, in order; those that carry nothing are not there.
+    /// The types that futures and streams carry, by their ids, in order; those that carry nothing are not there.
     payloads: Vec<(TypeId, Type)>,
 }
 
@@ -60,7 +60,7 @@ impl Resolved {
         &self.json
     }
 
-    /// What the future or the stream of this id carries, if there is one and it carries something.
+    /// The type that the future or the stream of this id carries, if there is one and it carries something.
     pub(crate) fn payload(&self, id: TypeId) -> Option<Type> {
         let position = self.payloads.binary_search_by_key(&id, |it| it.0).ok()?;
         Some(self.payloads[position].1)
@@ -148,7 +148,7 @@ fn check(json: &str) -> Result<(), Error> {
     }
 }
 
-/// What futures and streams carry, by their ids.
+/// The types that futures and streams carry, by their ids.
 fn payloads(json: &str) -> Result<Vec<(TypeId, Type)>, Unread> {
     let (mut payloads, mut ids) = (Vec::new(), 0..);
     Reader::new(json).members(|reader, name| match &*name {
@@ -164,7 +164,7 @@ fn payloads(json: &str) -> Result<Vec<(TypeId, Type)>, Unread> {
     Ok(payloads)
 }
 
-/// What a type carries, where it is a future or a stream.
+/// The type that a future or a stream carries.
 fn payload_of(reader: &mut Reader<'_>) -> Result<Option<Type>, Unread> {
     let mut payload = None;
     reader.members(|reader, name| match (&*name, reader.peek()) {

@@ -1,4 +1,4 @@
-//! What values of the worlds' types are in core modules: the core values that they are flattened to, where memories have 32
+//! Values of the worlds' types in core modules: the core values that they are flattened to, where memories have 32
 //! bits, and the canonical options that they need.
 
 use crate::core_types::{FuncType, ValType};
@@ -13,14 +13,14 @@ use std::iter;
 /// So many core values are passed by themselves; a pointer is in the place of more.
 const MAX_FLAT: usize = 16;
 
-/// What a value is in core modules.
+/// The form of a value in core modules.
 #[derive(Clone, Debug, PartialEq, Eq)]
 pub(crate) struct Shape {
     /// The first core values.
     flat: [ValType; MAX_FLAT],
     /// How many there are, or one more than are in `flat`.
     count: usize,
-    /// What a core module has to have so that the value is read from it.
+    /// The options without which the value can't be read from a core module.
     lifting: RequiredOptions,
 }
 
@@ -88,7 +88,7 @@ impl Shape {
         }
     }
 
-    /// What a core module has to have so that the value is written to it.
+    /// The options without which the value can't be written to a core module.
     pub(crate) fn lowering(&self) -> RequiredOptions {
         if self.lifting.contains(RequiredOptions::MEMORY) {
             self.lifting | RequiredOptions::REALLOC
@@ -97,9 +97,28 @@ impl Shape {
         }
     }
 
-    /// What a core module has to have so that the value is read from it.
+    /// The options without which the value can't be read from a core module.
     pub(crate) fn lifting(&self) -> RequiredOptions {
         self.lifting
+    }
+
+    /// The memory and the encoding that a function with such parameters and results needs where it is lifted.
+    fn passing(params: &Shape, result: &Shape) -> RequiredOptions {
+        let mut options = params.lifting | result.lifting;
+        if params.flat().is_none() || result.count > 1 {
+            options |= RequiredOptions::MEMORY;
+        }
+        options
+    }
+
+    /// The options that a function with such parameters and results needs where it is lifted synchronously: a realloc too,
+    /// where the caller's component puts parameters into memory.
+    pub(crate) fn lifted(params: &Shape, result: &Shape) -> RequiredOptions {
+        let mut options = Shape::passing(params, result);
+        if params.flat().is_none() || params.lifting.contains(RequiredOptions::MEMORY) {
+            options |= RequiredOptions::REALLOC;
+        }
+        options
     }
 
     /// The core type of `task.return` of a function with such parameters and results, and what it needs: what the function
@@ -108,10 +127,7 @@ impl Shape {
         params: &Shape,
         result: &Shape,
     ) -> Result<(FuncType, RequiredOptions), OutOfMemory> {
-        let mut options = params.lifting | result.lifting;
-        if params.flat().is_none() || result.count > 1 {
-            options |= RequiredOptions::MEMORY;
-        }
+        let options = Shape::passing(params, result);
         let passed = result.flat().unwrap_or(&[ValType::I32]);
         let ty = FuncType {
             params: collect(passed.iter().copied())?,
@@ -143,7 +159,7 @@ enum Form {
     Words(usize),
 }
 
-/// What a type is made of.
+/// The parts of a type.
 struct Kind {
     form: Form,
     parts: Vec<Option<Type>>,
@@ -192,7 +208,7 @@ impl Types {
         Ok(all)
     }
 
-    /// The same of a type whose shape is known.
+    /// As the method before, of a type whose shape is known.
     fn known(&self, ty: Option<Type>) -> Result<Shape, Unread> {
         match ty {
             None => Ok(Shape::EMPTY),
@@ -445,6 +461,29 @@ mod tests {
             (shape.lifting(), shape.lowering()),
             (texts, texts | RequiredOptions::REALLOC)
         );
+    }
+
+    /// The options of lifted functions, as the Canonical ABI has them.
+    #[test]
+    fn options_of_lifted_functions() {
+        let of = |types: &[Type]| {
+            let mut shape = Shape::EMPTY;
+            types
+                .iter()
+                .for_each(|ty| shape.append(&Shape::of_plain(*ty)));
+            shape
+        };
+        let lifted =
+            |params: &[Type], result: &[Type]| Shape::lifted(&of(params), &of(result)).bits();
+        assert_eq!(lifted(&[], &[]), 0);
+        assert_eq!(lifted(&[Type::U32; 16], &[Type::U64]), 0);
+        assert_eq!(lifted(&[Type::U32; 17], &[]), 3);
+        assert_eq!(lifted(&[], &[Type::U32, Type::U32]), 1);
+        assert_eq!(lifted(&[Type::String], &[]), 7);
+        assert_eq!(lifted(&[Type::U8], &[Type::String]), 5);
+        let list = of_kinds(&[r#"{"list":"u8"}"#]).expect("a list");
+        assert_eq!(Shape::lifted(&list, &Shape::EMPTY).bits(), 3);
+        assert_eq!(Shape::lifted(&Shape::EMPTY, &list).bits(), 1);
     }
 
     /// Types that are made of others as often as can be, and each of them once.

@@ -11,7 +11,7 @@ use crate::required_options::RequiredOptions;
 use crate::world::{ComponentWorld, Lowering, ValidatedModule};
 use std::fmt::{self, Display, Formatter};
 
-/// What a slot of a shim's table is filled with once there is a memory.
+/// The function that a slot of a shim's table is filled with once there is a memory.
 #[derive(Clone, Copy, Debug, PartialEq, Eq, Hash)]
 #[non_exhaustive]
 pub enum Filler<'a> {
@@ -78,7 +78,7 @@ pub struct Slot<'a> {
     pub import: Option<(&'a str, &'a str)>,
     /// Its core type, where memories have 32 bits.
     pub ty: FuncType,
-    /// What it calls.
+    /// The function that fills it.
     pub filler: Filler<'a>,
 }
 
@@ -173,14 +173,14 @@ impl ComponentWorld {
         Ok(Table::of(first)?)
     }
 
-    /// What stands behind an import of a module in the table: `module` is the name of the adapter, or `None` for the main
+    /// The entry of the table behind an import of a module: `module` is the name of the adapter, or `None` for the main
     /// module. `None` where the import needs no slot.
     #[must_use]
     pub fn filler<'a>(&'a self, module: Option<&'a str>, import: &'a Import) -> Option<Filler<'a>> {
         Some(self.behind(module, import)?.0)
     }
 
-    /// The same, with its core type.
+    /// As the method before, with its core type.
     fn behind<'a>(&'a self, module: Option<&'a str>, import: &'a Import) -> Option<Behind<'a>> {
         match import {
             Import::AdapterExport { adapter, func, ty } => {
@@ -195,7 +195,7 @@ impl ComponentWorld {
         }
     }
 
-    /// The same of a function of the world: the name of its interface, its own, and how it is called.
+    /// The entry of a function of the world: the name of its interface, its own, and how it is called.
     fn lowered<'a>(
         &'a self,
         module: Option<&'a str>,
@@ -215,7 +215,7 @@ impl ComponentWorld {
         Some((filler, Signature::Lowered(sig)))
     }
 
-    /// The same of a built-in.
+    /// The entry of a built-in.
     fn built_in<'a>(&'a self, module: Option<&'a str>, import: &'a Import) -> Option<Behind<'a>> {
         let (signature, options) = self.built_ins.needs(import)?;
         let has_memory = self.info.imports.imported_memory().is_some();
@@ -266,5 +266,5 @@ impl ComponentWorld {
     }
 }
 
-/// What a slot is filled with, and its core type.
+/// The function that a slot is filled with, and its core type.
 type Behind<'a> = (Filler<'a>, Signature<'a>);

@@ -130,7 +130,7 @@ fn other_name(encoder: &ComponentEncoder<'_>, module: &[u8]) -> Result<String, O
 /// a second call all that the first did.
 const MORE: usize = 1 << 22;
 
-/// What the main module of a question, or this adapter or library, imports and exports.
+/// The imports and exports of the main module of a question, or of this adapter or library.
 fn record_of(asked: &Asked<'_>, adapter: Option<Required<'_>>) -> Result<ValidatedModule, Error> {
     let (message, modules) = (asked.message()?, asked.modules()?);
     let room = modules.len() + (8 * modules.len()).min(MORE) + 4096;
@@ -266,7 +266,7 @@ mod tests {
         );
     }
 
-    /// What is no list of functions has no answer, and neither has an adapter that is not there.
+    /// A text that is no list of functions has no answer, and neither has an adapter that is not there.
     #[test]
     fn bad_arguments() {
         let good = exporting(b'f', b"\x60\0\0");

@@ -18,13 +18,13 @@ use crate::read::{Read, Unread, list, map, member, optional_member, set};
 use crate::required_options::RequiredOptions;
 use crate::world_error::world_error;
 
-/// What a core module imports and exports.
+/// The imports and exports of a core module.
 #[derive(Clone, Debug, Default, PartialEq, Eq)]
 #[non_exhaustive]
 pub struct ValidatedModule {
-    /// What it imports.
+    /// Its imports.
     pub imports: ImportMap,
-    /// What it exports.
+    /// Its exports.
     pub exports: ExportMap,
 }
 
@@ -34,7 +34,7 @@ pub struct ValidatedModule {
 pub struct WorldAdapter {
     /// The bytes: of a library its own; of an adapter those that it is trimmed to.
     pub wasm: Vec<u8>,
-    /// What these bytes import and export.
+    /// The imports and exports of these bytes.
     pub info: ValidatedModule,
     /// How it is instantiated, if it is a library.
     pub library_info: Option<LibraryInfo>,
@@ -59,11 +59,11 @@ pub enum Lowering {
     ResourceDrop(TypeId),
 }
 
-/// What core modules import of an interface, or of the functions and types that the world itself imports.
+/// The imports of core modules from an interface, or of the functions and types that the world itself imports.
 #[derive(Clone, Debug, PartialEq, Eq)]
 #[non_exhaustive]
 pub struct ImportedInterface {
-    /// What is imported, by its name and by how it is called.
+    /// The imported functions, by their names and by how they are called.
     pub lowerings: OrderedMap<(String, AbiVariant), Lowering>,
     /// The interface; `None` for the world itself.
     pub interface: Option<InterfaceId>,
@@ -73,7 +73,7 @@ pub struct ImportedInterface {
     pub external_id: Option<String>,
 }
 
-/// What a component encoder has to know of modules before it encodes them.
+/// All that a component encoder has to know of modules before it encodes them.
 #[derive(Clone, Debug, PartialEq, Eq)]
 #[non_exhaustive]
 pub struct ComponentWorld {
@@ -81,7 +81,7 @@ pub struct ComponentWorld {
     pub module: Vec<u8>,
     /// The original names of its renamed imports; `None` where none was renamed.
     pub module_import_map: Option<ModuleImportMap>,
-    /// What the main module imports and exports.
+    /// The imports and exports of the main module.
     pub info: ValidatedModule,
     /// The adapters that are needed, and the libraries, by their names.
     pub adapters: OrderedMap<String, WorldAdapter>,
@@ -96,7 +96,7 @@ pub struct ComponentWorld {
     own_ids: OrderedMap<InterfaceId, usize>,
     /// Of the keys of what modules export, which exports it: 0 for the main module, and then each adapter.
     exporters: OrderedMap<WorldKey, usize>,
-    /// What is known of the built-ins that modules import.
+    /// The built-ins that modules import, with their types and needs.
     pub(crate) built_ins: BuiltIns,
 }
 
@@ -145,7 +145,7 @@ impl ComponentWorld {
         })
     }
 
-    /// What core modules import of the interface that the world imports under a key, and the name of that.
+    /// The imports of core modules from the interface that the world imports under a key, and the name of that.
     #[must_use]
     pub fn imported(&self, key: &WorldKey) -> Option<(&str, &ImportedInterface)> {
         let position = match key {
@@ -229,7 +229,7 @@ fn uses_slot_1(import: &Import) -> bool {
 /// A call of the archive that answers modules and a record.
 type Call = fn(&[u8], &[u8], usize) -> Result<Answered, Error>;
 
-/// What a call makes of an encoder: the world, and what else is read of its record.
+/// The results of a call for an encoder: the world, and what else is read of its record.
 fn made<T>(
     encoder: &ComponentEncoder<'_>,
     call: Call,

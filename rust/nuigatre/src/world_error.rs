@@ -64,7 +64,7 @@ pub enum WorldFault {
     Plan(PlanFault),
 }
 
-/// What is wrong with JSON.
+/// A mistake in JSON.
 #[derive(Clone, Debug, PartialEq, Eq, Hash)]
 #[non_exhaustive]
 pub enum JsonFault {
@@ -86,13 +86,13 @@ pub enum JsonFault {
     Wrong {
         /// The path to it in the JSON of the worlds, as `interfaces[0].functions["f"].kind`; empty for the whole.
         path: String,
-        /// What is wrong with it.
+        /// The mistake in it.
         problem: Problem,
     },
 }
 
 numbered! {
-    /// What is wrong with a JSON value.
+    /// A mistake in a JSON value.
     Problem {
         /// An object has no member of a name that has to be there.
         Missing = 0 "missing",
@@ -121,7 +121,7 @@ numbered! {
 }
 
 numbered! {
-    /// What is not well-formed of worlds, interfaces, types and packages.
+    /// A rule that worlds, interfaces, types or packages break.
     ResolveFault {
         /// An id is not in range: it is no index of its list.
         IdRange = 1,
@@ -249,7 +249,7 @@ pub struct AdapterModuleDidNotExport(pub String);
 /// Why a core module is refused by itself, and where.
 pub type ValidateError = Refused<ValidateFault>;
 
-/// What a message begins with, before the worlds.
+/// The beginning of a message, before the worlds.
 pub(crate) const BEFORE_WORLDS: &str = "{\"resolve\":";
 
 /// The member of a message that the worlds are.

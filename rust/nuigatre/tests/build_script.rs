@@ -108,14 +108,14 @@ fn libraries() {
         "has symbols without the number of its form, as `rt lib` leaves it, or one before 7";
     let none = "is from before its form had a number";
     for (symbols, found) in [
-        (&["nuigatre7_trim", "nuigatre7_abi"][..], None),
-        (&["nuigatre8_abi", "nuigatre7_abi"], None),
+        (&["nuigatre8_trim", "nuigatre8_abi"][..], None),
+        (&["nuigatre9_abi", "nuigatre8_abi"], None),
         (&["nuigatre6_abi"], Some("has form 6")),
         (&["nuigatre263_abi", "nuigatre_abi"], Some("has form 263")),
         (&["nuigatre_abi"], Some(plain)),
         (&["nuigatre99999999999_abi"], Some(plain)),
-        (&["nuigatre7_trim"], Some(none)),
-        (&["nuigatre7_abi2", "7_abi", "nuigatrex7_abi"], Some(none)),
+        (&["nuigatre8_trim"], Some(none)),
+        (&["nuigatre8_abi2", "7_abi", "nuigatrex7_abi"], Some(none)),
         (&[], Some(none)),
     ] {
         script.write("lib/libnuigatre.a", &archive(symbols));
@@ -136,17 +136,17 @@ fn libraries() {
     assert!(said(&ask(), "warning").is_empty());
     script.write(
         "lib/libnuigatre.a",
-        &archive(&["nuigatre7_abi", "nuigatre7_unproved"]),
+        &archive(&["nuigatre8_abi", "nuigatre8_unproved"]),
     );
     assert!(said(&ask(), "warning")[0].contains("without its proof"));
 
     // of several in one folder the one of the form
     let other = script.write("lib/libnuigatre6.a", &archive(&["nuigatre6_abi"]));
-    let own = script.write("lib/libnuigatre7.a", &archive(&["nuigatre7_abi"]));
+    let own = script.write("lib/libnuigatre8.a", &archive(&["nuigatre8_abi"]));
     script.write("lib/libnuigatre.a", &archive(&["nuigatre6_abi"]));
     let lines = ask();
     assert!(said(&lines, "error").is_empty(), "{lines:?}");
-    assert_eq!(said(&lines, "rustc-link-lib"), ["static=nuigatre7"]);
+    assert_eq!(said(&lines, "rustc-link-lib"), ["static=nuigatre8"]);
     for path in [own, other] {
         fs::remove_file(path).expect("a file");
     }
@@ -164,7 +164,7 @@ fn ages(script: &Script) {
     );
     let made = script.write(
         "top/rust/unproved/libnuigatre.a",
-        &archive(&["nuigatre7_abi"]),
+        &archive(&["nuigatre8_abi"]),
     );
     let source = script.write("top/crates/low/src/deep/lib.rt", b"");
     let other = script.write("top/crates/other/src/lib.rt", b"");

@@ -1,6 +1,6 @@
 //! Each call with arguments that are all different, and the answers that no row has.
 
-use nuigatre::{DedupeFault, Error, GcFault, ModuleImportMap, ReadFault, gc};
+use nuigatre::{DedupeFault, Error, GcFault, ItemType, ModuleImportMap, ReadFault, gc, scan};
 use std::borrow::Cow;
 use std::collections::BTreeSet;
 use std::error::Error as _;
@@ -50,6 +50,50 @@ fn chains_to_imports() {
     assert!(gc::why(THREE, ["a"]).expect("an adapter").is_empty());
     let fault = gc::why(IMPORTS, ["b", "x", "y"]).expect_err("x");
     assert_eq!(trim_fault(&fault), &GcFault::MissingExport("x".to_owned()));
+}
+
+/// Imports and exports of each kind; `wasm-objdump -x` lists the same.
+const KINDS: &[u8] = b"\0asm\x01\0\0\0\x01\x07\x01\x60\x02\x7f\x7e\x01\x7d\x02\x26\x04\x03env\x01f\0\0\x03env\x01t\x01\x70\x01\x01\x02\x03env\x01m\x02\0\x03\x03env\x01g\x03\x7e\x01\x03\x02\x01\0\x07\x19\x04\x03run\0\x01\x03mem\x02\0\x03tab\x01\0\x03glo\x03\0\x0a\x05\x01\x03\0\0\x0b\0\x13\x04name\x01\x0c\x02\0\x03log\x01\x04main";
+
+/// What a module imports and exports, how its functions are named, and that there is no module.
+#[test]
+fn scans() {
+    let found = scan(KINDS).expect("a module");
+    let names = found.function_names.iter();
+    assert!(names.eq([(&0, &"log".to_owned()), (&1, &"main".to_owned())]));
+    let imports = found.imports.iter().map(|it| (&*it.module, &*it.name));
+    assert!(imports.eq([("env", "f"), ("env", "t"), ("env", "m"), ("env", "g")]));
+    let exports = found.exports.iter().map(|it| (&*it.name, it.index));
+    assert!(exports.eq([("run", 1), ("mem", 0), ("tab", 0), ("glo", 0)]));
+    let shown = |ty: &ItemType| match ty {
+        ItemType::Func(ty) => format!("{ty}"),
+        ItemType::Table(ty) => format!(
+            "{} {} {} {:?}",
+            ty.element_type, ty.table64, ty.initial, ty.maximum
+        ),
+        ItemType::Memory(ty) => format!(
+            "{} {} {} {:?} {:?}",
+            ty.memory64, ty.shared, ty.initial, ty.maximum, ty.page_size_log2
+        ),
+        ItemType::Global(ty) => format!("{} {}", ty.content_type, ty.mutable),
+    };
+    let [func, table, memory, global] = [
+        "(i32, i64) -> f32",
+        "funcref false 1 Some(2)",
+        "false false 3 None None",
+        "i64 true",
+    ];
+    let imports: Vec<_> = found.imports.iter().map(|it| shown(&it.ty)).collect();
+    assert_eq!(imports, [func, table, memory, global]);
+    let exports: Vec<_> = found.exports.iter().map(|it| shown(&it.ty)).collect();
+    assert_eq!(exports, [func, memory, table, global]);
+    let kinds = found.exports.iter().map(|it| it.ty.kind().to_string());
+    assert!(kinds.eq(["func", "memory", "table", "global"]));
+    let error = scan(&KINDS[..12]).expect_err("its end is missing");
+    assert_eq!(error.to_string(), "Read: Truncated");
+    let place = error.place().expect("a byte").to_string();
+    assert_eq!(place, "byte 12");
+    assert!(matches!(error, Error::Read(it) if *it.fault() == ReadFault::Truncated));
 }
 
 /// Names of any collection of texts.
@@ -143,7 +187,7 @@ fn which_library() {
         return;
     };
     let library = fs::read(Path::new(&folder).join("libnuigatre.a")).expect("the library");
-    let symbol = b"nuigatre7_unproved";
+    let symbol = b"nuigatre8_unproved";
     let is_unproved = library.windows(symbol.len()).any(|at| at == symbol);
     assert_eq!(nuigatre::is_proved(), !is_unproved);
 }

@@ -2,9 +2,9 @@
 
 use nuigatre::{
     AbiVariant, Adapter, AdapterModuleDidNotExport, ComponentEncoder, ComponentWorld, DedupeFault,
-    Error, ExportMap, FuncType, Import, ImportInstance, ImportOptions, InterfaceId, JsonFault,
-    Lowering, MainOrAdapter, ModuleImportMap, OrderedMap, Plan, PlanFault, Problem, ReadFault,
-    RequiredOptions, ResolveFault, ValidateFault, World, WorldFault, WorldKey,
+    Error, Export, ExportMap, FuncType, Import, ImportInstance, ImportOptions, InterfaceId,
+    JsonFault, Lowering, MainOrAdapter, ModuleImportMap, OrderedMap, Plan, PlanFault, Problem,
+    ReadFault, RequiredOptions, ResolveFault, ValidateFault, World, WorldFault, WorldKey,
     validate_adapter_module, validate_module,
 };
 use std::collections::HashSet;
@@ -97,6 +97,30 @@ fn main_module() {
     assert_eq!(world.info.imports.get("my:demo/host", "goodbye"), None);
     assert_eq!(world.info.imports.imported_memory(), None);
     assert_eq!(world.info.exports.memory(), None);
+}
+
+/// A world that exports `run: func(s: string) -> string`.
+const EXPORTING: &str = r#"{
+    "worlds": [{"name": "demo", "imports": {}, "exports": {"run": {"function": {"name": "run", "kind": "freestanding",
+        "params": [{"name": "s", "type": "string"}], "result": "string"}}}, "package": 0}],
+    "interfaces": [],
+    "types": [],
+    "packages": [{"name": "my:demo", "interfaces": {}, "worlds": {"demo": 0}}]
+}"#;
+
+/// Exports `run`, of two i32 and with an i32.
+const RUN: &[u8] = b"\0asm\x01\0\0\0\x01\x07\x01\x60\x02\x7f\x7f\x01\x7f\x03\x02\x01\0\x07\x07\x01\x03run\0\0\x0a\x05\x01\x03\0\0\x0b";
+
+/// The canonical options of an exported function (Canonical ABI, "canon lift"): its string is lowered, and lifted.
+#[test]
+fn options_of_exported_functions() {
+    let encoder = ComponentEncoder::new(EXPORTING, World::Name("demo"), RUN);
+    let world = ComponentWorld::new(&encoder).expect("a world");
+    let options = world.export_options(&encoder).expect("the same worlds");
+    let run = world.info.exports.get("run").expect("an export");
+    let passed = RequiredOptions::MEMORY | RequiredOptions::STRING_ENCODING;
+    assert_eq!(options.get(run), Some(passed | RequiredOptions::REALLOC));
+    assert_eq!(options.get(&Export::Initialize), None);
 }
 
 #[test]

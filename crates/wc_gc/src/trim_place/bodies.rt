@@ -1,62 +1,46 @@
 //! The body at which a search for live items stops.
 
-ghost use Rattle.std.specs.Prelude.{◌≡◌, All, IsTrue, IfOk, MatchOption, true};
+ghost use Rattle.std.specs.Prelude.{◌≡◌, IfOk, MatchOption, true};
 ghost use Rattle.wc_read.specs.BodyOperators.{body_in};
 ghost use Rattle.wc_read.specs.Operators.{instr_values};
-ghost use Rattle.wc_gc.specs.Decoded.{ItemIndex, decoded_module, is_in};
-ghost use Rattle.wc_gc.specs.Entries.{refs_in};
-ghost use Rattle.wc_gc.specs.InRange.{is_code_in_range, is_item_in_range};
-ghost use Rattle.wc_gc.specs.Reached.{IsReachedFrom};
+ghost use Rattle.wc_gc.specs.Decoded.{decoded_module};
+ghost use Rattle.wc_gc.specs.InRange.{is_code_in_range};
 ghost use Rattle.wc_gc.specs.TrimPlace.{IsFirstOutside, IsOperatorPlace, body_at};
-ghost use Rattle.wc_gc.specs.Private.TrimPlace.{HasFound, IsRefusedFrom};
+ghost use Rattle.wc_gc.specs.Private.TrimPlace.{IsBodyRefusal, IsStopRefusal};
 
 use crate::fault::GcFault;
 use crate::live::BitVec;
-use crate::search::Search;
+use crate::search::{Search, Stop};
+use crate::trim_place::{Refusal, TrimPlace};
 use std::alloc::{AllocError, Global};
-use wc_read::{Def, Instr, Module, ReadFault, Space, read_body};
+use wc_read::{Def, Instr, Module, ReadFault, read_body};
+use wc_texts::Refused;
 
-/// A search that has found roots.
-fn search_from(alloc: Global, roots: &[(Space, u32)]) -> Result<Search<BitVec>, AllocError>
-    ensures { IfOk result (HasFound roots.now) }
+/// A refusal for what stopped a search. The body at which it stopped is read again, for its operator.
+pub fn stopped(alloc: Global, adapter: &Module<'_>, stop: Stop) -> Refusal
+    ensures { IsStopRefusal (decoded_module adapter.now) stop result }
 {
-    let mut search = Search::<BitVec>::new(alloc);
-    for root in roots {
-        search.reach(*root)?;
+    match stop {
+        Stop::Memory => Refused::without_place(GcFault::Memory),
+        Stop::Body(function) => refused_body(alloc, adapter, function),
     }
-    Ok(search)
 }
 
-/// A function that roots reach whose body is no code, or names what is not there.
-pub fn refused_function(
-    alloc: Global,
-    adapter: &Module<'_>,
-    roots: &[(Space, u32)],
-) -> Result<Option<u32>, AllocError>
-    requires { All (λ x. IsTrue (is_in (decoded_module adapter.now) x)) roots.now }
-    ensures { IfOk result (λ n. MatchOption n ((x : ItemIndex) →
-        IsReachedFrom (refs_in (decoded_module adapter.now)) roots.now x →
-        is_item_in_range (decoded_module adapter.now) x ≡ true)
-        (IsRefusedFrom (decoded_module adapter.now) roots.now)) }
+/// A refusal for the body of a function.
+fn refused_body(alloc: Global, adapter: &Module<'_>, function: u32) -> Refusal
+    ensures { IsBodyRefusal (decoded_module adapter.now) function result }
 {
-    let mut search = search_from(alloc, roots)?;
-    let mut next: usize = 0;
-    while next < search.order.len() {
-        let item = search.order[next];
-        match search.reach_from(alloc, adapter, item) {
-            Ok(()) => next += 1,
-            Err(fault) => match fault {
-                GcFault::LiveBody => return Ok(Some(item.1)),
-                // An allocation failed.
-                _ => return Err(AllocError),
-            },
-        }
+    match outside_operator(alloc, adapter, function) {
+        Ok(operator) => Refused {
+            fault: GcFault::LiveBody,
+            place: Some(TrimPlace::Body { function, operator }),
+        },
+        Err(_) => Refused::without_place(GcFault::Memory),
     }
-    Ok(None)
 }
 
 /// The first operator of a function that names what is not there.
-pub fn outside_operator(
+fn outside_operator(
     alloc: Global,
     adapter: &Module<'_>,
     function: u32,

@@ -1,6 +1,6 @@
 -- Names of functions and of globals: what the readers of name sections do (7.4.1).
-use Rattle.std.specs.Prelude.{ℕ, List, Some, Bool, true, false, map, ◌≡◌}
-use Rattle.wc_read.specs.Names.{GlobalNameValue, SpellsGlobalName, PairsBeforeFault, global_names_id, function_names_id, AllNamesUnder, global_names_of}
+use Rattle.std.specs.Prelude.{ℕ, List, Some, Bool, true, false, filter, map, ◌≡◌}
+use Rattle.wc_read.specs.Names.{GlobalNameValue, SpellsGlobalName, PairsBeforeFault, global_names_id, function_names_id, AllNamesUnder, global_names_of, is_wanted}
 use Rattle.wc_read.specs.Options.{◌>>=◌}
 use Rattle.wc_read.specs.Formats.{SpellsVector}
 use Rattle.wc_read.specs.Sections.{SectionValue, SpellsFrames}
@@ -38,3 +38,11 @@ AreGlobalNames sections names = AreNamesUnder global_names_id sections names
 -- the names of functions that the sections of a module give, which its bytes spell
 abbrev pub AreFunctionNames : List ℕ → List GlobalNameValue → Type 0
 AreFunctionNames bytes names = (sections : List SectionValue) × SpellsFrames bytes sections × AreNamesUnder function_names_id sections names
+
+-- those of the functions that are wanted, of the names that sections give
+abbrev pub AreNamesAt : List ℕ → List SectionValue → List GlobalNameValue → Type 0
+AreNamesAt wanted sections names = (all : List GlobalNameValue) × AreNamesUnder function_names_id sections all × (names ≡ filter (is_wanted wanted) all)
+
+-- those of the functions that are wanted, of the names that a module gives, which its bytes spell
+abbrev pub AreFunctionNamesAt : List ℕ → List ℕ → List GlobalNameValue → Type 0
+AreFunctionNamesAt bytes wanted names = (all : List GlobalNameValue) × AreFunctionNames bytes all × (names ≡ filter (is_wanted wanted) all)

@@ -1,4 +1,4 @@
-//! Whether variants and enums have cases, and flags labels.
+//! The rule that variants and enums have cases, and flags labels.
 
 ghost use Rattle.std.specs.Prelude.{◌↔◌, IsTrue};
 ghost use Rattle.wc_resolve.specs.Views.{kind_view};

@@ -1,4 +1,4 @@
-//! Whether items, functions, types and interfaces of packages are listed under their own names or keys.
+//! The rule that items, functions, types and interfaces of packages are listed under their own names or keys.
 
 ghost use Rattle.std.specs.Prelude.{◌≡◌, ◌↔◌, All, IsTrue, Option, Some, map, string_bytes};
 ghost use Rattle.std.specs.Option.{option_map};

@@ -1,4 +1,4 @@
-//! Whether resources have names, and interfaces in keys and in packages have a name and a package.
+//! The rule that resources have names, and interfaces in keys and in packages have a name and a package.
 
 ghost use Rattle.std.specs.Prelude.{◌↔◌, All, IsTrue, map, string_bytes};
 ghost use Rattle.std.specs.Option.{IsSome, option_map};

@@ -1,4 +1,4 @@
-//! Whether ids are in range: indices of their lists.
+//! The rule that ids are in range: indices of their lists.
 
 ghost use Rattle.std.specs.Prelude.{◌↔◌, ◌<◌, All, IsTrue, IfOk, map};
 ghost use Rattle.wc_resolve.specs.Views.{function_entry, function_view, interface_entry, interface_view, item_view, key_view, package_view, type_entry, type_view, world_entry, world_view};

@@ -1,4 +1,4 @@
-//! Which types are resources, and whether none occurs by value.
+//! The types that are resources, and the rule that none occurs by value.
 
 ghost use Rattle.std.specs.Prelude.{◌≡◌, ◌↔◌, ◌<◌, ℕ, Contains, IfOk, IsTrue, length, map};
 ghost use Rattle.wc_resolve.specs.Views.{function_view, interface_view, type_view, world_view};

@@ -1,4 +1,4 @@
-//! Whether a world, an interface, a type and a package follow the rule of a fault. The flags say which types are
+//! Tests that a world, an interface, a type or a package follows the rule of a fault. The flags say which types are
 //! resources; only the rule of `ByValueResource` reads them.
 
 ghost use Rattle.std.specs.Prelude.{◌↔◌, IfOk, IsTrue};

@@ -1,4 +1,4 @@
-//! Whether names have only the characters that they can have.
+//! The rule that names have only the characters that they can have.
 
 ghost use Rattle.std.specs.Prelude.{◌↔◌, All, IsTrue, Option, map, string_bytes};
 ghost use Rattle.std.specs.Option.{IfSome, option_map};

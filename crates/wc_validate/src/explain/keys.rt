@@ -1,4 +1,4 @@
-//! What is missing for the keys of an export set.
+//! Exports that are missing for the keys of an export set.
 
 ghost use Rattle.std.specs.Prelude.{◌≡◌, ◌<◌, All, IfErr, IfOk, MatchOption, length, map};
 ghost use Rattle.wc_resolve.specs.Ranges.{IsItemIn};
@@ -89,7 +89,7 @@ fn interface_lack(
     Ok(Some(Subject::MissingFunction { module_name, name }))
 }
 
-/// What is missing for a key.
+/// The export that is missing for a key.
 fn key_lack(
     alloc: Global,
     functions: &FunctionNames,
@@ -115,7 +115,7 @@ fn key_lack(
     }
 }
 
-/// What is missing for the key that is refused.
+/// The place of a refused key: the export that is missing for it.
 fn key_place(
     alloc: Global,
     functions: &FunctionNames,

@@ -1,4 +1,4 @@
-//! What exports of core modules are, by their names and types.
+//! The classification of core modules' exports, by their names and types.
 
 ghost use Rattle.std.specs.Prelude.{◌≡◌, IfOk};
 ghost use Rattle.wc_names.specs.Exports.{IsLifted, callback, callback_export, destructor, export_kinds, function, function_export, post_return, post_return_export};
@@ -21,10 +21,10 @@ use wc_read::{FuncType, MemoryType, ValType};
 use wc_resolve::{AbiVariant, Function, InterfaceId, WorldKey};
 use wc_texts::strip_prefix;
 
-/// What an export is named for: a key, an interface if it is of one, and a function.
+/// The function that an export is named for: its key, its interface if it is of one, and itself.
 type Target<'a> = (&'a WorldKey, Option<InterfaceId>, &'a Function);
 
-/// What the names of exports are looked up in: what those of imports are, and an export set by both schemes.
+/// The scope of the names of exports: that of the names of imports, and an export set by both schemes.
 #[derive(Drop)]
 pub(crate) struct ExportContext<'a> {
     pub(crate) names: Names<'a>,
@@ -32,7 +32,7 @@ pub(crate) struct ExportContext<'a> {
     pub(crate) legacy: ExportNames<'a>,
 }
 
-/// What the names of exports are looked up in by one scheme.
+/// The scope of the names of exports in one scheme.
 #[derive(Clone, Copy)]
 pub(crate) struct ExportLookup<'a> {
     pub(crate) names: &'a Names<'a>,
@@ -165,7 +165,7 @@ fn named_function<N: NameMangling>(
     Ok(Some(function_of(alloc, abi, target)?))
 }
 
-/// What runs after a function has returned, if an export does.
+/// The post-return function of a function, if an export is one.
 fn named_post_return<N: NameMangling>(
     scheme: &N,
     alloc: Global,
@@ -308,7 +308,7 @@ fn table_by<N: NameMangling>(scheme: &N, name: &str) -> Option<Export>
     }
 }
 
-/// What an export is, by a scheme; `None` if its name means nothing.
+/// Classifies an export by a scheme; `None` if its name means nothing.
 fn export_by<N: NameMangling>(
     scheme: &N,
     alloc: Global,
@@ -328,7 +328,7 @@ fn export_by<N: NameMangling>(
     }
 }
 
-/// What an export of a core module is; `None` if its name means nothing.
+/// Classifies an export of a core module; `None` if its name means nothing.
 pub(crate) fn classify_export(
     alloc: Global,
     context: &ExportContext<'_>,

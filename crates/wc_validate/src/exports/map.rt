@@ -16,7 +16,7 @@ use wc_names::Export;
 use wc_read::MemoryType;
 use wc_resolve::{AbiVariant, Function, InterfaceId, TypeId, WorldKey};
 
-/// What an export is looked up as.
+/// A query for an export.
 #[derive(Clone, Copy)]
 pub(crate) enum Query<'a> {
     /// A function under a key, of this name.

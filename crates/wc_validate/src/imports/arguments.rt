@@ -1,4 +1,4 @@
-//! What a library is passed for its imports, by hashed indices.
+//! The arguments that a library is passed for its imports, in hashed maps.
 
 ghost use Rattle.std.specs.Prelude.{◌≡◌, IfOk, map};
 ghost use Rattle.std.specs.Option.{option_map};
@@ -9,21 +9,21 @@ use std::alloc::{AllocError, Global};
 use wc_encoder::{Instance, Item, LibraryInfo, MainOrAdapter};
 use wc_maps::{Map, Seed};
 
-/// What a library is passed under a module's name: all of a module, or items by their aliases.
+/// An argument of a library under a module's name: all of a module, or items by their aliases.
 #[derive(Drop)]
 pub(crate) enum Argument<'a> {
     Whole(&'a MainOrAdapter),
     Items(Map<&'a str, &'a Item>),
 }
 
-/// What a library is passed for one import: all of a module, or an item.
+/// The argument of a library for one import: all of a module, or an item.
 #[derive(Clone, Copy)]
 pub(crate) enum PassedArgument<'a> {
     Whole(&'a MainOrAdapter),
     Item(&'a Item),
 }
 
-/// What a library is passed, by the names of the modules that it imports from.
+/// The arguments of a library, by the names of the modules that it imports from.
 #[derive(Drop)]
 pub(crate) struct Arguments<'a> {
     modules: Map<&'a str, Argument<'a>>,
@@ -59,7 +59,7 @@ fn items_by_alias<'a>(
     Ok(index)
 }
 
-/// What a library is passed by an argument.
+/// Makes an argument of an instance.
 fn argument_of<'a>(
     alloc: Global,
     seed: Seed,
@@ -90,7 +90,7 @@ fn add_argument<'a>(
     Ok(())
 }
 
-/// What a library is passed by its arguments: of each name the first.
+/// Indexes arguments by their names: of each name the first.
 fn arguments_by_module<'a>(
     alloc: Global,
     seed: Seed,
@@ -115,7 +115,7 @@ fn item_called<'a>(items: &Map<&'a str, &'a Item>, alias: &str) -> Option<&'a It
 }
 
 impl<'a> Arguments<'a> {
-    /// What a module is passed; nothing if it is no library.
+    /// Indexes the arguments of a module; none if it is no library.
     pub(crate) fn new(
         alloc: Global,
         seed: Seed,
@@ -134,7 +134,7 @@ impl<'a> Arguments<'a> {
         }
     }
 
-    /// What a library is passed for an import.
+    /// The argument of a library for an import.
     pub(crate) fn passed_argument(
         &self,
         module_name: &str,

@@ -1,4 +1,4 @@
-//! What an import of a core module is: the main module's, an adapter's, or a function by its name.
+//! The classification of core modules' imports: the main module's, an adapter's, or functions by their names.
 
 ghost use Rattle.std.specs.Prelude.{◌≡◌, ◌↔◌, IfOk, IsTrue, codes};
 ghost use Rattle.wc_names.specs.Environment.{environment_module};
@@ -76,7 +76,7 @@ fn adapter_item(
     })
 }
 
-/// What is imported under a name and is no function.
+/// Classifies an import that is no function.
 fn other_item(
     alloc: Global,
     module_name: &str,
@@ -91,7 +91,7 @@ fn other_item(
     Err(NameFault::NotAFunction)
 }
 
-/// What is imported under a name and is a memory.
+/// Classifies an import that is a memory.
 fn memory_item(
     alloc: Global,
     module_name: &str,
@@ -107,7 +107,7 @@ fn memory_item(
     other_item(alloc, module_name, name, ExportKind::Memory)
 }
 
-/// What is imported under a name and is a function.
+/// Classifies an import that is a function.
 fn function_item(
     alloc: Global,
     names: &Names<'_>,
@@ -127,7 +127,7 @@ fn function_item(
     scheme_import(alloc, names, interfaces, function)
 }
 
-/// What an import of a core module is.
+/// Classifies an import of a core module.
 pub(crate) fn classify(
     alloc: Global,
     names: &Names<'_>,

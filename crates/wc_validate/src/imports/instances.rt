@@ -1,4 +1,4 @@
-//! What the imports of a core module are recorded as.
+//! The records of a core module's imports, module by module.
 
 ghost use Rattle.std.specs.Prelude.{◌≡◌, IfErr, IfOk, OnOk, map};
 ghost use Rattle.wc_adapters.specs.Adapters.{which_view};
@@ -12,7 +12,7 @@ use wc_encoder::MainOrAdapter;
 use wc_maps::{Map, Seed};
 use wc_names::Import;
 
-/// What is imported from a module: a module of the component, all of it, or single imports by their names.
+/// The record of the imports from one module: a module of the component, all of it, or single imports by their names.
 #[derive(Drop)]
 pub enum ImportInstance {
     Whole(MainOrAdapter),

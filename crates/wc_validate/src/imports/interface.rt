@@ -20,8 +20,8 @@ use wc_names::{Import, InterfaceNames, NameMangling, PayloadLookupContext};
 use wc_resolve::{InterfaceId, Resolve, WorldItem, WorldKey};
 use wc_texts::strip_prefix;
 
-/// What an interface is looked up among: what a world imports, or what it exports, with an index of the interfaces, if
-/// there is one.
+/// The scope that an interface is looked up in: the imports of a world, or its exports, with an index of the
+/// interfaces, if there is one.
 #[derive(Clone, Copy)]
 pub(crate) struct InterfaceLookup<'a> {
     resolve: &'a Resolve,

@@ -18,7 +18,7 @@ use wc_names::{Import, NameMangling, PayloadLookupContext};
 use wc_read::{FuncType, ValType};
 use wc_resolve::{AbiVariant, Function, TypeId};
 
-/// What is done with a resource.
+/// An operation on a resource.
 #[derive(Clone, Copy)]
 pub(crate) enum ResourceOperation {
     Drop,
@@ -103,7 +103,7 @@ fn has_result(imported: bool, operation: ResourceOperation) -> bool
     }
 }
 
-/// What an operation on the resource of a name is.
+/// The import of an operation on the resource of a name, if there is one.
 fn on_resource(
     alloc: Global,
     context: &PayloadLookupContext<'_>,

@@ -1,9 +1,9 @@
-//! What core modules import.
+//! Imported items of core modules.
 
 use crate::externs::Extern;
 use wc_read::FuncType;
 
-/// What a core module imports: from a module, by a name, with a type.
+/// An item that a core module imports: from a module, by a name, with a type.
 #[derive(Clone, Copy)]
 pub(crate) struct ImportedItem<'a> {
     pub(crate) module_name: &'a str,

@@ -170,7 +170,7 @@ impl ImportMap {
         }
     }
 
-    /// What is recorded of each module, by the modules' names in the order of their first imports.
+    /// The record of each module, by the modules' names in the order of their first imports.
     pub fn modules(&self) -> &Map<String, ImportInstance>
         ensures { map instance_entry result.now.entries ≡ self.now }
     {

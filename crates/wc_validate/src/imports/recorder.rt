@@ -75,7 +75,7 @@ fn note_adapter_type(
     }
 }
 
-/// What is recorded as a single import. What records it is generic over it, and so sees none of its variants.
+/// A single import to be recorded. The recorder is generic over it, and so sees none of its variants.
 pub(crate) trait SingleImport: Drop {
     // The import.
     ghost import: { Self → named_import };

@@ -1,5 +1,5 @@
 -- An adapter, and why its items are live.
-use Rattle.std.specs.Prelude.{◌≡◌, ℕ, Bool, List, Option, length}
+use Rattle.std.specs.Prelude.{◌≡◌, ℕ, List, Option, length}
 use Rattle.std.specs.Io.KnownBytes.{Appends}
 use Rattle.wc_texts.specs.Names.{first_occurrences}
 use Rattle.wc_read.specs.Modules.{ModuleValue, module_value}
@@ -9,8 +9,7 @@ use Rattle.wc_gc.specs.LiveChains.{AreImportChains, AreWhyImports}
 use Rattle.wcwhy_command.specs.Arguments.{CommandView, PatternView}
 use Rattle.wcwhy_command.specs.Graph.{IsGraph, IsImportNode}
 use Rattle.wc_why.specs.Joined.{AreJoined}
-use Rattle.wcwhy_command.specs.Lines.{AreLines, IsLineText}
-use Rattle.wcwhy_command.specs.Program.{HasNoCause, IsReasonsText}
+use Rattle.wcwhy_command.specs.Program.{HasNoCause}
 use Rattle.wcwhy_command.specs.declared.reasons.Found.{Found}
 use Rattle.wcwhy_command.specs.declared.reasons.Reasons.{Reasons}
 
@@ -35,23 +34,14 @@ pub record IsSearched (c : CommandView) (bytes : List ℕ) (f : Found) : Type 0 
 
 -- what is printed of the adapter, and parts of it
 
-abbrev pub AreLinesOf : Reasons → List PatternView → List ℕ → Type 0
-AreLinesOf r patterns text = AreLines (required_in r) (adapter_in r) (names_in r) patterns text
-
-abbrev pub IsLineOf : Reasons → List PatternView → ℕ → List ℕ → Type 0
-IsLineOf r patterns position text = IsLineText (required_in r) (adapter_in r) (names_in r) patterns position text
-
-abbrev pub IsGraphOf : Reasons → List PatternView → List ℕ → Type 0
-IsGraphOf r patterns text = IsGraph (required_in r) (adapter_in r) (names_in r) patterns text
+abbrev pub IsGraphIn : Reasons → List PatternView → List ℕ → Type 0
+IsGraphIn r patterns text = IsGraph (required_in r) (adapter_in r) (names_in r) patterns text
 
 abbrev pub IsNodeOf : Reasons → List PatternView → ℕ → List ℕ → Type 0
 IsNodeOf r patterns position text = IsImportNode r.chains.now (adapter_in r).imports patterns position text
 
 abbrev pub AreImportNodesOf : Reasons → List PatternView → List ℕ → Type 0
 AreImportNodesOf r patterns text = AreJoined (length (adapter_in r).imports) (IsNodeOf r patterns) text
-
-abbrev pub IsTextOfReasons : Reasons → Bool → List PatternView → List ℕ → Type 0
-IsTextOfReasons r dot patterns text = IsReasonsText dot (required_in r) (adapter_in r) (names_in r) patterns text
 
 -- a text that is as `Is` says was put
 abbrev pub PutsSome : (List ℕ → Type 0) → Option (List ℕ) → Option (List ℕ) → Type 0

@@ -1,5 +1,5 @@
 use Rattle.std.proofs.Common.{inl, inr}
-use Rattle.wc_calls.proofs.FaultTextLemmas.{no_dedupe_text, no_trim_text}
+use Rattle.wc_calls.proofs.FaultTextLemmas.{no_dedupe_text, no_read_text, no_trim_text}
 use Rattle.wc_calls.proofs.fault_texts.fault_text.Goals as goal
 
 pub returns-in-0-clause-unknown : goal.returns-in-0-clause-unknown
@@ -10,3 +10,6 @@ returns-in-1-clause-unknown c unknown text = no_trim_text _ _ text (inl c.in-1.i
 
 pub returns-in-2-clause-unknown : goal.returns-in-2-clause-unknown
 returns-in-2-clause-unknown c unknown text = no_trim_text _ _ text (inr c.in-2.is) (c.trim_text-in-2.ensures.unknown unknown text)
+
+pub returns-in-3-clause-unknown : goal.returns-in-3-clause-unknown
+returns-in-3-clause-unknown c unknown text = no_read_text _ _ text c.in-3.is (c.read_text.ensures.unknown unknown text)

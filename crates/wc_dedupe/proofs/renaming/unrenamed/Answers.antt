@@ -6,5 +6,5 @@ use Rattle.wc_dedupe.proofs.renaming.unrenamed.Goals as goal
 
 pub returns : goal.returns
 returns c =
-    rw (c.in_ok-indices.ensures.items_if_clones_equal (λ y h. search rules), c.new.ensures.items)
+    rw (c.in_ok-indices.ensures.items_if_clones_equal (λ y h. search rules), c.new.ensures)
     (unrenamed (names_of c.args.names.now) _ (sym (length-map c.args.names.now named)) c.requires)

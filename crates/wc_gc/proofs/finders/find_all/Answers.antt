@@ -4,7 +4,8 @@ use Rattle.wc_gc.specs.Bits.{bit_of}
 use Rattle.wc_gc.specs.Decoded.{ItemIndex, decoded_module}
 use Rattle.wc_gc.specs.Entries.{refs_in}
 use Rattle.wc_gc.specs.Private.Search.{finds}
-use Rattle.wc_gc.proofs.ReachLemmas.{all_there, bad_at, falls_by, reached_in_range, step_at}
+use Rattle.wc_gc.proofs.ReachLemmas.{all_there, falls_by, reached_in_range, step_at}
+use Rattle.wc_gc.proofs.TrimPlaceLemmas.{refused_at}
 use Rattle.wc_gc.proofs.ItemCountLemmas.{bounded_found, total}
 use Rattle.wc_gc.proofs.FilledLemmas.{resized}
 use Rattle.wc_gc.proofs.FinderSearchLemmas.{all_found, finders_start, finders_step, found_reached}
@@ -63,19 +64,16 @@ returns-clause-in_range c =
     λ _. reached_in_range (decoded_module c.args.adapter.now) c.args.roots.order.items (finds (λ b. bit_of b.words.items) c.loop-next.search) c.loop-next.search.order.items
     c.loop-next.next over c.loop-next.invariant.at
 
-pub returns-in-Err-clause-fault : goal.returns-in-Err-clause-fault
-returns-in-Err-clause-fault c =
+pub returns-in-LiveBody-clause-stop : goal.returns-in-LiveBody-clause-stop
+returns-in-LiveBody-clause-stop c =
     let within : c.loop-next.next < length c.loop-next.search.order.items = search rules in
-    elim c.in-Err.ensures.fault [
-      | inl e ↦ inl e
-      | inr b ↦ inr (
-        b.0,
-        c.index-item.result.now,
-        bad_at (decoded_module c.args.adapter.now) c.args.roots.order.items (finds (λ b. bit_of b.words.items) c.loop-next.search) c.loop-next.search.order.items c.loop-next.next c.loop-next.invariant.at within c.index-item.result.now
-            (sym c.index-item.ensures),
-        b.1,
-      )
-    ]
+    inr (
+      c.index-item.result.now.1,
+      refl,
+      refused_at (decoded_module c.args.adapter.now) c.args.roots.order.items (finds (λ b. bit_of b.words.items) c.loop-next.search) c.loop-next.search.order.items
+          c.loop-next.next c.loop-next.invariant.at within c.index-item.result.now (sym c.index-item.ensures)
+          (elim c.in-Err.ensures.fault [ inl e ↦ absurd (cc (e, c.in-LiveBody.is)) | inr b ↦ b.1 ]),
+    )
 
 pub loop-next-smaller : goal.loop-next-smaller
 loop-next-smaller c =

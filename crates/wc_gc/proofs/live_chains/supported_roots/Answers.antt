@@ -1,6 +1,4 @@
 use Rattle.std.proofs.Common.{◌≡◌, List, ap, subst, sym, ◌∙◌, refl, map, None}
-use Rattle.std.proofs.lemmas.Bool.{false≢true}
-use Rattle.std.proofs.lemmas.Result.{err_from_is_err_and}
 use Rattle.wc_read.specs.Exports.{ExportValue, export_value}
 use Rattle.wc_read.specs.Modules.{module_value}
 use Rattle.wc_gc.specs.Exports.{AreNamed, export_entries, missing_name}
@@ -9,22 +7,24 @@ use Rattle.wc_gc.specs.LiveItems.{names_of}
 use Rattle.wc_gc.specs.Private.TrimPlace.{HasFound}
 use Rattle.wc_gc.specs.Private.Roots.{AreNamedRoots}
 use Rattle.wc_gc.proofs.ExportLemmas.{named_by_name, entries_by_name}
-use Rattle.wc_gc.proofs.LivenessLemmas.{missing_fault}
+use Rattle.wc_gc.proofs.TrimPlaceLemmas.{missing_refusal, none_unsupported, section_refusal}
 use Rattle.wc_gc.proofs.live_chains.supported_roots.Goals as goal
 
 pub check_named-requires : goal.check_named-requires
 check_named-requires c = subst AreNamed (sym c.in_ok-named.ensures) (named_by_name c.deref.result.now)
 
-pub returns-in_err-check_named-clause-fault : goal.returns-in_err-check_named-clause-fault
-returns-in_err-check_named-clause-fault c =
-    let p = err_from_is_err_and c.from_residual-in_err-check_named.result c.from_residual-in_err-check_named.ensures.1 in
+pub returns-in-Err-clause-refusal : goal.returns-in-Err-clause-refusal
+returns-in-Err-clause-refusal c =
     let same = ap export_entries c.in_ok-named.ensures ∙ (entries_by_name c.deref.result.now ∙ ap (map export_value) c.deref.ensures.value) in
-    rw (p.1, p.2) (missing_fault (names_of c.args.required.now.keys) (module_value c.args.adapter.now) _ _ same c.in_err-check_named.ensures.fault)
+    missing_refusal (names_of c.args.required.now.keys) (module_value c.args.adapter.now) _ _ _ same c.in-Err.ensures.fault
+    c.without_place.ensures.fault c.without_place.ensures.place
 
-pub returns-then-has_unsupported-clause-fault : goal.returns-then-has_unsupported-clause-fault
-returns-then-has_unsupported-clause-fault c =
+pub returns-in-Some-clause-refusal : goal.returns-in-Some-clause-refusal
+returns-in-Some-clause-refusal c =
     let same = ap export_entries c.in_ok-named.ensures ∙ (entries_by_name c.deref.result.now ∙ ap (map export_value) c.deref.ensures.value) in
-    (subst (λ (z : List ExportValue). missing_name z (names_of c.args.required.now.keys) ≡ None) same (c.in_ok-check_named.ensures.none refl), c.if-has_unsupported.ensures.0 refl)
+    section_refusal (names_of c.args.required.now.keys) (module_value c.args.adapter.now) c.in-Some.id _
+    (subst (λ (z : List ExportValue). missing_name z (names_of c.args.required.now.keys) ≡ None) same (c.in_default.ensures.none refl))
+    (sym c.first_unsupported.ensures ∙ c.in-Some.is) c.unsupported.ensures.fault c.unsupported.ensures.place
 
 pub find_roots-requires : goal.find_roots-requires
 find_roots-requires c = subst AreNamed (sym c.in_ok-named.ensures) (named_by_name c.deref.result.now)
@@ -43,6 +43,6 @@ pub returns-clause-supported : goal.returns-clause-supported
 returns-clause-supported c =
     let same = ap export_entries c.in_ok-named.ensures ∙ (entries_by_name c.deref.result.now ∙ ap (map export_value) c.deref.ensures.value) in
     λ _. (
-      subst (λ (z : List ExportValue). missing_name z (names_of c.args.required.now.keys) ≡ None) same (c.in_ok-check_named.ensures.none refl),
-      (λ u. absurd (false≢true (c.if-has_unsupported.ensures.1 u))),
+      subst (λ (z : List ExportValue). missing_name z (names_of c.args.required.now.keys) ≡ None) same (c.in_default.ensures.none refl),
+      none_unsupported (module_value c.args.adapter.now) (sym c.first_unsupported.ensures ∙ c.in_default-first_unsupported.is),
     )

@@ -9,15 +9,14 @@ returns-in_err-adapter-clause-fault c =
     let p = err_from_is_err_and c.from_residual.result c.from_residual.ensures.1 in
     rw (p.1, p.2) (read_fault (trim_input c.args.wasm.now c.args.required.now.keys) _ c.in_err-adapter.ensures.refused c.in_err-adapter.ensures.component)
 
-pub returns-in_err-reached-clause-fault : goal.returns-in_err-reached-clause-fault
-returns-in_err-reached-clause-fault c =
-    let p = err_from_is_err_and c.from_residual-in_err-reached.result c.from_residual-in_err-reached.ensures.1 in
-    rw (p.1, p.2) (fault_of (trim_input c.args.wasm.now c.args.required.now.keys) (module_value c.in_ok-adapter.adapter) c.in_ok-adapter.ensures.found _ c.in_err-reached.ensures.fault)
+pub returns-clause-fault : goal.returns-clause-fault
+returns-clause-fault c =
+    fault_of (trim_input c.args.wasm.now c.args.required.now.keys) (module_value c.in_ok-adapter.adapter) c.in_ok-adapter.ensures.found _ c.in-Err.ensures.refusal.0
 
-pub returns-clause-live : goal.returns-clause-live
-returns-clause-live c = (module_value c.in_ok-adapter.adapter, c.in_ok-adapter.ensures.found, c.in_ok-reached.ensures.live)
+pub returns-in-Ok-clause-live : goal.returns-in-Ok-clause-live
+returns-in-Ok-clause-live c = (module_value c.in_ok-adapter.adapter, c.in_ok-adapter.ensures.found, c.in-Ok.ensures.live)
 
-pub returns-clause-no_cause : goal.returns-clause-no_cause
-returns-clause-no_cause c =
+pub returns-in-Ok-clause-no_cause : goal.returns-in-Ok-clause-no_cause
+returns-in-Ok-clause-no_cause c =
     λ ok. no_cause_of (trim_input c.args.wasm.now c.args.required.now.keys) (module_value c.in_ok-adapter.adapter) c.in_ok-adapter.ensures.found
-    c.in_ok-reached.ensures.live.supported c.in_ok-reached.ensures.live.in_range
+    c.in-Ok.ensures.live.supported c.in-Ok.ensures.live.in_range

@@ -1,10 +1,10 @@
 use Rattle.std.proofs.Common.{sym}
+use Rattle.wc_read.proofs.DistinctNamesLemmas.{texts_differ}
 use Rattle.wc_resolve.specs.Views.{world_view}
 use Rattle.wc_names.specs.Contexts.{context_scope}
 use Rattle.wc_names.specs.Places.{named_view}
 use Rattle.wc_names.proofs.PayloadLemmas.{no_number, not_listed}
 use Rattle.wc_names.proofs.KeyLemmas.{function_in_range}
-use Rattle.wc_names.proofs.TextLemmas.{texts_differ}
 use Rattle.wc_names.proofs.payloads.payload_type.Goals as goal
 
 pub returns-in_default : goal.returns-in_default

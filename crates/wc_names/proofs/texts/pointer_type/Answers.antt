@@ -1,4 +1,5 @@
-use Rattle.wc_names.proofs.TextLemmas.{choice_none, texts_differ}
+use Rattle.wc_read.proofs.DistinctNamesLemmas.{texts_differ}
+use Rattle.wc_names.proofs.TextLemmas.{choice_none}
 use Rattle.wc_names.proofs.texts.pointer_type.Goals as goal
 
 pub returns-else-eq-3 : goal.returns-else-eq-3

@@ -1,4 +1,4 @@
-use Rattle.std.proofs.Common.{◌++◌, ◌∙◌, ap}
+use Rattle.std.proofs.Common.{◌++◌, ap}
 use Rattle.wc_write.proofs.DefinedItemLemmas.{init_texts}
 use Rattle.wc_write.proofs.inits.put_init.Goals as goal
 

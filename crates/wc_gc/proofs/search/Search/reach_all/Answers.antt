@@ -2,7 +2,8 @@ use Rattle.std.proofs.Common.{◌<◌, ◌≤◌, length, sym, ◌∙◌, refl, 
 use Rattle.std.proofs.lemmas.List.{get_or_default}
 use Rattle.wc_gc.specs.Decoded.{decoded_module}
 use Rattle.wc_gc.specs.Private.Search.{finds}
-use Rattle.wc_gc.proofs.ReachLemmas.{roots_more, start_at, step_at, reached_at, count_at, reached_in_range, bad_at, all_there, falls_by}
+use Rattle.wc_gc.proofs.ReachLemmas.{roots_more, start_at, step_at, reached_at, count_at, reached_in_range, all_there, falls_by}
+use Rattle.wc_gc.proofs.TrimPlaceLemmas.{refused_at}
 use Rattle.wc_gc.proofs.ItemCountLemmas.{bounded_found, total}
 use Rattle.wc_read.specs.declared.operators.Space.TheVariants.{Types}
 use Rattle.wc_gc.proofs.search.Search.reach_all.Goals as goal
@@ -50,20 +51,17 @@ returns-clause-counted g c =
     count_at (decoded_module c.args.adapter.now) c.args.roots.now
     (finds g.L.LiveSet.has c.loop-next.self) c.loop-next.self.order.items c.loop-next.next over c.loop-next.invariant.0
 
-pub returns-in-Err-clause-fault : goal.returns-in-Err-clause-fault
-returns-in-Err-clause-fault g c =
+pub returns-in-LiveBody-clause-stop : goal.returns-in-LiveBody-clause-stop
+returns-in-LiveBody-clause-stop g c =
     let within : c.loop-next.next < length c.loop-next.self.order.items = search rules in
-    elim c.in-Err.ensures.fault [
-      | inl e ↦ inl e
-      | inr b ↦ inr (
-        b.0,
-        c.index-item.result.now,
-        bad_at (decoded_module c.args.adapter.now) c.args.roots.now
-            (finds g.L.LiveSet.has c.loop-next.self) c.loop-next.self.order.items c.loop-next.next c.loop-next.invariant.0 within c.index-item.result.now
-            (sym c.index-item.ensures),
-        b.1,
-      )
-    ]
+    inr (
+      c.index-item.result.now.1,
+      refl,
+      refused_at (decoded_module c.args.adapter.now) c.args.roots.now
+          (finds g.L.LiveSet.has c.loop-next.self) c.loop-next.self.order.items c.loop-next.next c.loop-next.invariant.0 within
+          c.index-item.result.now (sym c.index-item.ensures)
+          (elim c.in-Err.ensures.fault [ inl e ↦ absurd (cc (e, c.in-LiveBody.is)) | inr b ↦ b.1 ]),
+    )
 
 pub loop-next-smaller : goal.loop-next-smaller
 loop-next-smaller g c =

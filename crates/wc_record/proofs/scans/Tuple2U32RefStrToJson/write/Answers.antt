@@ -1,0 +1,8 @@
+use Rattle.wc_record.proofs.ShapeLemmas.{no_fields, field_then, object_written}
+use Rattle.wc_record.proofs.scans.Tuple2U32RefStrToJson.write.Goals as goal
+
+pub returns : goal.returns
+returns c =
+    object_written _ _ c.in_ok-begin_object.ensures
+    (field_then c.in_ok-put_member.ensures
+    (field_then c.in_ok-put_member-2.ensures no_fields)) c.end_object.ensures

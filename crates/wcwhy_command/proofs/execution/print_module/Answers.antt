@@ -1,0 +1,23 @@
+use Rattle.wc_program.specs.Screen.{Becomes, output_ends}
+use Rattle.std.proofs.Common.{refl}
+use Rattle.wcwhy_command.specs.Arguments.{command_view}
+use Rattle.wcwhy_command.proofs.ExecutionLemmas.{refused_cause, some_source_cause, source_of}
+use Rattle.wcwhy_command.proofs.execution.print_module.Goals as goal
+
+pub print_followed-requires : goal.print_followed-requires
+print_followed-requires g c = c.in-Ok.ensures.source.has_paths
+
+pub returns-in-Ok-clause-done : goal.returns-in-Ok-clause-done
+returns-in-Ok-clause-done g c =
+    let out = Becomes (output_ends g.O.Sink.written g.O.Output.sent g.O.Sink.is_failed) c.args.out.now c.print_followed.new.out in
+    source_of (command_view c.args.command.now) c.args.bytes.now c.in-Ok.followed c.in-Ok.ensures.source out c.print_followed.result c.print_followed.ensures.done
+
+pub returns-in-Ok-clause-fault : goal.returns-in-Ok-clause-fault
+returns-in-Ok-clause-fault g c =
+    let out = Becomes (output_ends g.O.Sink.written g.O.Output.sent g.O.Sink.is_failed) c.args.out.now c.print_followed.new.out in
+    some_source_cause (command_view c.args.command.now) c.args.bytes.now c.in-Ok.followed c.in-Ok.ensures.source out c.print_followed.result c.print_followed.ensures.fault
+
+pub returns-in-Err-clause-fault : goal.returns-in-Err-clause-fault
+returns-in-Err-clause-fault g c =
+    let out = Becomes (output_ends g.O.Sink.written g.O.Output.sent g.O.Sink.is_failed) c.args.out.now c.args.out.now in
+    rw c.from.ensures (refused_cause (command_view c.args.command.now) c.args.bytes.now out c.in-Err.refusal.fault c.in-Err.refusal.place refl c.in-Err.ensures.refused)
