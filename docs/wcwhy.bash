@@ -4,7 +4,7 @@ _wcwhy() {
     case ${COMP_WORDS[COMP_CWORD - 1]} in
         --import) what=(-W '') ;;
     esac
-    [[ $word != -* ]] || what=(-W '--import --dot --help --version')
+    [[ $word != -* ]] || what=(-W '--import --dot --json --help --version')
     mapfile -t COMPREPLY < <(compgen "${what[@]}" -- "$word")
 }
 complete -o filenames -F _wcwhy wcwhy
