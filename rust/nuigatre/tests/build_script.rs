@@ -75,7 +75,7 @@ fn archive(symbols: &[&str]) -> Vec<u8> {
 }
 
 /// The number of the form that the crate knows.
-const FORM: &str = "7";
+const FORM: &str = "8";
 
 #[test]
 fn libraries() {
