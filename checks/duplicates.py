@@ -65,6 +65,7 @@ ALIKE = [
      "refusals of six types: of worlds, of a module, of a trim, of a component's world, of a plan, of a command"),
     ("wc_validate::IsRefusedAt wc_world::IsRefusedAt", "a refusal of a module, and one of a world"),
     ("wc_json::innermost wc_json::first_path wc_options::first", "the first of a list: of what is open, of paths, of values"),
+    ("wc_dedupe::Texts wc_ways::Key", "two texts: names of an import, each private to what sorts or finds by them"),
     ("wc_dedupe::new_name wc_dedupe::import_name", "the name of a rename and that of an import: records of two types"),
     ("wc_read::func_value wc_read::global_value", "one for each kind of item, at its types"),
     ("wc_read::table_value wc_read::memory_value", "one for each kind of item, at its types"),
@@ -74,12 +75,12 @@ ALIKE = [
     ("wc_calls::dedupe_is_memory wc_calls::gc_is_memory wc_calls::validate_is_memory", "one for each kind of faults"),
     ("wc_validate::first_some wcplan_command::first_interface", "the first that is there: of types in the one, of interfaces in the other"),
     ("wc_record::space_text wc_why::space_name", "the names of spaces: in JSON in the one, in lines in the other"),
-    ("wc_selection::has_any wcwhy_command::are_asked", "whether any of a list has something: of keys in the one, of imports in the other"),
-    ("wc_selection::text_of wc_options::text_of wcwhy_command::text_of wc_why::text_of", "the bytes of a text, in crates that don't cite each other"),
+    ("wc_selection::has_any wc_import_paths::are_asked", "whether any of a list has something: of keys in the one, of imports in the other"),
+    ("wc_selection::text_of wc_options::text_of wc_why::text_of", "the bytes of a text, in crates that don't cite each other"),
     ("wcwhy_command::finish wcplan_command::finish", "what is read is made a command, each over its own `finish_with`"),
     ("wc_validate::core_import wc_validate::imported_function", "records of two types: of any import, of a function's"),
     ("wc_resolve::item_function wc_names::as_function", "an item that is a function: in a function's place in the one, under a name in the other"),
-    ("wcwhy_command::is_alike wcplan_command::is_alike", "each over the `unversioned_text` that it has: its own in the one, that of wc_selection in the other"),
+    ("wcwhy_command::is_alike wcplan_command::is_alike", "each over the `unversioned_text` that it has: that of wc_import_paths in the one, that of wc_selection in the other"),
     ("wc_encoder::IsExported wc_selection::IsKeyOf", "a key of some entries: of a world's exports in the one, of its imports too in the other"),
 ]
 

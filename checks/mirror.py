@@ -34,12 +34,12 @@ REASONS = {
     "what all parts of imports answer, and the kinds of these, are in `Functions` and `Kinds`":
         "wc_validate/imports/environment wc_validate/imports/root wc_validate/imports/scheme",
     "the stages of the program are in `Program`, in their order, what private functions answer in `Private/Runs`":
-        "wcplan_command/documents wcplan_command/explained wcplan_command/inputs wcplan_command/outputs",
+        "wcplan_command/documents wcplan_command/explained wcplan_command/outputs",
     "what arguments say, and so what they give, is in `Reading`": "wc_options/given wcwhy_command/arguments wcplan_command/arguments",
     "named after what it defines: the parts of an encoder, arguments, texts of faults, what was put, what is found, lists of renames":
         "wc_encoder/encoder nuigatre/lib wc_texts/fault_text wc_texts/pieces wc_dedupe/rename_list",
-    "what is printed of a module that is followed is in `Lines`, and which that is in `Private/Followed`":
-        "wcwhy_command/import_paths wcwhy_command/json_paths",
+    "the path to an import is in `JsonPaths`, and of which module in `Followed`":
+        "wc_import_paths/import_paths",
 }
 
 

@@ -267,7 +267,7 @@ class Plan(Checked):
     def check_plan(self):
         """A plan that is made: its lines, its record, and the files that are written."""
         words = self.words
-        for each in (words, [*words[3:], "--", *words[:3]],
+        for each in (words, [*words[3:], "--", *words[:3]], [*self.plain, *self.adapter],
                      ["--adapt=old-notes=adapter.wasm", *words[:3], "--adapter-export=old-notes=is-ready"]):
             self.check(each, 0, PLAN, "")
         status, printed, said = self.run([*words, "--json"])
@@ -349,7 +349,8 @@ class Plan(Checked):
             (*plain, *adapter, "--export", "nothing"): "no export `nothing`; exports: `print` `is-ready`",
             (*plain, *adapter, "--export", "is-ready", *exported): "export `is-ready` twice",
             ("notes.json", "app", "text", *words[3:]): "Main module: Read: NotWasm\n  byte 0",
-            (*plain, *adapter): 'World: Main: MissingWorldExport\n  missing export "is-ready"',
+            (*plain, "--adapt", "old-notes=main.wasm"): "no module exports all functions of `is-ready`\n"
+                                                         '  main lacks "is-ready"\n  adapter "old-notes" lacks "is-ready"',
             tuple(plain): 'World: Main: UnknownInterface\n  import "old-notes" "length_of"\n'
                           "  no adapter is given: `--adapt NAME=FILE` gives one",
         }.items():

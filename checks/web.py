@@ -12,11 +12,14 @@ Its parts, each of which is a line:
     node        the calls of JavaScript (web/test): needs node, 20 or newer, and web/nuigatre.wasm
     wctrim      the bytes of web/nuigatre.wasm are those of the program that --wctrim names, for the adapters of examples
     python      the calls of Python (python/tests): needs pytest, and the library that tools/targets.py makes
-    chromium    the page, used as a person would (web/test/driver.mjs), at 320, 880 and 2000 pixels, and N damaged files
+    package     `npm pack` makes a package of web/, and the files in it run: needs npm
+    one file    the page as one file (web/one-file.py), opened from a disk in chromium and firefox-esr
+    chromium    the page, used as a person would (web/test/driver.mjs): light and dark at 320, 1000 and 2000 pixels, and N
+                damaged files
     firefox     the same in firefox-esr
 
-What is not there is said, and is no fault, unless --only names the part. With --quick the first five are run. With --pictures a picture of each width goes to the
-folder. The status is 1 where something is not as wanted.
+What is not there is said, and is no fault, unless --only names the part. With --quick the first five are run. With
+--pictures a picture of each width, light and dark, goes to the folder. The status is 1 where something is not as wanted.
 """
 import argparse
 import http.server
@@ -30,12 +33,20 @@ import sys
 import tempfile
 import threading
 
+import browsers
+
 sys.path.append(str(pathlib.Path(__file__).resolve().parent.parent / "tools"))
 from repository import TOP
 
 WEB = TOP / "web"
-WIDTHS = 320, 880, 2000
+WIDTHS = 320, 1000, 2000
+SCHEMES = "light", "dark"
 SECONDS = 3600
+# how a browser is asked for dark colours
+DARK = "--blink-settings=preferredColorScheme=%d"
+SCHEME_OF_FIREFOX = 'user_pref("ui.systemUsesDarkTheme", %d);\n'
+# what the pages that are no page's own address may name
+ADDRESSES = "http://www.w3.org/2000/svg", "http://localhost:8000/web/"
 
 
 class Wrong(Exception):
@@ -69,19 +80,21 @@ def files(_):
     """The page's policy, and the addresses in its files."""
     sources = {path.name: path.read_text(encoding="utf-8") for path in sorted(WEB.iterdir()) if path.suffix in (".mjs", ".html", ".css")}
     for name, text in sources.items():
-        for address in re.findall(r"\b(?:https?|wss?)://[^\s\"'`)]*", text):
-            if address != "http://www.w3.org/2000/svg":
+        for address in re.findall(r"\b(?:https?|wss?)://[^\s\"'`)<]*", text):
+            if address not in ADDRESSES:
                 raise Wrong(f"web/{name} names {address}")
         for other in re.findall(r'(?:from|src=|href=|new URL\()\s*"(\./)?([\w.-]+\.(?:mjs|css|wasm))"', text):
             if not (WEB / other[1]).exists():
                 raise Wrong(f"web/{name} names {other[1]}, which is not there")
     policy = re.search(r'Content-Security-Policy" content="([^"]*)"', sources["index.html"])[1]
-    for part in "default-src 'none'", "connect-src 'self'", "script-src 'self'":
+    for part in "default-src 'none'", "connect-src 'self'", "script-src 'self' 'wasm-unsafe-eval'":
         if part not in policy:
             raise Wrong(f"the page's policy lacks {part}")
     for path in sorted((WEB / "example").iterdir()):
         if path.read_bytes() != (TOP / "examples" / "wcplan" / path.name).read_bytes():
             raise Wrong(f"web/example/{path.name} is not that of examples/wcplan")
+    if (WEB / "wasi-command.json").read_bytes() != (TOP / "examples" / "wasi" / "wasi-command.json").read_bytes():
+        raise Wrong("web/wasi-command.json is not that of examples/wasi")
     return f"{len(sources)} files name no other address"
 
 
@@ -130,6 +143,49 @@ def python(_):
     return said.strip().splitlines()[-1]
 
 
+def package(_):
+    """What npm packs is complete: its command runs of that alone."""
+    program = need("npm")
+    with tempfile.TemporaryDirectory() as folder:
+        run([program, "pack", "--silent", "--pack-destination", folder, WEB])
+        [made] = pathlib.Path(folder).glob("*.tgz")
+        run(["tar", "xf", made, "-C", folder])
+        lacking = [it for it in ("LICENSE", "README.md", "nuigatre.d.mts") if not (pathlib.Path(folder) / "package" / it).is_file()]
+        if lacking:
+            raise Wrong("the package lacks " + ", ".join(lacking))
+        said = run([need("node"), pathlib.Path(folder) / "package" / "why.mjs", *sorted((TOP / "web" / "example").iterdir())])
+        if "my:notes/store@1.2.0: 4 of 4 functions" not in said:
+            raise Wrong(said)
+        return f"{made.name} has {made.stat().st_size} bytes"
+
+
+def one_file(_):
+    """The page as one file, opened from a disk."""
+    there = [it for it in (browsers.Chromium, browsers.Firefox) if browsers.program_of(it)]
+    if not there:
+        raise Missing("there is neither chromium nor firefox")
+    said = []
+    for kind in there:
+        with tempfile.TemporaryDirectory(ignore_cleanup_errors=True) as folder:
+            page = os.path.join(folder, "nuigatre.html")
+            run([WEB / "one-file.py", page])
+            profile = os.path.join(folder, "profile")
+            os.mkdir(profile)
+            browser = kind(browsers.program_of(kind), profile)
+            try:
+                browser.open(f"file://{page}?example&seconds={SECONDS}")
+                browsers.waited(browser, '(document.querySelector("#numbers")?.textContent.length ?? 0) > 0')
+                numbers, faults = (browser.ask('document.querySelector("#%s").textContent' % it) for it in ("numbers", "faults"))
+            except browsers.Failed as why:
+                raise Wrong(f"{kind.name}: {why}") from why
+            finally:
+                browser.close()
+        if faults or "512 bytes → 317 bytes" not in numbers:
+            raise Wrong(f"{kind.name}: {numbers} {faults}")
+        said.append(kind.name)
+    return "opened from a disk in " + " and ".join(said)
+
+
 class Page:
     """Serves the page with the driver in it, and takes what that has seen. A script that arrives at the end keeps the page
     loading until then, since a browser takes its picture once all is loaded."""
@@ -149,6 +205,8 @@ class Page:
             def answer(self, body, kind):
                 self.send_response(200)
                 self.send_header("content-type", kind)
+                # so that nothing but the page's policy refuses it
+                self.send_header("access-control-allow-origin", "*")
                 self.end_headers()
                 self.wfile.write(body)
 
@@ -164,12 +222,16 @@ class Page:
                     self.answer(b"", "text/javascript")
                 elif head == "/frame":
                     width = int(re.search(r"width=(\d+)", query)[1])
-                    text = '<!doctype html><style>body{margin:0}iframe{border:0;display:block}</style>'
+                    text = '<!doctype html><style>:root{color-scheme:light dark}body{margin:0}iframe{border:0;display:block}</style>'
                     text += f'<iframe src="/?{query}" width="{width}" height="{height_of(width)}"></iframe><script async src="/hold.mjs"></script>'
                     self.answer(text.encode(), "text/html")
                 elif head == "/":
                     driver = '<script type="module" src="test/driver.mjs"></script></html>'
                     self.answer((WEB / "index.html").read_text(encoding="utf-8").replace("</html>", driver).encode(), "text/html")
+                elif head == "/elsewhere":
+                    self.answer(b"", "text/plain")
+                elif re.fullmatch(r"/examples/[\w/]+\.wasm", head):
+                    self.answer((TOP / head[1:]).read_bytes(), "application/wasm")
                 else:
                     super().do_GET()
 
@@ -177,7 +239,8 @@ class Page:
         threading.Thread(target=self.server.serve_forever, daemon=True).start()
 
     def address(self, query):
-        return f"http://127.0.0.1:{self.server.server_port}/frame?{query}"
+        port = self.server.server_port
+        return f"http://127.0.0.1:{port}/frame?{query}&seconds={SECONDS}&elsewhere=http://localhost:{port}/elsewhere"
 
 
 def height_of(width):
@@ -209,37 +272,41 @@ def opened(words, page):
 
 
 def browser(words_of, arguments):
-    """The page at each width; at the middle one all is used, and damaged files are tried."""
-    said, runs = [], [("look", width) for width in WIDTHS] + [("all", 880)]
-    for what, width in runs:
+    """The page at each width, light and dark; at the middle one all is used, and damaged files are tried."""
+    said, runs = [], [("look", width, scheme) for scheme in SCHEMES for width in WIDTHS] + [("all", WIDTHS[1], "light")]
+    for what, width, scheme in runs:
         picture = None
         if arguments.pictures and what == "look":
             os.makedirs(arguments.pictures, exist_ok=True)
-            picture = os.path.join(os.path.abspath(arguments.pictures), words_of.__name__.replace("_words", "-%d.png" % width))
+            picture = os.path.join(os.path.abspath(arguments.pictures), words_of.__name__.replace("_words", f"-{width}-{scheme}.png"))
         page = Page()
         with tempfile.TemporaryDirectory(ignore_cleanup_errors=True) as folder:
-            results = opened(words_of(folder, page.address(f"width={width}&fuzz={arguments.fuzz}&{what}"), width, picture), page)
+            address = page.address(f"width={width}&fuzz={arguments.fuzz}&{what}&{scheme}")
+            results = opened(words_of(folder, address, width, picture, scheme), page)
         said += [it["what"] for it in results if "slowest" in it["what"]]
-        said.append(f"{what} at {width} pixels: {len(results)} as wanted")
+        said.append(f"{what} at {width} pixels, {scheme}: {len(results)} as wanted")
     return "; ".join(said)
 
 
-def chromium_words(folder, address, width, picture):
-    words = [need("chromium", "chromium-browser", "google-chrome"), "--headless", "--no-sandbox", "--disable-gpu", "--hide-scrollbars"]
-    words += ["--user-data-dir=" + folder, f"--window-size={max(width, 500)},{height_of(width)}"]
+def chromium_words(folder, address, width, picture, scheme):
+    words = [need(*browsers.Chromium.programs), "--headless", "--no-sandbox", "--disable-gpu", "--hide-scrollbars"]
+    words += ["--user-data-dir=" + folder, f"--window-size={max(width, 500)},{height_of(width)}", DARK % SCHEMES[::-1].index(scheme)]
     # without a picture or a dump it would stay open; it is ended from here
     words += ["--screenshot=" + picture] if picture else ["--remote-debugging-port=0"]
     return [*words, address]
 
 
-def firefox_words(folder, address, width, picture):
-    words = [need("firefox-esr", "firefox"), "--headless", "--no-remote", "--profile", folder]
+def firefox_words(folder, address, width, picture, scheme):
+    with open(os.path.join(folder, "user.js"), "w", encoding="utf-8") as file:
+        file.write(SCHEME_OF_FIREFOX % SCHEMES.index(scheme))
+    words = [need(*browsers.Firefox.programs), "--headless", "--no-remote", "--profile", folder]
     words += [f"--window-size={max(width, 500)},{height_of(width)}"]
     return [*words, *(["--screenshot", picture] if picture else []), address]
 
 
 PARTS = {
     "calls": calls, "files": files, "module": module, "heap": heap, "node": node, "wctrim": wctrim, "python": python,
+    "package": package, "one file": one_file,
     "chromium": lambda arguments: browser(chromium_words, arguments), "firefox": lambda arguments: browser(firefox_words, arguments),
 }
 

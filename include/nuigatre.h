@@ -1,7 +1,7 @@
 /* The calls of libnuigatre.a, for C99 and C++11 on: core WebAssembly modules made ready to be parts of a component.
  *
  * Link libnuigatre.a, and nuigatre_heap.c beside this file or another definition of the three functions at the end.
- * The library is for 64-bit Linux on x86. It needs nothing else but memcpy, memmove, memset and memcmp.
+ * The library is for 64-bit Linux on x86 and on Arm. It needs nothing else but memcpy, memmove, memset and memcmp.
  *
  * Slices. A slice is passed as a pointer and then a length: of bytes, or of slices. One that is read and one that is
  * written must not overlap. The library keeps no pointer after a call, and writes to nothing but `out`.
@@ -20,8 +20,8 @@
  * Threads. Calls may run on several threads at once, if the three functions at the end may. No call waits, and none
  * reads or sets anything of its thread or its process. A signal handler must not make one.
  *
- * Stack. nuigatre_dedupe, nuigatre_trim and nuigatre_why need the smallest stack that a thread can have, 16 KB. The
- * other calls need 256 KB. No input was found that needs more.
+ * Stack. nuigatre_dedupe, nuigatre_trim, nuigatre_why and nuigatre_scan need a stack of 32 KB, and the other calls one of
+ * 256 KB: that is more than twice what any of them was measured to take (docs/RUST.md). No input was found that needs more.
  *
  * Seed. `seed0` and `seed1` are the seed of the maps that a call makes. No answer depends on them. Whoever chooses the
  * names in a module and knows the seed can make a call slow, so let them be random, as by getrandom, if modules come
@@ -39,22 +39,23 @@ extern "C" {
 #endif
 
 /* The number that nuigatre_abi returns, if the library is of this header's form of calls, messages and answers. */
-#define NUIGATRE_ABI 8
+#define NUIGATRE_ABI 9
 
 /* The library's symbols have that number, so that two forms can be parts of one program. A library as `rt lib` makes it,
  * before rust/symbols.py, has the names alone: then define NUIGATRE_PLAIN_SYMBOLS. */
 #ifndef NUIGATRE_PLAIN_SYMBOLS
-#define nuigatre_dedupe nuigatre8_dedupe
-#define nuigatre_trim nuigatre8_trim
-#define nuigatre_why nuigatre8_why
-#define nuigatre_world nuigatre8_world
-#define nuigatre_plan nuigatre8_plan
-#define nuigatre_planned_world nuigatre8_planned_world
-#define nuigatre_validate nuigatre8_validate
-#define nuigatre_validated_module nuigatre8_validated_module
-#define nuigatre_scan nuigatre8_scan
-#define nuigatre_fault_text nuigatre8_fault_text
-#define nuigatre_abi nuigatre8_abi
+#define nuigatre_dedupe nuigatre9_dedupe
+#define nuigatre_trim nuigatre9_trim
+#define nuigatre_why nuigatre9_why
+#define nuigatre_world nuigatre9_world
+#define nuigatre_plan nuigatre9_plan
+#define nuigatre_planned_world nuigatre9_planned_world
+#define nuigatre_validate nuigatre9_validate
+#define nuigatre_validated_module nuigatre9_validated_module
+#define nuigatre_scan nuigatre9_scan
+#define nuigatre_paths nuigatre9_paths
+#define nuigatre_fault_text nuigatre9_fault_text
+#define nuigatre_abi nuigatre9_abi
 #endif
 
 /* Bytes that are read. */
@@ -74,8 +75,8 @@ typedef struct nuigatre_answer {
     size_t length;
     /* How many of the answer's bytes are modules. They are the first ones. */
     size_t module_length;
-    /* With NUIGATRE_FAULT: of nuigatre_trim and nuigatre_why, where an export is missing, the position of its name in
-     * `required`; of calls on a message how many bytes the fault's text has. Else 0. */
+    /* With NUIGATRE_FAULT: of nuigatre_trim, nuigatre_why and nuigatre_paths, where an export is missing, the position of
+     * its name among those that are passed; of calls on a message how many bytes the fault's text has. Else 0. */
     size_t position;
 } nuigatre_answer;
 
@@ -101,7 +102,8 @@ enum nuigatre_call {
     NUIGATRE_DEDUPE_CALL = 0,
     NUIGATRE_TRIM_CALL = 1,
     NUIGATRE_WHY_CALL = 2,
-    NUIGATRE_SCAN_CALL = 3
+    NUIGATRE_SCAN_CALL = 3,
+    NUIGATRE_PATHS_CALL = 4
 };
 
 /* Renames imports so that no two share a module and a name: the first keeps its name, and each that is there again
@@ -202,6 +204,24 @@ nuigatre_answer nuigatre_validated_module(uint64_t seed0, uint64_t seed1, const 
  * right.
  * NUIGATRE_TOO_SMALL, NUIGATRE_MEMORY. */
 nuigatre_answer nuigatre_scan(const uint8_t *wasm, size_t wasm_length, uint8_t *out, size_t out_length);
+
+/* Answers why a module imports something: the paths to its imports, of main modules too. Paths begin at its exports of the
+ * names `exports`, or at all, where there are none, and at its start function; only where none of these leads to an import,
+ * at its active segments. Each text of `imports` asks for imports: `MODULE` for those of a module, with its version or
+ * without, and `MODULE=NAME` for those of them that have this name; MODULE ends at the first `=`. Without texts all are
+ * asked for.
+ *
+ * NUIGATRE_DONE: `out` has a line of JSON, as `wcwhy --json` prints it: an object whose member `ways` lists the paths, in
+ * the order of the imports. Each has the import's module as `interface`, its `name`, and its `steps`: where it begins, and
+ * then items, functions with their names. It is the shortest, and of several the first. An import to which no path leads is
+ * left out, and so is what the module does not import.
+ * NUIGATRE_BAD_ARGUMENT: a name, or a text of `imports`, is not UTF-8.
+ * NUIGATRE_FAULT: a fault of nuigatre_gc_fault: NUIGATRE_GC_READ, NUIGATRE_GC_MISSING_EXPORT or NUIGATRE_GC_LIVE_BODY. `out`
+ * has a JSON object that says what it is about, or `length` is 0.
+ * NUIGATRE_TOO_SMALL, NUIGATRE_MEMORY. */
+nuigatre_answer nuigatre_paths(uint64_t seed0, uint64_t seed1, const uint8_t *wasm, size_t wasm_length,
+                               const nuigatre_slice *exports, size_t exports_length, const nuigatre_slice *imports,
+                               size_t imports_length, uint8_t *out, size_t out_length);
 
 /* Gives the text of a fault of a call on bytes, by the number that it answers: `call` is one of nuigatre_call. The text of a
  * fault that is carried is there too, as in `Read: NotWasm`; the name of a missing export is not.

@@ -1,5 +1,5 @@
 #!/usr/bin/env python3
-"""Gives the symbols of a static library of crates/nuigatre the number of its form, as `nuigatre8_trim` for `nuigatre_trim`.
+"""Gives the symbols of a static library of crates/nuigatre the number of its form, as `nuigatre9_trim` for `nuigatre_trim`.
 
     rust/symbols.py ARCHIVE
 
@@ -36,12 +36,13 @@ def functions():
     return re.findall(FUNCTION, read("crates", "nuigatre", "src", "lib.rt"))
 
 
-def number(archive):
-    """Gives the symbols of an archive the number, where they have none."""
-    need("objcopy binutils")
+def number(archive, objcopy="objcopy"):
+    """Gives the symbols of an archive the number, where they have none; with the objcopy for its processor."""
+    need("%s binutils" % objcopy)
     renamed = ["--redefine-sym=%s=%s" % (name, numbered(name)) for name in functions()]
-    subprocess.run(["objcopy", *renamed, archive, archive + ".new"], check=True)
-    os.replace(archive + ".new", archive)
+    new = str(archive) + ".new"
+    subprocess.run([objcopy, "--enable-deterministic-archives", *renamed, archive, new], check=True)
+    os.replace(new, archive)
 
 
 def main():

@@ -6,7 +6,8 @@
 TARGET is x86_64 or aarch64; without one it is both. FOLDER/TARGET has libnuigatre.a, libnuigatre.so and nuigatre.pc then;
 it is crates/nuigatre/out unless it is said. The library is proved over what `rt ci` proved of the crates below (in
 crates/*/out/rlib, or in the folder of --over), once for each target, and compiled for it. With --unproved it is compiled of
-the sources without their proof. With --archive FILE it is an archive that is there, of the one TARGET that is given.
+the sources without their proof. With --archive FILE it is an archive that is there, of the one TARGET that is given. The
+symbols of what is made have the number of their form (rust/symbols.py).
 
 The shared library has include/nuigatre_heap.c in it, and exports the functions of include/nuigatre.h alone. It is made by
 cc, or by aarch64-linux-gnu-gcc; what is made for another processor runs in qemu. examples/c/trim.c, linked with the archive
@@ -26,6 +27,7 @@ import sys
 HERE = os.path.dirname(os.path.abspath(__file__))
 sys.path[:0] = [HERE, os.path.join(os.path.dirname(HERE), "rust")]
 import pkgconfig
+import symbols
 import unproved
 from repository import TOP, crates_below, kit_command, kit_folder, need, rlib_of
 
@@ -38,6 +40,11 @@ TARGETS = {
                 "aarch64-linux-gnu-gcc", ["qemu-aarch64", "-L", "/usr/aarch64-linux-gnu"], "gcc-aarch64-linux-gnu"),
 }
 OF_X86 = re.compile(r' "(?:probe-stack|target-cpu|target-features|tune-cpu)"="[^"]*"')
+
+
+def tool(target, name):
+    """The program of the target's binutils that has this name there."""
+    return TARGETS[target][2].removesuffix("gcc").removesuffix("cc") + name
 
 
 def includes(archive):
@@ -60,6 +67,7 @@ def prove(target, archive, folder_of, jobs):
     flags = ["--jobs", str(jobs), "--toolchain", os.path.join(kit_folder(), "toolchain"), "--backend", "llvm"]
     flags += ["--target", TARGETS[target][0], "-o", archive]
     said = run(kit_command("build", CRATE, flags, TOP, folder_of), cwd=TOP / "crates" / CRATE)
+    symbols.number(archive, tool(target, "objcopy"))
     return re.search(r"^logic=proved .*", said, re.M)[0]
 
 

@@ -1,43 +1,80 @@
-// What the page shows of a component, of what the library answers. What a module imports and exports the engine lists
-// (WebAssembly.Module); all else is the library's.
-import { BadArgument, Fault } from "./nuigatre.mjs";
+// What the page shows of a component. It is made of the library's answers alone: what a module imports, exports and calls its
+// functions (`scan`), which chains lead to imports (`why`, `paths`), what a component requires (`plannedWorld`), what is left
+// (`trim`). Here files get their roles and names, and what is shown is put together.
+import { BadArgument, Fault, OutOfMemory } from "./nuigatre.mjs";
+import { faultsOf, hintOf, placeOf } from "./hints.mjs";
+import { readable, shortImport, shortName } from "./picture.mjs";
 
 /** How much is shown, so that no module makes the page slow. */
-export const MOST = { interfaces: 400, functions: 200, uses: 2000, ends: 250, exports: 300, renames: 500 };
+export const MOST = { interfaces: 400, functions: 200, uses: 2000, ends: 250, exports: 300, renames: 500, worlds: 50 };
+
+/** The name under which adapters import what the main module exports. */
+const MAIN_MODULE = "__main_module__";
 
 /** A list cut to its first, and how many are left out. */
 const cut = (list, most) => ({ list: list.slice(0, most), more: Math.max(0, list.length - most) });
+const counted = (count, one) => `${count.toLocaleString("en")} ${one}${count === 1 ? "" : "s"}`;
+const isFunction = (it) => it.kind === "func";
 
 /** An adapter's name is that of its file up to the first dot, unless it is given. */
 export const nameOf = (file) => file.replace(/^.*\//, "").replace(/\..*$/, "");
 
-/** A dropped file: a module with the lists of the engine, or why that refuses it; or worlds as a text. */
-export function readFile(name, bytes) {
+/** A dropped file: a module with what the library lists of it, or the fault for which it is refused; or worlds as a text. */
+export function readFile(library, name, bytes) {
   const isWasm = [0, 0x61, 0x73, 0x6d].every((it, n) => bytes[n] === it);
   if (!isWasm) return { name, bytes, text: new TextDecoder().decode(bytes) };
   try {
-    const module = new WebAssembly.Module(bytes);
-    return { name, bytes, isModule: true, imports: WebAssembly.Module.imports(module), exports: WebAssembly.Module.exports(module) };
+    const { imports, exports, function_names } = library.scan(bytes);
+    return { name, bytes, isModule: true, imports, exports, functionNames: new Map(function_names.map((it) => [it.index, it.name])) };
   } catch (why) {
-    if (!(why instanceof WebAssembly.CompileError || why instanceof RangeError)) throw why;
-    why.message = `${name}: ${why.message}`;
-    return { name, bytes, refused: why };
+    if (!(why instanceof Fault)) throw why;
+    return { name, bytes, refused: Object.assign(why, { file: name }) };
   }
 }
 
-/** Which file is the main module, and which are adapters, with their names: as is chosen, or else by who imports whom. */
-export function rolesOf(files, { main: chosen, names = {} } = {}) {
-  const modules = files.filter((it) => it.isModule), name = (it) => names[it.name] ?? nameOf(it.name);
-  const isImported = (it) => modules.some((other) => other !== it && other.imports.some((imported) => imported.module === name(it)));
-  const main = modules.find((it) => it.name === chosen) ?? modules.find((it) => !isImported(it)) ?? modules[0];
-  const adapters = modules.filter((it) => it !== main).map((file) => ({ name: name(file), file }));
-  return { main, adapters, worlds: files.find((it) => it.text !== undefined) };
+/** The names of the functions that a module imports, by the modules that it imports them of; but not what adapters import of
+ *  the main module. */
+function importsByModule(file) {
+  const all = new Map();
+  for (const it of file.imports.filter((it) => isFunction(it) && it.module !== MAIN_MODULE)) (all.get(it.module) ?? all.set(it.module, new Set()).get(it.module)).add(it.name);
+  return all;
 }
 
-/** The names of the worlds in a text; none if it is no JSON, which the library says. */
-export function worldNames(text) {
+/** The names of adapters, beside this main module: as is given; or that of the file, if the main module imports of it; or else
+ *  one of which the main module imports nothing but what the adapter exports. */
+function adapterNames(asked, adapters, names) {
+  const taken = new Set(adapters.map((it) => names[it.name] ?? nameOf(it.name)));
+  return adapters.map((file) => {
+    const own = names[file.name] ?? nameOf(file.name);
+    if (file.name in names || asked.has(own)) return own;
+    const has = new Set(file.exports.filter(isFunction).map((it) => it.name));
+    const found = [...asked].find(([module, list]) => !taken.has(module) && [...list].every((it) => has.has(it)));
+    if (!found) return own;
+    taken.add(found[0]);
+    return found[0];
+  });
+}
+
+/** Which file is the main module, and which are adapters, with their names: as is chosen, or else by what modules import of
+ *  each other. */
+export function rolesOf(files, { main: chosen, names = {} } = {}) {
+  const modules = files.filter((it) => it.isModule), worlds = files.find((it) => it.text !== undefined);
+  const rated = (main) => {
+    const others = modules.filter((it) => it !== main), asked = importsByModule(main), found = adapterNames(asked, others, names);
+    const adapters = others.map((file, n) => ({ name: found[n], file }));
+    const isAdapter = main.imports.some((it) => it.module === MAIN_MODULE), hasMemory = !main.imports.some((it) => it.kind === "memory");
+    return { main, adapters, worlds, isAdapter, hasMemory, met: adapters.filter((it) => asked.has(it.name)).length };
+  };
+  const given = modules.filter((it) => it.name === chosen), all = (given.length ? given : modules).map(rated);
+  const isBetter = (a, b) => (b.met - a.met || a.isAdapter - b.isAdapter || b.hasMemory - a.hasMemory) > 0;
+  return all.length ? all.reduce((best, it) => (isBetter(best, it) ? it : best)) : { main: undefined, adapters: [], worlds };
+}
+
+/** The worlds in a text, with the numbers of their imports and exports; none if it is no JSON, which the library says. */
+export function worldsIn(text) {
+  const sizeOf = (it) => Object.keys(it ?? {}).length;
   try {
-    return JSON.parse(text).worlds.map((it) => String(it.name));
+    return JSON.parse(text).worlds.map((it) => ({ name: String(it.name), size: sizeOf(it.imports) + sizeOf(it.exports) }));
   } catch {
     return [];
   }
@@ -66,45 +103,54 @@ function plannedWorld(library, component) {
   }
 }
 
-/** The world of the component of these files: the one that is chosen, or else the first that the library makes. */
+/** The world of the component of these files: the one that is chosen, or else the first that the library makes, from the
+ *  largest on: one that includes others has what these have. */
 function worldOf(library, main, adapters, worlds, chosen) {
-  const names = worldNames(worlds.text), tried = chosen === null || chosen === undefined ? names.map((_, n) => n).slice(0, 50) : [chosen];
+  const found = worldsIn(worlds.text), names = found.map((it) => it.name);
+  const bySize = found.map((_, n) => n).sort((a, b) => found[b].size - found[a].size || a - b).slice(0, MOST.worlds);
   const parts = adapters.map(({ name, file }) => ({ name, wasm: file.bytes, exports: [] }));
+  const tried = Number.isInteger(chosen) ? [chosen] : bySize.length ? bySize : [0];
   let fault = null;
-  for (const world of tried.length ? tried : [0]) {
+  for (const world of tried) {
     try {
       return { ...plannedWorld(library, { worlds: worlds.text, world, main: main.bytes, adapters: parts }), world, names };
     } catch (why) {
       if (!(why instanceof Fault)) throw why;
-      fault ??= why;
+      fault ??= Object.assign(why, { world });
     }
   }
   throw Object.assign(fault, { worlds: names });
 }
 
-/** What is required of an adapter: the exports that its trimmed form has; without worlds, what the main module imports. */
-function requiredOf(main, { name, file }, trimmed) {
-  const has = new Set(file.exports.map((it) => it.name));
-  const wanted = trimmed
-    ? WebAssembly.Module.exports(new WebAssembly.Module(trimmed)).map((it) => it.name)
-    : main.imports.filter((it) => it.module === name).map((it) => it.name);
-  return [...new Set(wanted)].filter((it) => has.has(it));
+/** What is required of an adapter: what the main module imports, in its order; and, with worlds, what else its trimmed form
+ *  exports. */
+function requiredOf(library, asked, { name, file }, trimmed) {
+  const functionsOf = (exports) => exports.filter(isFunction).map((it) => it.name), has = new Set(functionsOf(file.exports));
+  const required = [...(asked.get(name) ?? []), ...(trimmed ? functionsOf(library.scan(trimmed).exports) : [])];
+  return [...new Set(required)].filter((it) => has.has(it));
 }
 
+/** A switch: whether an export of an adapter counts as used. */
+export const switchOf = (adapter, name) => `${adapter} ${name}`;
+
 /** Of an adapter: the exports that are used, the chains to its imports, which exports reach each, and the trimmed size. */
-function chainsOf(library, adapter, required, off, settings) {
-  const used = required.filter((it) => !off.has(it)), { bytes } = adapter.file;
-  if (!used.length) return { required, used, chains: null, reach: new Map(), trimmed: null };
-  const chains = library.why(bytes, used), reach = new Map();
+function chainsOf(library, adapter, required, switched, settings) {
+  const { bytes, exports } = adapter.file, isRequired = new Set(required);
+  const others = exports.filter((it) => isFunction(it) && !isRequired.has(it.name)).map((it) => it.name);
+  const used = [...required, ...others].filter((it) => switched[switchOf(adapter.name, it)] ?? isRequired.has(it));
+  const found = { required, others, used, chains: null, reach: new Map(), trimmed: null };
+  if (!used.length) return found;
+  found.chains = library.why(bytes, used);
   for (const name of used.slice(0, MOST.exports)) {
-    library.why(bytes, [name]).imports.forEach((at, n) => at !== null && reach.set(n, [...(reach.get(n) ?? []), name]));
+    library.why(bytes, [name]).imports.forEach((at, n) => at !== null && found.reach.set(n, [...(found.reach.get(n) ?? []), name]));
   }
-  return { required, used, chains, reach, trimmed: library.trim(bytes, used, settings) };
+  found.trimmed = library.trim(bytes, used, settings);
+  return found;
 }
 
 /** The imports of an adapter that are of other core modules, and not of the component. */
 function innerModules(record, adapters) {
-  const inner = new Set(adapters.map((it) => it.name));
+  const inner = new Set([MAIN_MODULE, ...adapters.map((it) => it.name)]);
   for (const { info } of record?.adapters ?? []) {
     for (const { module, instance } of info.imports) {
       if (instance.names?.some((it) => /^(main-module|adapter)/.test(it.import.kind))) inner.add(module);
@@ -113,95 +159,158 @@ function innerModules(record, adapters) {
   return inner;
 }
 
+/** Whether the component has to import this: it is a function, and of no other core module. */
+const isOuter = (inner) => (it) => isFunction(it) && !inner.has(it.module);
+
 /** Each interface of imports, with its functions, and by which exports of adapters or of the main module it comes. */
-function interfacesOf({ main, adapters, parts, inner }) {
+function interfacesOf({ main, asked, adapters, parts, inner }) {
   const all = new Map();
-  const entry = (key) => all.get(key) ?? all.set(key, { key, functions: new Map(), calls: new Set(), own: new Set(), isOfMain: false }).get(key);
-  const calls = new Map(adapters.map(({ name }) => [name, new Set(main.imports.filter((it) => it.module === name).map((it) => it.name))]));
-  for (const it of main.imports) {
-    if (inner.has(it.module)) continue;
+  const entry = (key) => all.get(key) ?? all.set(key, { key, functions: new Map(), calls: new Set(), own: new Set(), ticked: new Set(), isOfMain: false }).get(key);
+  for (const it of main.imports.filter(isOuter(inner))) {
     const found = entry(it.module);
     found.isOfMain = true;
     found.functions.set(it.name, true);
   }
-  adapters.forEach(({ name, file }, n) => file.imports.forEach((it, at) => {
-    if (inner.has(it.module)) return;
-    const found = entry(it.module), by = parts[n].reach.get(at);
-    found.functions.set(it.name, Boolean(by) || (found.functions.get(it.name) ?? false));
-    for (const export_ of by ?? []) (calls.get(name).has(export_) ? found.calls : found.own).add(export_);
-  }));
+  adapters.forEach(({ name, file }, n) => {
+    const calls = asked.get(name) ?? new Set(), isRequired = new Set(parts[n].required);
+    file.imports.forEach((it, at) => {
+      if (!isOuter(inner)(it)) return;
+      const found = entry(it.module), by = parts[n].reach.get(at);
+      found.functions.set(it.name, Boolean(by) || (found.functions.get(it.name) ?? false));
+      for (const export_ of by ?? []) found[calls.has(export_) ? "calls" : isRequired.has(export_) ? "own" : "ticked"].add(export_);
+    });
+  });
   const isReached = (it) => [...it.functions.values()].some(Boolean);
   return [...all.values()].sort((a, b) => isReached(b) - isReached(a) || (a.key < b.key ? -1 : 1));
 }
 
+/** The shortest path through the main module to each of its imports, where the library has that call; and why there is none. */
+function mainPaths(library, main) {
+  const paths = new Map(), functions = main.imports.filter(isFunction);
+  if (typeof library.paths !== "function" || !functions.length) return { paths, unfollowed: null };
+  // no more than can be drawn: the paths to many imports may be long
+  const imports = functions.length > MOST.ends ? functions.slice(0, MOST.ends).map((it) => `${it.module}=${it.name}`) : [];
+  try {
+    for (const { interface: module, name, steps } of library.paths(main.bytes, { imports })) paths.set(JSON.stringify([module, name]), steps);
+    return { paths, unfollowed: null };
+  } catch (why) {
+    if (!(why instanceof Fault || why instanceof BadArgument || why instanceof OutOfMemory)) throw why;
+    return { paths, unfollowed: why };
+  }
+}
+
+/** The file that a fault of a component is about. */
+function fileOfFault(why, { main, adapters, worlds }) {
+  const faults = faultsOf(why.call, why.number).map((it) => it.join(" ")), adapter = adapters.find((it) => it.name === why.place?.adapter);
+  if (adapter) return adapter.file.name;
+  return faults.some((it) => ["world MAIN", "message DEDUPE", "message PLAN"].includes(it)) ? main.name : faults.length ? worlds.name : null;
+}
+
 /** All that is computed of the files, before it is filtered. */
 export function compute(library, files, state = {}) {
-  const { main, adapters, worlds } = rolesOf(files, state), off = new Set(state.off ?? []);
+  const { main, adapters, worlds, isAdapter } = rolesOf(files, state), switched = state.switched ?? {};
   const faults = files.filter((it) => it.refused).map((it) => it.refused);
   if (!main) return { files, main: null, adapters: [], worlds, faults };
-  const attempt = (call) => {
+  const attempt = (file, call) => {
     try {
       return call();
     } catch (why) {
       if (!(why instanceof Fault || why instanceof BadArgument)) throw why;
-      faults.push(why);
+      faults.push(Object.assign(why, { file: file ?? fileOfFault(why, { main, adapters, worlds }) }));
       return null;
     }
   };
-  const renamed = attempt(() => library.dedupe(main.bytes));
-  const whole = worlds ? attempt(() => worldOf(library, main, adapters, worlds, state.world)) : null;
+  const asked = importsByModule(main);
+  const renamed = attempt(main.name, () => library.dedupe(main.bytes));
+  const whole = worlds ? attempt(null, () => worldOf(library, main, adapters, worlds, state.world)) : null;
   const record = whole?.made.record ?? null, exports = record?.info.exports ?? [];
   const ofKind = (kind) => exports.find((it) => it.export.kind === kind);
   const realloc = ofKind("general-purpose-realloc")?.name ?? null;
   const pageSizeLog2 = ofKind("memory")?.export.type.page_size_log2 ?? 16;
-  const none = { required: [], used: [], chains: null, reach: new Map(), trimmed: null };
-  const parts = adapters.map((adapter) => attempt(() => {
+  const none = { required: [], others: [], used: [], chains: null, reach: new Map(), trimmed: null };
+  const parts = adapters.map((adapter) => attempt(adapter.file.name, () => {
     const made = whole?.made.adapters.find((it) => it.name === adapter.name)?.wasm;
-    const required = requiredOf(main, adapter, made), found = chainsOf(library, adapter, required, off, { realloc, pageSizeLog2 });
-    // where nothing is taken away the adapter is the component's
-    return made && found.used.length === required.length ? { ...found, trimmed: made } : found;
+    const required = requiredOf(library, asked, adapter, made), found = chainsOf(library, adapter, required, switched, { realloc, pageSizeLog2 });
+    // where nothing is switched the adapter is the component's
+    return made && found.used.join("\n") === required.join("\n") ? { ...found, trimmed: made } : found;
   }) ?? none);
-  const inner = innerModules(record, adapters);
-  const interfaces = interfacesOf({ main, adapters, parts, inner });
-  return { files, main, adapters, worlds, faults, renamed, whole, record, parts, inner, interfaces };
+  const inner = innerModules(record, adapters), { paths, unfollowed } = mainPaths(library, main);
+  const found = { files, main, isAdapter, asked, adapters, worlds, faults, renamed, whole, record, parts, inner, paths, unfollowed };
+  return { ...found, interfaces: interfacesOf(found) };
 }
 
-/** The chains to the imports that are wanted, as boxes of a picture: each after the one to its left. */
-function boxesOf({ main, adapters, parts, inner }, wanted, isOfOne) {
-  const boxes = new Map(), add = (id, left, label, kind, title = label) => boxes.has(id) || boxes.set(id, { id, left, label, kind, title });
-  let ends = 0, more = 0;
-  const end = (id, left, it) => {
-    const label = isOfOne ? it.name : `${it.module} ${it.name}`;
-    add(id, left, label, "import", `${it.module} ${it.name}`);
-  };
-  for (const it of main.imports) {
-    if (inner.has(it.module) || !wanted(it)) continue;
-    if (++ends > MOST.ends) { more++; continue; }
-    add("main", null, main.name, "main");
-    end(`main ${it.module} ${it.name}`, "main", it);
+/** The boxes of a picture: each is after the one to its left, and there once. */
+class Boxes {
+  #boxes = new Map();
+
+  /** Adds a box, unless it is there, and returns its id. */
+  add(id, left, label, kind, title = label) {
+    if (!this.#boxes.has(id)) this.#boxes.set(id, { id, left, label, kind, title });
+    return id;
   }
-  adapters.forEach(({ name: own, file }, n) => {
-    const { chains } = parts[n], called = new Set(main.imports.filter((it) => it.module === own).map((it) => it.name));
-    chains?.imports.forEach((at, number) => {
-      const it = file.imports[number];
-      if (at === null || !it || inner.has(it.module) || !wanted(it)) return;
-      if (++ends > MOST.ends) { more++; return; }
-      const steps = [at];
-      while (chains.finders[steps[0]] !== steps[0]) steps.unshift(chains.finders[steps[0]]);
-      const name = chains.exports[steps[0]], isCalled = called.has(name), root = isCalled ? "main" : "component";
-      add(root, null, isCalled ? main.name : "the component", root);
-      let left = `${n} ${name}`;
-      add(left, root, name, "export", isCalled ? `${main.name} imports ${name} of ${own}` : `the component needs ${name} of ${own}`);
-      // the first item is the export's own, and the last one the import
-      for (const step of steps.slice(1, -1)) {
-        const { space, index } = chains.items[step];
-        add(`${n} ${step}`, left, `${space} ${index}`, "item", `${space} ${index} of ${own}`);
-        left = `${n} ${step}`;
-      }
-      end(`${n} import ${number}`, left, it);
-    });
-  });
-  return { boxes: [...boxes.values()], more };
+
+  get all() {
+    return [...this.#boxes.values()];
+  }
+}
+
+/** A function of a module as a box has it, and in full. */
+function itemTexts(space, index, name) {
+  const number = `${space} ${index}`;
+  return name ? { label: shortName(name), title: `${number}, ${readable(name)}` } : { label: number, title: number };
+}
+
+const STARTS = {
+  export: (it) => ["export", it.name, `exports ${it.name}`],
+  start: () => ["export", "start function", "has a start function"],
+  fills: (it) => ["item", `${it.space} ${it.index}`, `fills ${it.space} ${it.index}, through which it may be called`],
+};
+
+/** Boxes of the path through the main module to one of its imports: the id of the last one. */
+function addMainPath(boxes, { main, paths }, { module, name }) {
+  let left = boxes.add("main", null, main.name, "main"), id = "main";
+  const steps = paths.get(JSON.stringify([module, name])) ?? [];
+  // the item after an export or a table is that itself, and the last one is the import
+  for (const step of steps.slice(0, -1).filter((_, n) => n !== 1 || steps[0].kind === "start")) {
+    const isItem = step.kind === "item";
+    const { label, title } = isItem ? itemTexts(step.space, step.index, step.name) : { label: STARTS[step.kind](step)[1], title: `${main.name} ${STARTS[step.kind](step)[2]}` };
+    id += `\n${isItem ? `${step.space} ${step.index}` : `${step.kind} ${label}`}`;
+    left = boxes.add(id, left, label, isItem ? "item" : STARTS[step.kind](step)[0], isItem ? `${title} of ${main.name}` : title);
+  }
+  return left;
+}
+
+/** Boxes of the chain in an adapter to one of its imports: the id of the last one before it. */
+function addChain(boxes, found, n, at) {
+  const { main, asked, adapters, parts } = found, { chains, required } = parts[n], { name: own, file } = adapters[n];
+  const steps = [at];
+  while (chains.finders[steps[0]] !== steps[0]) steps.unshift(chains.finders[steps[0]]);
+  const name = chains.exports[steps[0]], isCalled = asked.get(own)?.has(name) ?? false;
+  const root = isCalled ? addMainPath(boxes, found, { module: own, name }) : required.includes(name) ? boxes.add("component", null, "the component", "component") : boxes.add("you", null, "you ticked", "component");
+  const by = isCalled ? `${main.name} imports ${name} of ${own}` : required.includes(name) ? `the component needs ${name} of ${own}` : `you ticked ${name} of ${own}`;
+  let left = boxes.add(`${n} ${name}`, root, name, "export", by);
+  // the first item is the export's own, and the last one the import
+  for (const step of steps.slice(1, -1)) {
+    const { space, index } = chains.items[step], { label, title } = itemTexts(space, index, space === "func" ? file.functionNames.get(index) : undefined);
+    left = boxes.add(`${n} ${step}`, left, label, "item", `${title} of ${own}`);
+  }
+  return left;
+}
+
+/** The chains to the imports that are wanted, as boxes of a picture. */
+function boxesOf(found, wanted, isOfOne) {
+  const { main, adapters, parts, inner } = found, boxes = new Boxes();
+  let ends = 0;
+  const end = (id, it, leftOf) => {
+    if (++ends > MOST.ends) return;
+    boxes.add(id, leftOf(), shortImport(isOfOne ? null : it.module, it.name), "import", `${it.module} ${it.name}`);
+  };
+  for (const it of main.imports.filter((it) => isOuter(inner)(it) && wanted(it))) end(`main ${it.module} ${it.name}`, it, () => addMainPath(boxes, found, it));
+  adapters.forEach(({ file }, n) => parts[n].chains?.imports.forEach((at, number) => {
+    const it = file.imports[number];
+    if (at !== null && it && isOuter(inner)(it) && wanted(it)) end(`${n} import ${number}`, it, () => addChain(boxes, found, n, at));
+  }));
+  return { boxes: boxes.all, more: Math.max(0, ends - MOST.ends) };
 }
 
 /** A list as a sentence has it, of at most six names. */
@@ -212,63 +321,92 @@ const joined = (names) => {
 
 /** Why an interface is imported, and when it goes. */
 export function sentence(main, it) {
-  const calls = [...it.calls], own = [...it.own], count = calls.length + own.length;
+  const [calls, own, ticked] = [it.calls, it.own, it.ticked].map((set) => [...set]), count = calls.length + own.length + ticked.length;
   if (![...it.functions.values()].some(Boolean)) return "It is not imported: no export that is used reaches it, and trimming removes it.";
-  if (it.isOfMain) return `${main.name} imports it itself${count ? `, and ${joined([...calls, ...own])} of an adapter reach it too` : ""}.`;
-  const parts = [calls.length && `${main.name} calls ${joined(calls)}`, own.length && `the component needs ${joined(own)}`].filter(Boolean);
+  if (it.isOfMain) return `${main.name} imports it itself${count ? `, and ${joined([...calls, ...own, ...ticked])} of an adapter ${count > 1 ? "reach" : "reaches"} it too` : ". It goes when no code there calls it"}.`;
+  const parts = [calls.length && `${main.name} calls ${joined(calls)}`, own.length && `the component needs ${joined(own)}`, ticked.length && `you ticked ${joined(ticked)}`].filter(Boolean);
   return `It is imported because ${parts.join(", and ")}. It goes when ${count > 1 ? "none of these is" : "that is not"} used.`;
 }
 
-const HINTS = {
-  "missing-export": "Export it from the main module, or from an adapter; or choose another world.",
-  "missing-function": "Export the interface's functions from the main module, or add the adapter that exports them; or choose another world.",
-  import: "The main module or an adapter imports what the world does not have: choose another world, or add the adapter of that name.",
-  export: "The export's name or type is not what the world says: build the module for this world.",
-  bytes: "The module is damaged, or uses a proposal that is not read.",
-  section: "The adapter has a section that trimming does not know: it has to be built without data and elements.",
-  body: "The adapter has a function that trimming does not know.",
-  "json-byte": "The worlds are not JSON: wasm-tools component wit --json prints them.",
-  "json-path": "The worlds are not what wasm-tools component wit --json prints.",
-};
-
-const REFUSED = "The engine of this browser refuses the module: it is no module, or uses a proposal that the engine lacks.";
-
-/** A fault as it is shown: its text, where it is, and what to do. */
+/** A fault as it is shown: what it means, in which file and where, what to do, and the library's own text. */
 export function faultView(why) {
-  if (why instanceof WebAssembly.CompileError || why instanceof RangeError) return { text: why.message, where: "", hint: REFUSED, number: null };
-  const { kind, ...others } = why.place ?? {};
-  const where = Object.entries(others).filter(([, it]) => it !== null).map(([name, it]) => `${name} ${typeof it === "object" ? JSON.stringify(it) : it}`);
-  return { text: why.message, where: kind ? `${kind}: ${where.join(", ")}` : "", hint: HINTS[kind] ?? "", number: why.number ?? null };
+  const { means, hint } = hintOf(why), place = placeOf(why.place ?? null), file = why.file ? `${why.file}: ` : "";
+  const missing = why.missing ? `export ${JSON.stringify(why.missing)}` : "";
+  return { title: `${file}${means || why.message}`, text: why.message, where: [place, missing].filter(Boolean).join(", "), hint, number: why.number ?? null };
 }
 
-/** What the page draws: of what was computed what a search finds, and the picture of what is picked. */
-export function view(found, { find = "", picked = null, off = [] } = {}) {
-  const { main, adapters, parts, record, renamed, worlds, whole } = found, asked = find.trim().toLowerCase();
-  const files = found.files.map((it) => {
+/** Whether a name may be an adapter's: it is of no package, and nothing that the binary format of components fixes. */
+const mayBeAdapter = (module) => !/[:[\]|$#]/.test(module) && !["env", "cm32p2", MAIN_MODULE, ""].includes(module);
+
+/** The version of WASI whose worlds the page has: those of commands. */
+export const WASI = "0.2.6";
+
+/** What to do next, in the order of what is to be done first. `offer` is what a button does, `also` what the page has for it. */
+export function notesOf({ main, isAdapter, asked, adapters, worlds, whole, parts, faults, interfaces, unfollowed }) {
+  const notes = [], names = new Set(adapters.map((it) => it.name)), note = (text, offer = null, also = "") => notes.push({ text, offer, also });
+  const open = [...asked].filter(([module]) => !whole && !names.has(module) && mayBeAdapter(module)).map(([module, list]) => ({ module, count: list.size }));
+  if (isAdapter) note(`Drop your program too, or choose “Make it main” for it: ${main.name} imports what a program exports, so it looks like an adapter.`);
+  for (const { module, count } of open.slice(0, 5)) {
+    note(`Drop the adapter ${module} too, if it is one: ${main.name} imports ${counted(count, "function")} of this name, which is of no package. Your component will import what that adapter imports, and not these.`);
+  }
+  adapters.forEach(({ name, file }, n) => {
+    if (parts[n].required.length || faults.some((it) => it.file === file.name) || isAdapter) return;
+    const others = open.length ? `, but of ${joined(open.map((it) => it.module))}` : "";
+    note(`Give ${file.name} the name under which ${main.name} imports it: it imports nothing of ${name}${others}. If ${file.name} is your program, choose “Make it main”.`);
+  });
+  const isWasi = adapters.some((it) => it.file.exports.some((export_) => export_.name.startsWith(`wasi:cli/run@${WASI}#`))), offer = isWasi ? "wasi" : null;
+  if (worlds && !whole) note(`Mend the fault above first${isWasi ? `, or use the worlds of WASI ${WASI}` : ""}: what is shown here is as without the worlds.`, offer);
+  if (!worlds && adapters.length && !isAdapter) {
+    const needed = adapters.flatMap((it) => it.file.exports).find((it) => isFunction(it) && it.name.includes("#"))?.name;
+    const end = `: without them only what ${main.name} imports of an adapter counts as used, and a component needs more${needed ? `, such as ${needed}` : ""}.`;
+    note(`${isWasi ? `Use the worlds of WASI ${WASI}, or drop your own` : "Drop the worlds, if you have them"}${end}`, offer, "You may also tick it below.");
+  }
+  if (unfollowed) note(`For paths through ${main.name} too, build it in another way: they can't be followed. ${faultView(unfollowed).title}`);
+  if (!interfaces.length && !open.length) note(`Nothing is to be done: ${main.name} imports no function, and neither does its component.`);
+  return notes;
+}
+
+/** What can be saved, of all that was computed. */
+export function downloadsOf({ main, adapters, parts, renamed, record }) {
+  if (!main) return [];
+  const list = adapters.map(({ name }, n) => ({ name: `${name}.trimmed.wasm`, bytes: parts[n].trimmed, type: "application/wasm" })).filter((it) => it.bytes);
+  if (renamed?.renames.length) list.push({ name: "main.renamed.wasm", bytes: renamed.module, type: "application/wasm" });
+  if (record) list.push({ name: "record.json", bytes: new TextEncoder().encode(JSON.stringify(record)), type: "application/json" });
+  return list;
+}
+
+function filesView({ files, main, adapters }) {
+  return files.map((it) => {
     const adapter = adapters.find((other) => other.file === it);
     return { name: it.name, size: it.bytes.length, role: it === main ? "main" : adapter ? "adapter" : it.refused ? "refused" : "worlds", as: adapter?.name ?? null };
   });
-  const shown = { files, faults: found.faults.map(faultView), main: main?.name ?? null, worlds: whole?.names ?? found.faults.find((it) => it.worlds)?.worlds ?? [], world: whole?.world ?? null };
+}
+
+function switchesOf({ adapters, parts }) {
+  const listed = (name, part, list) => cut(list.map((it) => ({ name: it, key: switchOf(name, it), isOn: part.used.includes(it) })), MOST.exports);
+  return adapters.map(({ name }, n) => ({ adapter: name, ...listed(name, parts[n], parts[n].required), others: listed(name, parts[n], parts[n].others) }));
+}
+
+/** What the page draws: of what was computed what a search finds, and the picture of what is picked. */
+export function view(found, { find = "", picked = null } = {}) {
+  const { main, adapters, parts, record, renamed, whole } = found, text = find.trim().toLowerCase();
+  const shown = { files: filesView(found), faults: found.faults.map(faultView), main: main?.name ?? null, notes: main ? notesOf(found) : [] };
+  Object.assign(shown, { worlds: whole?.names ?? found.faults.find((it) => it.worlds)?.worlds ?? [], world: whole?.world ?? found.faults.find((it) => it.worlds)?.world ?? null });
   if (!main) return shown;
-  const matches = (it) => !asked || it.key.toLowerCase().includes(asked) || [...it.functions.keys()].some((name) => name.toLowerCase().includes(asked));
+  const matches = (it) => !text || it.key.toLowerCase().includes(text) || [...it.functions.keys()].some((name) => name.toLowerCase().includes(text));
   const entries = found.interfaces.map((it) => ({ ...it, count: [...it.functions.values()].filter(Boolean).length }));
   const stays = entries.filter((it) => it.count > 0), one = entries.find((it) => it.key === picked) ?? null;
-  const listed = cut(entries.filter(matches), MOST.interfaces);
-  const sizes = adapters.map(({ name, file }, n) => ({ name, before: file.bytes.length, after: parts[n].trimmed?.length ?? 0, bytes: parts[n].trimmed }));
-  const boxes = boxesOf(found, one ? (it) => it.module === one.key : () => true, one !== null);
+  const listed = cut(entries.filter(matches), MOST.interfaces), boxes = boxesOf(found, one ? (it) => it.module === one.key : () => true, one !== null);
+  const sum = (list) => list.reduce((all, it) => all + it, 0);
   return {
     ...shown,
-    interfaces: listed.list.map(({ key, functions, count, calls, own, isOfMain }) => ({ key, count, all: functions.size, through: [...(isOfMain ? [main.name] : []), ...calls, ...own].slice(0, 4), others: Math.max(0, calls.size + own.size + isOfMain - 4) })),
+    interfaces: listed.list.map(({ key, functions, count, calls, own, ticked, isOfMain }) => ({ key, count, all: functions.size, isOpen: !whole && mayBeAdapter(key), through: [...(isOfMain ? [main.name] : []), ...calls, ...own, ...ticked].slice(0, 4), others: Math.max(0, calls.size + own.size + ticked.size + isOfMain - 4) })),
     moreInterfaces: listed.more,
-    numbers: { interfaces: stays.length, of: entries.length, functions: stays.reduce((sum, it) => sum + it.count, 0), renamed: renamed?.renames.length ?? null, lowerings: record?.plan.length ?? null, before: sizes.reduce((sum, it) => sum + it.before, 0), after: sizes.reduce((sum, it) => sum + it.after, 0) },
-    adapters: sizes,
-    switches: adapters.map(({ name }, n) => ({ adapter: name, ...cut(parts[n].required.map((it) => ({ name: it, isOn: !off.includes(it) })), MOST.exports) })),
+    numbers: { interfaces: stays.length, of: entries.length, functions: sum(stays.map((it) => it.count)), renamed: renamed?.renames.length ?? null, lowerings: record?.plan.length ?? null, before: sum(adapters.map((it) => it.file.bytes.length)), after: sum(parts.map((it) => it.trimmed?.length ?? 0)) },
+    switches: switchesOf(found),
     picked: one && { key: one.key, says: sentence(main, one), functions: cut([...one.functions].map(([name, isImported]) => ({ name, isImported })), MOST.functions) },
     picture: boxes,
     renames: cut(renamed?.renames ?? [], MOST.renames),
     plan: record && cut(record.plan.map((it) => ({ ...it, module: it.module.kind === "main" ? "main" : it.module.name })), MOST.uses),
-    hasWorlds: Boolean(worlds),
-    record: record && JSON.stringify(record),
-    renamedMain: renamed?.module ?? null,
   };
 }

@@ -1,7 +1,7 @@
 // Made of include/nuigatre.h by tools/c_calls.py --write.
 
 /** The number that nuigatre_abi has to answer */
-export const ABI = 8;
+export const ABI = 9;
 
 /** The fields of an answer */
 export const ANSWER = [["status", "uint32_t"], ["fault", "uint32_t"], ["length", "size_t"], ["module_length", "size_t"], ["position", "size_t"]];
@@ -23,6 +23,7 @@ export const NUMBERS = {
     trim: 1,
     why: 2,
     scan: 3,
+    paths: 4,
 };
 
 /** The calls, without `nuigatre_`: the parameters with what each is, and the result */
@@ -36,6 +37,7 @@ export const CALLS = {
     validate: {"parameters": [["seed0", "u64"], ["seed1", "u64"], ["message", "bytes"], ["modules", "bytes"], ["has_adapter", "bool"], ["adapter", "bytes"], ["out", "out"]], "result": "answer"},
     validated_module: {"parameters": [["seed0", "u64"], ["seed1", "u64"], ["message", "bytes"], ["modules", "bytes"], ["has_adapter", "bool"], ["adapter", "bytes"], ["required", "bytes"], ["out", "out"]], "result": "answer"},
     scan: {"parameters": [["wasm", "bytes"], ["out", "out"]], "result": "answer"},
+    paths: {"parameters": [["seed0", "u64"], ["seed1", "u64"], ["wasm", "bytes"], ["exports", "slices"], ["imports", "slices"], ["out", "out"]], "result": "answer"},
     fault_text: {"parameters": [["call", "u32"], ["number", "u32"], ["out", "out"]], "result": "answer"},
     abi: {"parameters": [], "result": "u32"},
 };

@@ -88,6 +88,22 @@ export interface Scan {
   function_names: { index: number; name: string }[];
 }
 
+/** A step of a path: where it begins, or an item, which the step before it names; `name` is that of a function that has one. */
+export type PathStep =
+  | { kind: "export"; adapter: null; name: string }
+  | { kind: "start" }
+  | { kind: "fills"; space: "table" | "memory"; index: number }
+  | { kind: "item"; space: "type" | "func" | "table" | "memory" | "global" | "elem" | "data"; index: number; name: string | null };
+
+/** The path to an import: the first step is where it begins, the last is the import's item. */
+export interface ImportPath {
+  /** The module that it is imported from. */
+  interface: string;
+  /** Its name there. */
+  name: string;
+  steps: PathStep[];
+}
+
 /** An adapter of a component. */
 export interface Adapter {
   /** The name under which the main module imports it. */
@@ -187,6 +203,11 @@ export class Nuigatre {
   why(adapter: Bytes, required: Iterable<string>): Chains;
   /** Lists what a module imports and exports, with types, and how its functions are named. */
   scan(module: Bytes): Scan;
+  /** The paths to the imports of a module, main modules too, in their order: of each the shortest, and of several the first.
+   *  They begin at these exports, or at all, and at the start function; and only where none of these leads to an import, at
+   *  what an active segment fills. `imports` ask for imports: `MODULE`, with its version or without, or `MODULE=NAME`;
+   *  without them it is all. An import to which no path leads has none here. */
+  paths(module: Bytes, asked?: { exports?: Iterable<string>; imports?: Iterable<string> }): ImportPath[];
   /** Makes the world of a component. */
   world(component: Component): World;
   /** Makes the plan of a component: what each function that its core modules import needs. */
@@ -199,5 +220,5 @@ export class Nuigatre {
    *  returns what it imports and exports. */
   validatedModule(component: Component, adapter?: string | null, required?: Iterable<RequiredFunction>): ModuleRecord;
   /** The text of a fault of a call on bytes by its number; null if there is none. */
-  faultText(call: "dedupe" | "trim" | "why" | "scan", number: number): string | null;
+  faultText(call: "dedupe" | "trim" | "why" | "scan" | "paths", number: number): string | null;
 }

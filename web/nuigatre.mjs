@@ -222,9 +222,10 @@ export class Nuigatre {
     const place = bytes.length > split ? parsed(bytes.subarray(split)) : null;
     // a byte of the message is one of the worlds, which are its first member
     if (place?.kind === "json-byte") place.byte -= HEAD.length;
-    // of an export that is missing the answer has the position among the required ones
-    const isMissing = isOnBytes && "required" in given && number === FAULTS.gc.MISSING_EXPORT;
-    const missing = isMissing ? given.required[position] : null;
+    // of an export that is missing the answer has the position among the names that are passed
+    const names = given.required ?? given.exports;
+    const isMissing = isOnBytes && names !== undefined && number === FAULTS.gc.MISSING_EXPORT;
+    const missing = isMissing ? names[position] : null;
     return new Fault(isMissing ? `${text} \`${missing}\`` : text, { call: name, number, text, place, missing });
   }
 
@@ -249,6 +250,10 @@ export class Nuigatre {
   scan(module) {
     const wasm = bytesOf(module);
     return parsed(this.#call("scan", { wasm }, 2 * wasm.length + ROOM).bytes);
+  }
+
+  paths(module, { exports = [], imports = [] } = {}) {
+    return parsed(this.#call("paths", { wasm: bytesOf(module), exports: [...exports], imports: [...imports] }).bytes).ways;
   }
 
   world(component) {

@@ -1,19 +1,25 @@
 // The page: shows what the worker computes of the files, and asks it anew where something is chosen.
+import { fileOf, heldBytes, newWorker } from "./files.mjs";
 import { forest, pathOf, picture } from "./picture.mjs";
 
 const $ = (id) => document.getElementById(id);
+const query = new URLSearchParams(location.search);
 /** Of larger files the calls would need more memory than the worker's limit; and for how long they may take. */
-const MOST_BYTES = 32 * 2 ** 20, MOST_SECONDS = 60;
-/** The example, and what is chosen of it. */
-const EXAMPLE = { folder: "example/", files: ["main.wasm", "adapter.wasm", "notes.json"], names: { "adapter.wasm": "old-notes" }, world: 2 };
+const MOST_BYTES = 32 * 2 ** 20, MOST_SECONDS = Number(query.get("seconds")) || 60, MEMORY_LIMIT = 2 ** 30;
+/** The example, and the worlds of WASI's commands. */
+const EXAMPLE = { folder: "example/", files: ["main.wasm", "adapter.wasm", "notes.json"] }, WASI = "wasi-command.json";
 
-const state = { off: [], main: null, names: {}, world: null, gone: [], find: "", picked: null };
+const NOTHING = { switched: {}, main: null, names: {}, world: null, gone: [], find: "", picked: null };
+const state = { ...NOTHING };
 /** Each file with a number of its own, which the worker knows too. */
 let files = [], serials = 0;
 /** The worker, the number of what was asked last, and what is asked once it has answered. */
-let worker = null, asked = 0, isBusy = false, isStale = false, given = [], begun = 0, watch = 0;
+let worker = null, asked = 0, isBusy = false, isStale = false, given = [], library = null, begun = 0, watch = 0;
+/** What was shown last, of files and faults. */
+let lastFiles = [], lastFaults = "";
 
-const bytes = (count) => `${count.toLocaleString("en")} bytes`;
+const plural = (count, one, several = one + "s") => (count === 1 ? one : several);
+const bytes = (count) => `${count.toLocaleString("en")} ${plural(count, "byte")}`;
 
 function made(name, { text, children = [], on = {}, ...attributes } = {}) {
   const it = document.createElement(name);
@@ -24,14 +30,17 @@ function made(name, { text, children = [], on = {}, ...attributes } = {}) {
   return it;
 }
 
-const say = (text) => ($("says-status").textContent = text);
+const say = (text) => {
+  if ($("says-status").textContent !== text) $("says-status").textContent = text;
+};
 
 /** A worker; a new one has to be given all files again. */
 function start() {
-  worker = new Worker(new URL("worker.mjs", import.meta.url), { type: "module" });
+  worker = newWorker();
   worker.onmessage = ({ data }) => answered(data);
   worker.onerror = (event) => answered({ serial: asked, failed: { name: "Error", message: event.message ?? "the worker does not start" } });
   given = [...files];
+  library = heldBytes("nuigatre.wasm");
 }
 
 /** Ends the worker, whatever it is at. */
@@ -45,13 +54,19 @@ function stop(why) {
 function ask() {
   isStale = true;
   if (isBusy) return;
-  if (!worker) start();
+  try {
+    if (!worker) start();
+  } catch (why) {
+    isBusy = true;
+    return answered({ serial: asked, failed: { name: why.name, message: why.message } });
+  }
   isStale = false;
   isBusy = true;
   begun = performance.now();
   document.body.dataset.ready = "no";
   const files = given.splice(0).map(({ name, content, serial }) => ({ name, bytes: content, serial }));
-  worker.postMessage({ serial: ++asked, given: files, state });
+  worker.postMessage({ serial: ++asked, given: files, state, wasm: library, memoryLimit: MEMORY_LIMIT });
+  library = null;
   watch = setInterval(() => {
     const seconds = Math.floor((performance.now() - begun) / 1000);
     if (seconds >= MOST_SECONDS) return stop(`It took more than ${MOST_SECONDS} seconds, and was stopped.`);
@@ -60,139 +75,199 @@ function ask() {
   }, 250);
 }
 
+const HINTS = {
+  OutOfMemory: "The files need more memory than a gigabyte. Take one away; or ask wctrim and wcplan, which have no such limit.",
+  Stopped: "Take a file away; or open the page with ?seconds=600 after its address; or ask wctrim and wcplan, which have no limit of time.",
+  NuigatreError: "Is nuigatre.wasm beside the page, and of the same version?",
+};
+
 function answered({ serial, shown, failed }) {
   if (serial !== asked || !isBusy) return;
   isBusy = false;
   clearInterval(watch);
   $("stop").hidden = true;
   if (isStale && !failed) return ask();
+  $("again").hidden = !failed;
   say("");
   if (failed) {
     worker?.terminate();
     worker = null;
-    const names = files.map((it) => ({ name: it.name, size: it.content.length, role: "file", as: null }));
-    show({ files: names, faults: [{ text: failed.message, where: "", hint: HINTS[failed.name] ?? "" }], worlds: [], main: null });
+    const known = (it) => lastFiles.find((other) => other.name === it.name && other.size === it.content.length);
+    const names = files.map((it) => known(it) ?? { name: it.name, size: it.content.length, role: "file", as: null });
+    keepingFocus(() => show({ files: names, faults: [{ title: failed.message, text: "", where: "", hint: HINTS[failed.name] ?? "" }], notes: [], worlds: [], main: null }));
   } else {
-    show(shown);
+    keepingFocus(() => show(shown));
   }
   document.body.dataset.ready = "yes";
 }
 
-const HINTS = {
-  OutOfMemory: "The files need more memory than a gigabyte: wctrim and wcplan have no such limit.",
-  Stopped: "Take a file away, or ask wctrim and wcplan, which have no limit of time.",
-};
+/** Draws anew; what has the focus, and what is written there, is kept. */
+function keepingFocus(draw) {
+  const active = document.activeElement, key = active?.dataset?.key, { value } = active ?? {};
+  draw();
+  if (!key || active.isConnected) return;
+  const it = document.querySelector(`[data-key="${CSS.escape(key)}"]`);
+  if (it && active.type === "text") it.value = value;
+  (it ?? $(key.startsWith("file ") ? "choose" : "answer")).focus({ preventScroll: true });
+}
 
 function fileLine(it) {
-  const remove = made("button", { type: "button", text: "×", "aria-label": `Take ${it.name} away`, on: { click: () => takeAway(it.name) } });
+  const remove = made("button", { type: "button", text: "×", "data-key": `file remove ${it.name}`, "aria-label": `Take ${it.name} away`, on: { click: () => takeAway(it.name) } });
   const role = made("span", { class: "role" });
   if (it.role === "adapter") {
-    const name = made("input", { type: "text", value: it.as, "aria-label": `Name of the adapter ${it.name}` });
+    const name = made("input", { type: "text", value: it.as, "data-key": `file name ${it.name}`, "aria-label": `Name of the adapter ${it.name}` });
     name.addEventListener("change", () => change({ names: { ...state.names, [it.name]: name.value } }));
-    role.append("adapter", name, made("button", { type: "button", text: "Make it main", on: { click: () => change({ main: it.name }) } }));
+    role.append("adapter", name, made("button", { type: "button", text: "Make it main", "data-key": `file main ${it.name}`, "aria-label": `Make it main: ${it.name}`, on: { click: () => change({ main: it.name, switched: {} }) } }));
   } else {
-    role.append({ main: "main module", file: "" }[it.role] ?? it.role);
+    role.append({ main: "main module, your program", refused: "refused", file: "" }[it.role] ?? it.role);
   }
   return made("li", { children: [made("span", { class: "name", text: it.name }), made("span", { class: "size", text: bytes(it.size) }), remove, role] });
+}
+
+function pick(key) {
+  change({ picked: state.picked === key ? null : key });
+  // where the answer is below the list it would not be seen
+  if (matchMedia("(max-width: 960px)").matches) $("shown").scrollIntoView();
 }
 
 function interfaceButton(it) {
   const isGone = it.count === 0, through = it.through.join(", ") + (it.others ? ` and ${it.others} more` : "");
   const inside = [made("span", { class: "key mono", text: isGone ? it.key : it.key.replace(/^[^/]*\//, "") }), made("span", { class: "count", text: isGone ? "" : `${it.count} of ${it.all}` })];
   if (!isGone) inside.push(made("span", { class: "through", text: `through ${through}` }));
-  const name = isGone ? `${it.key}, not imported` : `${it.key}, ${it.count} of ${it.all} functions, through ${through}`;
-  const pick = () => change({ picked: state.picked === it.key ? null : it.key });
-  return made("button", { type: "button", class: isGone ? "gone" : null, "aria-pressed": String(state.picked === it.key), "aria-label": name, children: inside, on: { click: pick } });
+  const name = isGone ? `${it.key}, not imported` : `${it.key}, ${it.count} of ${it.all} ${plural(it.all, "function")}, through ${through}`;
+  return made("button", { type: "button", class: isGone ? "gone" : null, "data-key": `interface ${it.key}`, "aria-pressed": String(state.picked === it.key), "aria-label": name, children: inside, on: { click: () => pick(it.key) } });
 }
 
 function listOf(interfaces, more) {
   const lines = [];
   let head = null;
   for (const it of interfaces) {
-    const group = it.count === 0 ? "Not imported: nothing that is used reaches them" : it.key.includes("/") ? it.key.replace(/\/.*/, "") : "Others";
+    const group = it.isOpen ? "Of no package: an adapter’s?" : it.count === 0 ? "Not imported: nothing that is used reaches them" : it.key.includes("/") ? it.key.replace(/\/.*/, "") : "Of the world itself";
     if (group !== head) lines.push(made("h3", { text: (head = group) }));
     lines.push(interfaceButton(it));
   }
   if (more) lines.push(made("p", { class: "quiet", text: `${more} more: search for them.` }));
-  return lines.length ? lines : [made("p", { class: "quiet", text: "No module has an import like that." })];
+  return lines.length ? lines : [made("p", { class: "quiet", text: state.find ? "No module has an import like that." : "No module has an import." })];
 }
 
 function numberEntries({ interfaces, of, functions, before, after, renamed, lowerings }) {
   const percent = before ? `−${Math.round(100 - (100 * after) / before)} %` : null;
   return [
-    [interfaces, `interfaces imported, of ${of}`],
-    [functions, "functions of them"],
+    [interfaces, `${plural(interfaces, "interface")} imported, of ${of}`],
+    [functions, `${plural(functions, "function")} of ${plural(interfaces, "it", "them")}`],
     [percent, `adapters: ${bytes(before)} → ${bytes(after)}`, "good"],
-    [renamed, "imports renamed"],
-    [lowerings, "functions in the plan"],
+    [renamed, `${plural(renamed, "import")} renamed`],
+    [lowerings, `${plural(lowerings, "function")} in the plan`],
   ].filter(([number]) => number !== null).map(([number, text, kind]) => made("div", { class: kind ?? null, children: [made("dt", { text }), made("dd", { text: String(number) })] }));
 }
 
-function switchOf({ adapter, list, more }) {
-  const boxes = list.map(({ name, isOn }) => {
-    const box = made("input", { type: "checkbox" });
+/** Of each adapter that was opened: whether all its exports are shown. */
+const opened = new Set();
+
+function switchBoxes({ list, more }) {
+  const boxes = list.map(({ name, key, isOn }) => {
+    const box = made("input", { type: "checkbox", "data-key": `switch ${key}` });
     box.checked = isOn;
-    box.addEventListener("change", () => change({ off: box.checked ? state.off.filter((it) => it !== name) : [...state.off, name] }));
+    box.addEventListener("change", () => change({ switched: { ...state.switched, [key]: box.checked } }));
     return made("label", { class: isOn ? "mono" : "mono off", children: [box, ` ${name}`] });
   });
-  return made("fieldset", { children: [made("legend", { text: adapter }), ...boxes, ...(more ? [`${more} more`] : [])] });
+  return [...boxes, ...(more ? [`${more} more`] : [])];
 }
 
-function downloads({ adapters, record, renamedMain, numbers }) {
-  const kept = adapters.filter((it) => it.bytes).map((it) => [`${it.name}.trimmed.wasm`, it.bytes, "application/wasm"]);
-  if (numbers.renamed) kept.push(["main.renamed.wasm", renamedMain, "application/wasm"]);
-  if (record) kept.push(["record.json", record, "application/json"]);
-  return kept.map(([name, content, type]) => {
-    const save = () => {
-      const url = URL.createObjectURL(new Blob([content], { type }));
-      made("a", { href: url, download: name }).click();
-      setTimeout(() => URL.revokeObjectURL(url), 10000);
-    };
-    return made("button", { type: "button", text: `${name}, ${bytes(content.length)}`, on: { click: save } });
-  });
+function switchesOf({ adapter, list, more, others }) {
+  const parts = [made("legend", { text: adapter }), ...switchBoxes({ list, more })];
+  const count = others.list.length + others.more;
+  if (count) {
+    const rest = made("details", { class: "others", open: opened.has(adapter), children: [made("summary", { text: `${count} more ${plural(count, "export")}, not used`, "data-key": `others ${adapter}` }), ...switchBoxes(others)] });
+    rest.addEventListener("toggle", () => opened[rest.open ? "add" : "delete"](adapter));
+    parts.push(rest);
+  }
+  return made("fieldset", { children: parts });
+}
+
+let urls = [];
+
+/** Links that save what there is. */
+function showDownloads(list) {
+  if (list === null) return;
+  urls.forEach((it) => URL.revokeObjectURL(it));
+  urls = list.map(({ bytes: content, type }) => URL.createObjectURL(new Blob([content], { type })));
+  $("downloads").replaceChildren(...list.map((it, n) => made("a", { class: "button", href: urls[n], download: it.name, text: `${it.name}, ${bytes(it.bytes.length)}`, "data-key": `save ${it.name}` })));
 }
 
 /** Files that are not taken, of what was last dropped. */
 let refused = [];
 
 function showFaults(given) {
-  const faults = [...refused, ...given];
+  const faults = [...refused, ...given], known = JSON.stringify(faults);
   $("fault").hidden = !faults.length;
-  $("faults").replaceChildren(...faults.map(({ text, where, hint }) => made("li", { children: [made("b", { text }), made("span", { class: "mono", text: where }), made("span", { text: hint })] })));
+  // an alert that changes is read out again
+  if (known === lastFaults) return;
+  lastFaults = known;
+  const line = (it) => [made("b", { text: it.title }), made("span", { text: it.hint }), made("span", { class: "mono", text: it.where }), made("span", { class: "mono quiet", text: it.text })];
+  $("faults").replaceChildren(...faults.map((it) => made("li", { children: line(it).filter((part) => part.textContent) })));
+}
+
+function showNotes(notes) {
+  const offer = () => made("button", { type: "button", "data-key": "offer wasi", text: "Use the worlds of WASI", on: { click: useWasi } });
+  $("next").hidden = !notes.length;
+  $("notes").replaceChildren(...notes.map((it) => made("li", { children: [made("span", { text: `${it.text} ${it.also} ` }), ...(it.offer ? [offer()] : [])] })));
 }
 
 function showPaths({ picked, picture: { boxes, more } }) {
   $("title").textContent = picked ? picked.key : "All imports, each by its shortest path";
-  $("says").textContent = picked ? picked.says : "";
-  const pick = (it) => change({ picked: it.title.replace(/ .*/s, "") });
-  $("picture").replaceChildren(...(boxes.length ? [picture(boxes, pick)] : []));
-  $("more").textContent = more ? `${more} more paths are not drawn.` : "";
+  const says = picked ? picked.says : "";
+  if ($("says").textContent !== says) $("says").textContent = says;
+  const draw = () => picture(boxes, (it) => change({ picked: it.title.replace(/ .*/s, "") }), $("picture").clientWidth || Infinity);
+  $("picture").replaceChildren(...(boxes.length ? [draw()] : []));
+  const isWider = $("picture").scrollWidth > $("picture").clientWidth + 1;
+  $("more").textContent = `${more ? `${more} more paths are not drawn. ` : ""}${isWider ? "The picture is wider than its room: scroll it to the imports, or read the paths as text." : ""}`;
   $("paths").replaceChildren(...forest(boxes).all.filter((it) => it.kind === "import").map((it) => made("li", { text: pathOf(it) })));
+  $("paths").parentElement.hidden = !boxes.length;
+  $("functions-shown").hidden = !picked;
+  if (!picked) return;
+  const { list, more: others } = picked.functions, imported = list.filter((it) => it.isImported).length;
+  $("functions-title").textContent = `Its functions: ${imported} of ${list.length} imported${others ? `, and ${others} more` : ""}`;
+  $("functions").replaceChildren(...list.map((it) => made("li", { class: it.isImported ? null : "gone", text: it.isImported ? it.name : `${it.name}, not imported` })));
+}
+
+function statusOf({ main, interfaces, moreInterfaces, numbers, faults }) {
+  if (!main) return "";
+  const found = interfaces.length + moreInterfaces, count = faults.length + refused.length;
+  const parts = [`${numbers.interfaces} ${plural(numbers.interfaces, "interface is", "interfaces are")} imported`];
+  if (state.find) parts.push(`the search finds ${found}`);
+  if (count) parts.push(`there ${plural(count, "is a fault", `are ${count} faults`)}`);
+  return `${parts.join("; ")}.`;
 }
 
 function show(shown) {
+  lastFiles = shown.files;
   $("files").replaceChildren(...shown.files.map(fileLine));
   $("hint").hidden = shown.files.length > 0;
   $("choice").hidden = shown.worlds.length < 2;
   $("world").replaceChildren(...shown.worlds.map((name, n) => made("option", { value: String(n), text: name, selected: n === (state.world ?? shown.world) })));
   showFaults(shown.faults);
+  showNotes(shown.notes);
   for (const id of ["listed", "summary", "shown"]) $(id).hidden = !shown.main;
   for (const id of ["used", "planned", "renamed", "kept"]) $(id).hidden = true;
-  if (!shown.main) return;
+  if (!shown.main) return showDownloads([]);
   $("proved").textContent = shown.isProved ? "by code with a machine-checked proof" : "by a build without its proof";
   $("list").replaceChildren(...listOf(shown.interfaces, shown.moreInterfaces));
   $("numbers").replaceChildren(...numberEntries(shown.numbers));
-  const switches = shown.switches.filter((it) => it.list.length);
-  $("uses").replaceChildren(...switches.map(switchOf));
-  $("used").hidden = !switches.length;
+  $("uses").replaceChildren(...shown.switches.map(switchesOf));
+  $("used").hidden = !shown.switches.length;
+  $("undo").hidden = !Object.keys(state.switched).length;
   showPaths(shown);
   const plan = shown.plan?.list ?? [];
   $("plan").replaceChildren(...plan.map((it) => made("tr", { children: [it.module, it.interface ?? "the world itself", it.name, it.slot ?? "–", it.realloc ?? "–"].map((text) => made("td", { text: String(text) })) })));
+  $("more-plan").textContent = shown.plan?.more ? `${shown.plan.more} more are not shown: the record has them.` : "";
   $("planned").hidden = !plan.length;
   $("renames").replaceChildren(...shown.renames.list.map((it) => made("li", { text: `${it.module} ${it.original} → ${it.name}` })));
+  if (shown.renames.more) $("renames").append(made("li", { text: `${shown.renames.more} more` }));
   $("renamed").hidden = !shown.renames.list.length;
-  $("downloads").replaceChildren(...downloads(shown));
+  showDownloads(shown.downloads);
   $("kept").hidden = !$("downloads").children.length;
+  say(statusOf(shown));
 }
 
 function change(members) {
@@ -203,7 +278,9 @@ function change(members) {
 function takeAway(name) {
   const gone = files.filter((it) => it.name === name).map((it) => it.serial);
   files = files.filter((it) => it.name !== name);
-  change({ gone: [...state.gone, ...gone] });
+  refused = [];
+  const { [name]: _, ...names } = state.names;
+  change({ gone: [...state.gone, ...gone], names, main: state.main === name ? null : state.main, world: name.endsWith(".json") ? null : state.world });
 }
 
 /** Adds files: one of the same name is replaced. */
@@ -213,37 +290,55 @@ function take(list, others = {}) {
   const gone = files.filter((it) => added.some((other) => other.name === it.name)).map((it) => it.serial);
   files = [...files.filter((it) => !gone.includes(it.serial)), ...added];
   given = [...given.filter((it) => !gone.includes(it.serial)), ...(worker ? added : [])];
-  refused = large.map(({ name }) => ({ text: `${name} has more than ${bytes(MOST_BYTES)}`, where: "", hint: "wctrim and wcplan take files of any size." }));
-  change({ ...others, gone: [...state.gone, ...gone] });
+  refused = large.map(({ name }) => ({ title: `${name} has more than ${bytes(MOST_BYTES)}`, text: "", where: "", hint: "wctrim and wcplan take files of any size." }));
+  // other worlds have other numbers
+  const world = added.every((it) => it.name.endsWith(".wasm")) ? state.world : null;
+  change({ world, ...others, gone: [...state.gone, ...gone] });
 }
 
 async function takeFiles(list) {
   document.body.dataset.ready = "no";
-  take(await Promise.all([...list].map(async (it) => ({ name: it.name, content: new Uint8Array(it.size > MOST_BYTES ? MOST_BYTES + 1 : await it.arrayBuffer()) }))));
+  const all = [...list], content = async (it) => new Uint8Array(it.size > MOST_BYTES ? MOST_BYTES + 1 : await it.arrayBuffer());
+  const read = await Promise.allSettled(all.map(async (it) => ({ name: it.name, content: await content(it) })));
+  take(read.filter((it) => it.status === "fulfilled").map((it) => it.value));
+  // a folder is no file
+  const unread = all.filter((_, n) => read[n].status === "rejected");
+  refused.push(...unread.map((it) => ({ title: `${it.name} can't be read`, text: "", where: "", hint: "Drop the files of a folder, and not the folder." })));
 }
 
-async function example() {
+/** Takes files of the page; what can't be loaded is a fault. */
+async function takeOwn(folder, names, others) {
   document.body.dataset.ready = "no";
-  const content = async (name) => {
-    const found = await fetch(new URL(EXAMPLE.folder + name, import.meta.url));
-    if (!found.ok) throw new Error(`${name}: ${found.status} ${found.statusText}`);
-    return { name, content: new Uint8Array(await found.arrayBuffer()) };
-  };
   try {
-    const found = await Promise.all(EXAMPLE.files.map(content));
-    state.gone.push(...files.map((it) => it.serial));
-    files = [];
-    given = [];
-    take(found, { names: EXAMPLE.names, world: EXAMPLE.world, off: [], picked: null, main: null });
+    take(await Promise.all(names.map(async (name) => ({ name, content: await fileOf(folder + name) }))), others());
   } catch (why) {
-    showFaults([{ text: `the example cannot be loaded: ${why.message}`, where: "", hint: "" }]);
+    showFaults([{ title: `${names[0]} can't be loaded`, text: why.message, where: "", hint: "Is the page served with all its files?" }]);
     document.body.dataset.ready = "yes";
   }
 }
 
-$("choose").addEventListener("change", (event) => takeFiles(event.target.files));
+function example() {
+  return takeOwn(EXAMPLE.folder, EXAMPLE.files, () => {
+    const gone = [...state.gone, ...files.map((it) => it.serial)];
+    files = [];
+    given = [];
+    Object.assign(state, { ...NOTHING, gone, find: state.find });
+    return {};
+  });
+}
+
+const useWasi = () => takeOwn("", [WASI], () => ({ world: null }));
+
+$("unstarted").hidden = true;
+$("choose").addEventListener("change", (event) => {
+  takeFiles(event.target.files);
+  // so that the same file can be chosen again
+  event.target.value = "";
+});
 $("example").addEventListener("click", example);
 $("stop").addEventListener("click", () => stop("It was stopped."));
+$("again").addEventListener("click", ask);
+$("undo").addEventListener("click", () => change({ switched: {} }));
 $("find").addEventListener("input", () => change({ find: $("find").value }));
 $("world").addEventListener("change", () => change({ world: Number($("world").value) }));
 addEventListener("dragover", (event) => {
@@ -257,4 +352,4 @@ addEventListener("drop", (event) => {
   takeFiles(event.dataTransfer.files);
 });
 document.body.dataset.ready = "yes";
-if (new URLSearchParams(location.search).has("example")) example();
+if (query.has("example")) example();

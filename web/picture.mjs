@@ -1,8 +1,45 @@
-// A forest of paths as a picture: its roots at the left, imports at the right, one row for each end.
-const SVG = "http://www.w3.org/2000/svg", ROW = 25, HEIGHT = 19, GAP = 26, CHARACTER = 6.7, MOST = 48;
+// A forest of paths as a picture: its roots at the left, each box after the one that leads to it, one row for each end.
+const SVG = "http://www.w3.org/2000/svg", ROW = 25, HEIGHT = 19, GAP = 22, CHARACTER = 6.7, MOST = 48;
+/** How much smaller a picture may be drawn to fit its room. */
+const SMALLEST = 0.8;
 
 /** What fits into a box; the whole is its title. */
 const short = (text) => (text.length <= MOST ? text : `${text.slice(0, MOST - 1)}…`);
+
+const SIGNS = { LT: "<", GT: ">", RF: "&", BP: "*", LP: "(", RP: ")", C: ",", u20: " ", u27: "'", u5b: "[", u5d: "]", u7b: "{", u7d: "}" };
+
+/** A function's name to be read: one that Rust mangled in its older form without that, and without its hash; another as it is. */
+export function readable(name) {
+  const parts = [];
+  if (name.length > 2000) return name;
+  for (let rest = /^_ZN(.*)E$/s.exec(name)?.[1] ?? ""; rest; ) {
+    const digits = /^\d+/.exec(rest)?.[0], length = Number(digits);
+    if (!digits || digits.length + length > rest.length) return name;
+    parts.push(rest.slice(digits.length, digits.length + length));
+    rest = rest.slice(digits.length + length);
+  }
+  if (parts.length > 1 && /^h[0-9a-f]{16}$/.test(parts.at(-1))) parts.pop();
+  if (!parts.length) return name;
+  const whole = (it) => it.replace(/^_(?=\$)/, "").replace(/\$(\w+)\$/g, (sign, of) => SIGNS[of] ?? sign).replace(/\.\./g, "::");
+  return parts.map(whole).join("::");
+}
+
+/** The last two parts of a name that can be read, which say most. */
+export function shortName(name) {
+  const found = readable(name);
+  if (found === name) return name;
+  let plain = found;
+  for (let last = ""; last !== plain; ) [last, plain] = [plain, plain.replace(/<[^<>]*>(?:::)?/g, "")];
+  return plain.split("::").filter(Boolean).slice(-2).join("::") || found;
+}
+
+const KINDS = { method: "", static: "", constructor: "new ", "resource-drop": "drop ", "resource-new": "new ", "resource-rep": "rep " };
+
+/** An import as a box has it: without what a reader can do without; of an interface without its namespace and version. */
+export function shortImport(module, name) {
+  const plain = name.replace(/^\[([a-z-]+)\]/, (whole, kind) => KINDS[kind] ?? whole);
+  return module === null ? plain : `${module.replace(/^[^:/]*:(?=.)/, "").replace(/@[^@/]*$/, "")} ${plain}`;
+}
 
 function element(name, attributes, parent, text) {
   const made = document.createElementNS(SVG, name);
@@ -12,19 +49,16 @@ function element(name, attributes, parent, text) {
   return made;
 }
 
-/** The boxes as a forest: each with the one to its left, those to its right, and its column. */
+/** The boxes as a forest: each with the one to its left, and those to its right. */
 export function forest(boxes) {
   const byId = new Map();
-  let last = 0;
   for (const box of boxes) {
-    const left = byId.get(box.left) ?? null, it = { ...box, left, right: [], column: left ? left.column + 1 : 0 };
+    const left = byId.get(box.left) ?? null, it = { ...box, left, right: [] };
     left?.right.push(it);
     byId.set(box.id, it);
-    last = Math.max(last, it.column);
   }
   const all = [...byId.values()];
-  for (const it of all) if (it.kind === "import") it.column = last;
-  return { all, last, roots: all.filter((it) => !it.left) };
+  return { all, roots: all.filter((it) => !it.left) };
 }
 
 /** The row of each box: an end has one of its own, and another is in the middle of those to its right. */
@@ -52,20 +86,19 @@ export function pathOf(it) {
   return labels.join(" → ");
 }
 
-function draw(it, at, boxes, edges) {
+function draw(it, boxes, edges) {
   if (it.left) {
-    const { from, bend } = at;
-    const curve = `M${from} ${it.left.y}C${bend - GAP / 2} ${it.left.y} ${bend - GAP / 2} ${it.y} ${bend} ${it.y}H${at.x}`;
-    it.edge = element("path", { d: curve }, edges);
+    const from = it.left.x + it.left.width, middle = it.x - GAP / 2;
+    it.edge = element("path", { d: `M${from} ${it.left.y}C${middle} ${it.left.y} ${middle} ${it.y} ${it.x} ${it.y}` }, edges);
   }
   it.box = element("g", { class: `node ${it.kind}` }, boxes);
   element("title", {}, it.box, it.title);
-  element("rect", { x: at.x, y: it.y - HEIGHT / 2, width: at.width, height: HEIGHT, rx: it.kind === "item" ? 4 : 10 }, it.box);
-  element("text", { x: at.x + 8, y: it.y + 4 }, it.box, short(it.label));
+  element("rect", { x: it.x, y: it.y - HEIGHT / 2, width: it.width, height: HEIGHT, rx: it.kind === "item" ? 4 : 10 }, it.box);
+  element("text", { x: it.x + 8, y: it.y + 4 }, it.box, short(it.label));
 }
 
 /** Lights the path to a box while it is pointed at or focused, and picks an import by a click or a key. */
-function listen(svg, it, pick) {
+function listen(svg, it, ends, pick) {
   const light = (on) => {
     svg.classList.toggle("pointed", on);
     for (let at = it; at; at = at.left) {
@@ -76,30 +109,38 @@ function listen(svg, it, pick) {
   for (const name of ["pointerenter", "focus"]) it.box.addEventListener(name, () => light(true));
   for (const name of ["pointerleave", "blur"]) it.box.addEventListener(name, () => light(false));
   if (it.kind !== "import") return;
-  it.box.setAttribute("tabindex", "0");
-  it.box.setAttribute("role", "button");
-  it.box.setAttribute("aria-label", pathOf(it));
+  const set = { tabindex: it === ends[0] ? "0" : "-1", role: "button", "aria-label": pathOf(it), "data-key": `node ${it.id}` };
+  for (const [name, value] of Object.entries(set)) it.box.setAttribute(name, value);
+  // one box is a stop of the Tab key: that which had the focus last
+  it.box.addEventListener("focus", () => {
+    for (const other of ends) other.box.setAttribute("tabindex", other === it ? "0" : "-1");
+  });
   it.box.addEventListener("click", () => pick(it));
   it.box.addEventListener("keydown", (event) => {
-    if (event.key !== "Enter" && event.key !== " ") return;
+    const at = ends.indexOf(it), to = { ArrowDown: at + 1, ArrowUp: at - 1, Home: 0, End: ends.length - 1 }[event.key];
+    if (to === undefined && event.key !== "Enter" && event.key !== " ") return;
     event.preventDefault();
-    pick(it);
+    if (to === undefined) pick(it);
+    else ends[to]?.box.focus();
   });
 }
 
-/** The picture of boxes `{ id, left, label, title, kind }`, each after the one to its left. */
-export function picture(boxes, pick) {
-  const { all, last, roots } = forest(boxes), widths = Array.from({ length: last + 1 }, () => 0);
-  for (const it of all) widths[it.column] = Math.max(widths[it.column], short(it.label).length * CHARACTER + 16);
-  const lefts = [4];
-  widths.forEach((width, n) => lefts.push(lefts[n] + width + GAP));
-  const rows = placeRows(roots), width = lefts.at(-1) - GAP + 8, height = Math.max(1, rows) * ROW + 6;
-  const svg = element("svg", { viewBox: `0 0 ${width} ${height}`, width, height, role: "group", "aria-label": "Paths from the main module to imports" });
-  const edges = element("g", { class: "edges", "aria-hidden": "true" }, svg), nodes = element("g", {}, svg);
+/** The picture of boxes `{ id, left, label, title, kind }`, each after the one to its left, in a room so wide. */
+export function picture(boxes, pick, room = Infinity) {
+  const { all, roots } = forest(boxes), rows = placeRows(roots), height = Math.max(1, rows) * ROW + 6;
+  let width = 0;
   for (const it of all) {
-    const from = it.left ? lefts[it.left.column] + widths[it.left.column] : 0;
-    draw(it, { x: lefts[it.column], width: widths[it.column], from, bend: from + GAP }, nodes, edges);
-    listen(svg, it, pick);
+    it.x = it.left ? it.left.x + it.left.width + GAP : 4;
+    it.width = short(it.label).length * CHARACTER + 16;
+    width = Math.max(width, it.x + it.width + 8);
+  }
+  const scale = Math.max(SMALLEST, Math.min(1, room / width));
+  const svg = element("svg", { viewBox: `0 0 ${width} ${height}`, width: width * scale, height: height * scale, role: "group", "aria-label": "Paths from the main module to imports" });
+  const edges = element("g", { class: "edges", "aria-hidden": "true" }, svg), nodes = element("g", {}, svg);
+  const ends = all.filter((it) => it.kind === "import").sort((a, b) => a.y - b.y);
+  for (const it of all) {
+    draw(it, nodes, edges);
+    listen(svg, it, ends, pick);
   }
   return svg;
 }

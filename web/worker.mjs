@@ -1,30 +1,33 @@
 // Computes what the page shows, in a thread of its own: whatever the modules are, the page can stop it.
-import { compute, readFile, view } from "./answers.mjs";
+import { compute, downloadsOf, readFile, view } from "./answers.mjs";
 import { Nuigatre } from "./nuigatre.mjs";
 
 let library = null, files = [], found = null, known = "";
 
-/** Computes anew where what it depends on is another. */
+/** Computes anew where what it depends on is another; whether it did. */
 function computed(state) {
-  const key = JSON.stringify([state.off, state.main, state.names, state.world, files.map((it) => it.serial)]);
-  if (key !== known) {
-    found = compute(library, files, state);
-    known = key;
-  }
-  return found;
+  const key = JSON.stringify([state.switched, state.main, state.names, state.world, files.map((it) => it.serial)]);
+  if (key === known) return false;
+  // what failed is computed again
+  known = "";
+  found = compute(library, files, state);
+  known = key;
+  return true;
 }
 
-async function answer({ given, state }) {
-  library ??= await Nuigatre.load(undefined, { memoryLimit: 2 ** 30 });
+async function answer({ given, state, wasm, memoryLimit }) {
+  library ??= await Nuigatre.load(wasm ?? undefined, { memoryLimit });
   for (const { name, bytes, serial } of given ?? []) {
     files = files.filter((it) => it.name !== name);
     // one file of worlds is taken, the last one
-    const file = { ...readFile(name, bytes), serial };
+    const file = { ...readFile(library, name, bytes), serial };
     if (file.text !== undefined) files = files.filter((it) => it.text === undefined);
     files.push(file);
   }
   files = files.filter((it) => !state.gone.includes(it.serial));
-  return { ...view(computed(state), state), isProved: library.isProved, memory: library.memory };
+  const isNew = computed(state);
+  // what can be saved is sent once
+  return { ...view(found, state), isProved: library.isProved, memory: library.memory, downloads: isNew ? downloadsOf(found) : null };
 }
 
 onmessage = async ({ data }) => {

@@ -17,13 +17,15 @@
 #include <string.h>
 #include <sys/mman.h>
 
-#define CALLS 8
+#define CALLS 9
 #define STATUSES 6
 #define PAGE 4096u
 // what an arena has room for
 #define ROOM (1u << 20)
 
-static const char *const names_of_calls[CALLS] = {"dedupe", "trim", "why", "world", "plan", "validate", "planned_world", "scan"};
+static const char *const names_of_calls[CALLS] = {
+    "dedupe", "trim", "why", "world", "plan", "validate", "planned_world", "scan", "paths",
+};
 
 // The heap: the blocks that are held, and which allocation fails.
 
@@ -226,11 +228,14 @@ static buffer message_of(const example *of, buffer worlds, const size_t lengths[
 }
 
 // The number of a call on bytes, for nuigatre_fault_text; negative for other calls.
-static int number_of(size_t call) { return call < 3 ? (int)call : call == 7 ? NUIGATRE_SCAN_CALL : -1; }
+static int number_of(size_t call) {
+    return call < 3 ? (int)call : call == 7 ? NUIGATRE_SCAN_CALL : call == 8 ? NUIGATRE_PATHS_CALL : -1;
+}
 
 static question make_question(const example *of) {
-    // those of the adapter of examples/wcplan, and none
+    // those of the adapter of examples/wcplan, and none; and what asks for its imports
     static const char *const exports[] = {"length_of", "read_text", "is-ready", "length_of", "read_text", ""};
+    static const char *const imports[] = {"__main_module__", "env=memory", "notes:store/notes", "=", "other"};
     question made;
     memset(&made, 0, sizeof made);
     made.call = below(CALLS);
@@ -245,7 +250,9 @@ static question make_question(const example *of) {
         made.modules = copy_of(modules[1].bytes, modules[1].length);
         made.name_count = below(4);
         for (size_t at = 0; at < made.name_count; at++) {
-            made.names[at] = text_of(exports[below(sizeof exports / sizeof *exports)]);
+            bool asks = made.call == 8 && at > 0;
+            made.names[at] = text_of(asks ? imports[below(sizeof imports / sizeof *imports)]
+                                          : exports[below(sizeof exports / sizeof *exports)]);
             if (one_in(8)) damage_bytes(&made.names[at]);
         }
     } else {
@@ -309,6 +316,12 @@ static nuigatre_answer ask(const question *of, size_t room) {
         return nuigatre_planned_world(seed0, seed1, message, message_length, modules, modules_length, out, room);
     case 7:
         return nuigatre_scan(modules, modules_length, out, room);
+    case 8: {
+        // the first name is that of an export, unless there are three
+        size_t exports_length = of->name_count % 3 > 0 ? 1 : 0;
+        return nuigatre_paths(seed0, seed1, modules, modules_length, required, exports_length, required + exports_length,
+                              of->name_count - exports_length, out, room);
+    }
     default:
         return nuigatre_validate(seed0, seed1, message, message_length, modules, modules_length, of->has_name, name,
                                  name_length, out, room);
@@ -335,7 +348,7 @@ static const char *wrong_by_itself(size_t call, nuigatre_answer a, size_t room) 
     if (!has_bytes && a.status != NUIGATRE_FAULT && a.length != 0) return "a length of an answer without bytes";
     if (a.module_length > a.length) return "more modules than bytes";
     if (a.status == NUIGATRE_SAME && call != 0) return "the same of another call";
-    if (call > 2 && a.position > a.length) return "a text that is longer than all";
+    if (number_of(call) < 0 && a.position > a.length) return "a text that is longer than all";
     return NULL;
 }
 

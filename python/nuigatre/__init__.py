@@ -22,7 +22,7 @@ from ._calls import FAULTS, NUMBERS, STATUSES
 from ._library import ROOM, Answer, NoLibrary, asked, is_proved
 
 __all__ = ["Adapter", "BadArgument", "Chains", "Error", "Fault", "Function", "Item", "NoLibrary", "OutOfMemory", "Rename", "World",
-           "dedupe", "fault_text", "is_proved", "plan", "planned_world", "scan", "trim", "validate", "validated_module", "why", "world"]
+           "dedupe", "fault_text", "is_proved", "paths", "plan", "planned_world", "scan", "trim", "validate", "validated_module", "why", "world"]
 
 # what a message begins with: the worlds come next
 HEAD = b'{"resolve":'
@@ -48,7 +48,7 @@ class Fault(Error):
         added
     :ivar text: the fault's text, as ``World: Main: MissingWorldExport``
     :ivar place: what the fault is about, as the import or the byte, an object whose ``kind`` says what it is; or None
-    :ivar missing: of ``trim`` and ``why``, the name of the export that the adapter lacks; else None
+    :ivar missing: of ``trim``, ``why`` and ``paths``, the name of the export that the module lacks; else None
     """
 
     def __init__(self, call: str, number: int, text: str, place: dict[str, Any] | None, missing: str | None) -> None:
@@ -196,6 +196,21 @@ def scan(wasm: Bytes) -> dict[str, Any]:
     return found
 
 
+def paths(wasm: Bytes, exports: Iterable[str] = (), imports: Iterable[str] = ()) -> list[dict[str, Any]]:
+    """The paths to the imports of a module, main modules too: of each the shortest, and of several the first.
+
+    :param exports: the exports at which paths may begin; all, if there are none. They may begin at the start function too; and
+        only where none of these leads to an import, at what an active segment fills.
+    :param imports: what asks for imports: ``MODULE``, with its version or without, or ``MODULE=NAME``; all, if there are none
+    :return: the paths, in the order of the imports, without those to which none leads. Each has ``interface``, which is the
+        import's module, ``name``, and ``steps``, whose first is where the path begins: its ``kind`` is ``export``, ``start`` or
+        ``fills``. The others are items, with ``space``, ``index`` and the ``name`` of a function, or None.
+    """
+    given = {"wasm": bytes(wasm), "exports": _names(exports), "imports": _names(imports)}
+    found: list[dict[str, Any]] = json.loads(call("paths", given).content)["ways"]
+    return found
+
+
 def world(worlds: Worlds, world: str | int, main: Bytes, adapters: Iterable[Adapter] = (), **options: Any) -> World:
     """Makes the world of a component.
 
@@ -245,7 +260,7 @@ def validated_module(worlds: Worlds, world: str | int, main: Bytes, adapters: It
 
 
 def fault_text(call: str, number: int) -> str | None:
-    """The text of a fault of ``dedupe``, ``trim``, ``why`` or ``scan`` by its number; None if there is none."""
+    """The text of a fault of ``dedupe``, ``trim``, ``why``, ``scan`` or ``paths`` by its number; None if there is none."""
     answer = asked("fault_text", {"call": NUMBERS[call], "number": _within(number, 32)})
     if answer.status == STATUSES["MEMORY"]:
         raise OutOfMemory("out of memory")
@@ -271,9 +286,10 @@ def _fault(name: str, given: dict[str, Any], answer: Answer) -> Fault:
     if place and place["kind"] == "json-byte":
         # a byte of the message is one of the worlds, which are its first member
         place["byte"] -= len(HEAD)
-    # of an export that is missing the answer has the position among the required ones
-    is_missing = name in NUMBERS and "required" in given and answer.fault == FAULTS["gc"]["MISSING_EXPORT"]
-    return Fault(name, answer.fault, text or "", place, given["required"][answer.position].decode() if is_missing else None)
+    # of an export that is missing the answer has the position among the names that are passed
+    names = given.get("required", given.get("exports"))
+    is_missing = name in NUMBERS and names is not None and answer.fault == FAULTS["gc"]["MISSING_EXPORT"]
+    return Fault(name, answer.fault, text or "", place, names[answer.position].decode() if names and is_missing else None)
 
 
 def _within(number: int, bits: int) -> int:

@@ -5,7 +5,7 @@ from __future__ import annotations
 from typing import Any
 
 # the number that nuigatre_abi has to answer
-ABI = 8
+ABI = 9
 
 # the fields of an answer
 ANSWER = [["status", "uint32_t"], ["fault", "uint32_t"], ["length", "size_t"], ["module_length", "size_t"], ["position", "size_t"]]
@@ -27,6 +27,7 @@ NUMBERS = {
     "trim": 1,
     "why": 2,
     "scan": 3,
+    "paths": 4,
 }
 
 # the calls, without `nuigatre_`: the parameters with what each is, and the result
@@ -40,6 +41,7 @@ CALLS: dict[str, Any] = {
     "validate": {"parameters": [["seed0", "u64"], ["seed1", "u64"], ["message", "bytes"], ["modules", "bytes"], ["has_adapter", "bool"], ["adapter", "bytes"], ["out", "out"]], "result": "answer"},
     "validated_module": {"parameters": [["seed0", "u64"], ["seed1", "u64"], ["message", "bytes"], ["modules", "bytes"], ["has_adapter", "bool"], ["adapter", "bytes"], ["required", "bytes"], ["out", "out"]], "result": "answer"},
     "scan": {"parameters": [["wasm", "bytes"], ["out", "out"]], "result": "answer"},
+    "paths": {"parameters": [["seed0", "u64"], ["seed1", "u64"], ["wasm", "bytes"], ["exports", "slices"], ["imports", "slices"], ["out", "out"]], "result": "answer"},
     "fault_text": {"parameters": [["call", "u32"], ["number", "u32"], ["out", "out"]], "result": "answer"},
     "abi": {"parameters": [], "result": "u32"},
 }

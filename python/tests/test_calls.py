@@ -74,6 +74,28 @@ def test_scan_lists_imports_and_exports_of_each_kind_and_names_of_functions():
         "scan", 3, {"kind": "bytes", "adapter": None, "offset": 12, "section": None})
 
 
+# `f` of `a:b/c@1.0.0` is called by function 2, `telemetry`, which stands in a table; function 1, the export `run`, does nothing
+TABLE = bytes.fromhex(
+    "0061736d010000000104016000000211010b613a622f6340312e302e300166000003030200000404017000040707010372756e0001090701"
+    "0041010b01020a090202000b040010000b0013046e616d65010c01020974656c656d65747279")
+
+
+def test_paths_lead_to_the_imports_of_main_modules_with_names():
+    steps = [{"kind": "fills", "space": "table", "index": 0},
+             {"kind": "item", "space": "elem", "index": 0, "name": None},
+             {"kind": "item", "space": "func", "index": 2, "name": "telemetry"},
+             {"kind": "item", "space": "func", "index": 0, "name": None}]
+    ways = [{"interface": "a:b/c@1.0.0", "name": "f", "steps": steps}]
+    assert nuigatre.paths(TABLE) == ways
+    assert nuigatre.paths(TABLE, exports=["run"], imports=["a:b/c"]) == ways
+    assert nuigatre.paths(TABLE, imports=["a:b/c@1.0.0=g"]) == []
+    with pytest.raises(Fault, match="^adapter module does not have export `other`$") as missing:
+        nuigatre.paths(TABLE, exports=["run", "other"])
+    assert (missing.value.call, missing.value.number, missing.value.missing) == ("paths", 2, "other")
+    with pytest.raises(BadArgument):
+        nuigatre.paths(TABLE, imports=["\ud800"])
+
+
 def test_a_world_and_its_plan_are_those_of_the_examples(examples, notes):
     made = nuigatre.planned_world(*notes())
     assert made.main == examples("wcplan/main.wasm")
@@ -168,6 +190,7 @@ def test_damaged_modules_and_messages_end_each_call(examples, notes):
                  lambda: nuigatre.trim(wasm, required, realloc=drawn.choice([None, "cabi_realloc"]), page_size_log2=drawn.randint(0, 17)),
                  lambda: nuigatre.why(wasm, required),
                  lambda: nuigatre.scan(wasm),
+                 lambda: nuigatre.paths(wasm, drawn.choice([[], required]), drawn.choice([[], ["__main_module__", "env=memory"]])),
                  lambda: nuigatre.planned_world(*notes(worlds, wasm if drawn.random() < 0.3 else None))]
         for call in calls:
             try:

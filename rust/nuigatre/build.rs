@@ -1,12 +1,16 @@
-//! Links `libnuigatre.a`, or `libnuigatre8.a`, with the number of the form: that of the folder `NUIGATRE_LIB_DIR`; else the one that `rt lib` makes in `crates/nuigatre`;
-//! else the one that `rust/check --unproved` makes. One that is missing, or whose calls have another form than this crate
-//! knows, is an error that says what makes it; one that is older than its sources, or not proved, is a warning. Where
-//! `DOCS_RS` is set nothing is linked, so `cargo doc` needs none.
+//! Links `libnuigatre.a`, or the one beside it that has the number of the form in its name: that of the folder
+//! `NUIGATRE_LIB_DIR`; else the one that a checkout of the repository made, proved (`rust/check`) or not (`rust/check
+//! --unproved`); else the one that comes with this package, packed, in `lib`. One that is missing, is for another processor,
+//! or whose calls have another form than this crate knows, is an error that says what makes it; one that is older than its
+//! sources, or not proved, is a warning. Where `DOCS_RS` is set nothing is linked, so `cargo doc` needs none.
 
 use std::collections::BTreeSet;
 use std::path::{Path, PathBuf};
 use std::time::SystemTime;
-use std::{env, fs};
+use std::{env, fs, str};
+
+#[path = "build/gzip.rs"]
+mod gzip;
 
 const ARCHIVE: &str = "libnuigatre.a";
 
@@ -22,21 +26,25 @@ const CALLS: &str = include_str!("src/ffi.rs");
 /// What a library is made of, in the folder of each of its crates.
 const PARTS: [&str; 3] = ["src", "specs", "proofs"];
 
+/// The processors for which a library can be made, with the numbers that object files have for them.
+const PROCESSORS: [(&str, u16); 2] = [("x86_64", 62), ("aarch64", 183)];
+
 fn main() {
     println!("cargo::rerun-if-env-changed=NUIGATRE_LIB_DIR");
     println!("cargo::rerun-if-env-changed=DOCS_RS");
     if env::var_os("DOCS_RS").is_some() {
         return;
     }
-    if !is_supported() {
+    let Some((processor, machine)) = processor() else {
         println!(
-            "cargo::warning=libnuigatre.a is for 64-bit Linux on x86: no program can be linked for {}",
+            "cargo::warning=libnuigatre.a is for 64-bit Linux on x86 and on Arm: no program can be linked for {}",
             env::var("TARGET").unwrap_or_default()
         );
         return;
-    }
+    };
     let checkout = checkout();
-    let Some(folder) = folder(checkout.as_deref()) else {
+    let how = how_to_make(checkout.as_deref(), processor);
+    let Some(folder) = folder(checkout.as_deref(), processor, &how) else {
         return;
     };
     // of the libraries of several forms in one folder, for versions of this crate in one program, the one of this form
@@ -48,14 +56,17 @@ fn main() {
         "nuigatre".to_owned()
     };
     let archive = folder.join(format!("lib{name}.a"));
-    println!("cargo::rerun-if-changed={}", archive.display());
-    let how = how_to_make(checkout.as_deref());
+    // what this script writes itself would be newer each time
+    if env::var_os("OUT_DIR").is_none_or(|out| folder != Path::new(&out)) {
+        println!("cargo::rerun-if-changed={}", archive.display());
+    }
     let Ok(bytes) = fs::read(&archive) else {
         println!("cargo::error={} is missing: {how}", archive.display());
         return;
     };
+    report_machine(&archive, &bytes, machine, &how);
     report_form(&archive, &bytes, &how);
-    if let Some(checkout) = checkout.filter(|checkout| archive.starts_with(checkout)) {
+    if let Some(checkout) = checkout.filter(|checkout| is_made_in(&archive, checkout)) {
         report_age(&archive, &checkout, &how);
     }
     if forms(&bytes, UNPROVED).next().is_some() {
@@ -69,23 +80,41 @@ fn main() {
 }
 
 /// What makes the library: the scripts of the checkout that this is in, or of any of this version.
-fn how_to_make(checkout: Option<&Path>) -> String {
-    let (folder, where_to) = match checkout {
-        Some(checkout) => (checkout.join("rust"), ""),
+fn how_to_make(checkout: Option<&Path>, processor: &str) -> String {
+    let (top, where_to) = match checkout {
+        Some(checkout) => (checkout, ""),
         None => (
-            PathBuf::from("rust"),
+            Path::new(""),
             " in a checkout of this version; set NUIGATRE_LIB_DIR to the folder that has it",
         ),
     };
+    if processor != "x86_64" {
+        return format!(
+            "`{} {processor}` makes it over what `rt ci` proved (crates/nuigatre/out/{processor}/{ARCHIVE}){where_to}",
+            top.join("tools/targets.py").display()
+        );
+    }
     format!(
         "`{}` makes it in some minutes, without its proof (rust/unproved/{ARCHIVE}), and `{}` proves it \
          (crates/nuigatre/out/{ARCHIVE}){where_to}",
-        folder.join("build-unproved.py").display(),
-        folder.join("check").display()
+        top.join("rust/build-unproved.py").display(),
+        top.join("rust/check").display()
     )
 }
 
-/// The numbers of forms that symbols with this end have, as `nuigatre8_abi`; `None` for one without a number.
+/// Refuses a library for another processor, by the first object file that is in it.
+fn report_machine(archive: &Path, bytes: &[u8], machine: u16, how: &str) {
+    let object = bytes.windows(4).position(|at| at == b"\x7fELF");
+    let number = object.and_then(|at| bytes.get(at + 18..at + 20));
+    if number.is_some_and(|number| number != machine.to_le_bytes()) {
+        println!(
+            "cargo::error={} is for another processor: {how}",
+            archive.display()
+        );
+    }
+}
+
+/// The numbers of forms that symbols with this end have, as `nuigatre9_abi`; `None` for one without a number.
 fn forms<'a>(bytes: &'a [u8], end: &'a [u8]) -> impl Iterator<Item = Option<u32>> + 'a {
     const NAME: &[u8] = b"nuigatre";
     let starts = bytes
@@ -196,16 +225,26 @@ fn checkout() -> Option<PathBuf> {
         .then(|| checkout.to_owned())
 }
 
-/// Whether the library can be linked for the target.
-fn is_supported() -> bool {
+/// The processor that the library is to be linked for, if there can be one: its name, and the number of its object files.
+fn processor() -> Option<(&'static str, u16)> {
     let is = |name: &str, value: &str| env::var(name).is_ok_and(|it| it == value);
-    is("CARGO_CFG_TARGET_OS", "linux")
-        && is("CARGO_CFG_TARGET_ARCH", "x86_64")
+    let is_supported = is("CARGO_CFG_TARGET_OS", "linux")
         && is("CARGO_CFG_TARGET_POINTER_WIDTH", "64")
+        && is("CARGO_CFG_TARGET_ENDIAN", "little");
+    PROCESSORS
+        .into_iter()
+        .find(|it| is_supported && is("CARGO_CFG_TARGET_ARCH", it.0))
 }
 
-/// The folder of the library; `None` where there is none to look into.
-fn folder(checkout: Option<&Path>) -> Option<PathBuf> {
+/// Whether the checkout made a library itself: what comes with the package was made of the sources of its version.
+fn is_made_in(archive: &Path, checkout: &Path) -> bool {
+    let made = ["crates", "rust/unproved"];
+    made.iter()
+        .any(|folder| archive.starts_with(checkout.join(folder)))
+}
+
+/// The folder of the library; `None` where there is no library.
+fn folder(checkout: Option<&Path>, processor: &str, how: &str) -> Option<PathBuf> {
     if let Some(folder) = env::var_os("NUIGATRE_LIB_DIR") {
         let folder = PathBuf::from(folder);
         if folder.is_absolute() {
@@ -219,15 +258,38 @@ fn folder(checkout: Option<&Path>) -> Option<PathBuf> {
         );
         return None;
     }
-    let Some(checkout) = checkout else {
-        println!("cargo::error={ARCHIVE} is missing: {}", how_to_make(None));
+    let mut folders = Vec::new();
+    if let Some(checkout) = checkout {
+        let made = checkout.join("crates/nuigatre/out");
+        if processor == "x86_64" {
+            folders.extend([made.clone(), checkout.join("rust/unproved")]);
+        }
+        folders.push(made.join(processor));
+    }
+    let found = folders.into_iter().find(|it| it.join(ARCHIVE).is_file());
+    found.or_else(|| unpacked(processor, how))
+}
+
+/// The folder in which the library that comes with the package is unpacked; `None` where there is none, or it is damaged.
+fn unpacked(processor: &str, how: &str) -> Option<PathBuf> {
+    let package = PathBuf::from(env::var_os("CARGO_MANIFEST_DIR")?);
+    let packed = package.join(format!("lib/{processor}-unknown-linux-gnu/{ARCHIVE}.gz"));
+    let Ok(file) = fs::read(&packed) else {
+        println!("cargo::error={ARCHIVE} is missing: {how}");
         return None;
     };
-    let [unproved, proved] = ["rust/unproved", "crates/nuigatre/out"].map(|it| checkout.join(it));
-    let is_there = |folder: &Path| folder.join(ARCHIVE).is_file();
-    Some(if is_there(&unproved) && !is_there(&proved) {
-        unproved
-    } else {
-        proved
-    })
+    println!("cargo::rerun-if-changed={}", packed.display());
+    let Some(bytes) = gzip::unpacked(&file) else {
+        println!("cargo::error={} is damaged: {how}", packed.display());
+        return None;
+    };
+    let folder = PathBuf::from(env::var_os("OUT_DIR")?);
+    if let Err(why) = fs::write(folder.join(ARCHIVE), bytes) {
+        println!(
+            "cargo::error={} can't be written: {why}",
+            folder.join(ARCHIVE).display()
+        );
+        return None;
+    }
+    Some(folder)
 }

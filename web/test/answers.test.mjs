@@ -2,73 +2,152 @@
 import assert from "node:assert/strict";
 import { readFileSync } from "node:fs";
 import test from "node:test";
-import { compute, faultView, MOST, readFile, rolesOf, view } from "../answers.mjs";
+import { compute, downloadsOf, faultView, MOST, readFile, rolesOf, view, worldsIn } from "../answers.mjs";
+import { CALLS, FAULTS } from "../calls.mjs";
+import { faultsOf, HINTS, hintOf, placeOf } from "../hints.mjs";
 import { Nuigatre } from "../nuigatre.mjs";
 import { damaged, numbers } from "./damage.mjs";
-import { forest, pathOf } from "../picture.mjs";
+import { forest, pathOf, readable, shortName } from "../picture.mjs";
 
 const library = await Nuigatre.load();
-const file = (name, bytes = readFileSync(new URL("../../examples/wcplan/" + name, import.meta.url))) => readFile(name, new Uint8Array(bytes));
+const example = (name) => readFileSync(new URL("../../examples/" + name, import.meta.url));
+const file = (name, bytes = example("wcplan/" + name)) => readFile(library, name, new Uint8Array(bytes));
 const files = () => ["main.wasm", "adapter.wasm", "notes.json"].map((it) => file(it));
-const names = { "adapter.wasm": "old-notes" };
-const shown = (list, state = {}) => view(compute(library, list, { names, ...state }), state);
+const shown = (list, state = {}, over = library) => view(compute(over, list, state), state);
 const paths = ({ picture }) => forest(picture.boxes).all.filter((it) => it.kind === "import").map(pathOf);
+/** The main module, and its function, where the library follows it. */
+const program = "paths" in CALLS ? "main.wasm → print" : "main.wasm";
+const header = [0, 0x61, 0x73, 0x6d, 1, 0, 0, 0];
 
-test("roles are what modules import of each other, or what is chosen", () => {
-  const { main, adapters, worlds } = rolesOf(files(), { names });
-  assert.deepEqual([main.name, adapters.map((it) => it.name), worlds.name], ["main.wasm", ["old-notes"], "notes.json"]);
-  assert.equal(rolesOf(files(), { names, main: "adapter.wasm" }).main.name, "adapter.wasm");
-  assert.equal(rolesOf([]).main, undefined);
+test("roles and names are what modules import of each other, or what is chosen", () => {
+  const of = (list, state) => {
+    const { main, adapters, worlds } = rolesOf(list, state);
+    return [main?.name, adapters.map((it) => it.name), worlds?.name];
+  };
+  assert.deepEqual(of(files()), ["main.wasm", ["old-notes"], "notes.json"]);
+  assert.deepEqual(of(files().reverse()), ["main.wasm", ["old-notes"], "notes.json"]);
+  assert.deepEqual(of(files(), { names: { "adapter.wasm": "other" } }), ["main.wasm", ["other"], "notes.json"]);
+  assert.deepEqual(of(files(), { main: "adapter.wasm" }), ["adapter.wasm", ["main"], "notes.json"]);
+  assert.deepEqual(of([file("old-notes.v2.wasm", example("wcplan/adapter.wasm")), files()[0]]), ["main.wasm", ["old-notes"], undefined]);
+  assert.deepEqual(of([]), [undefined, [], undefined]);
 });
 
 test("with worlds there are exact sizes and a plan, and an adapter is found for each export that the main module lacks", () => {
-  const found = shown(files(), { world: 2, picked: "my:notes/store@1.2.0" });
-  assert.deepEqual(found.faults, []);
+  const found = shown(files(), { picked: "my:notes/store@1.2.0" });
+  assert.deepEqual([found.faults, found.notes], [[], []]);
+  // the largest world, which includes the others
+  assert.deepEqual([found.world, found.worlds], [2, ["guest", "old-notes", "app"]]);
   assert.deepEqual([found.numbers.before, found.numbers.after, found.numbers.lowerings], [512, 317, 4]);
-  assert.deepEqual(found.switches[0].list.map((it) => it.name).sort(), ["cabi_import_realloc", "is-ready", "length_of"]);
-  assert.equal(found.picked.says, "main.wasm imports it itself, and length_of of an adapter reach it too.");
-  assert.ok(paths(found).includes("main.wasm → length_of → my:notes/store@1.2.0 summarize"));
+  assert.deepEqual(found.switches[0].list.map((it) => it.name), ["length_of", "cabi_import_realloc", "is-ready"]);
+  assert.equal(found.picked.says, "main.wasm imports it itself, and length_of of an adapter reaches it too.");
+  assert.ok(paths(found).includes(`${program} → length_of → my:notes/store@1.2.0 summarize`));
   assert.deepEqual(found.plan.list.map((it) => it.slot), [0, 1, 2, 3]);
+  assert.deepEqual(worldsIn("{"), []);
 });
 
-test("without worlds what the main module imports is used", () => {
+test("without worlds what the main module imports is used, and other core modules are no interfaces", () => {
   const found = shown(files().slice(0, 2));
   assert.deepEqual(found.switches[0].list.map((it) => it.name), ["length_of"]);
-  assert.equal(found.plan, null);
+  assert.deepEqual([found.plan, found.interfaces.map((it) => it.key)], [null, ["my:notes/store@1.2.0"]]);
 });
 
-test("an export that is taken away takes its imports and bytes with it", () => {
-  const all = shown(files(), { world: 2 }), without = shown(files(), { world: 2, off: ["length_of"] });
+test("functions of an adapter have their names", () => {
+  const name = (text) => [text.length, ...Buffer.from(text)], section = (id, ...content) => [id, content.length, ...content], type = section(1, 1, 0x60, 0, 0);
+  // `run` calls `go`, which calls the import
+  const code = section(10, 2, 4, 0, 0x10, 0, 0x0b, 4, 0, 0x10, 1, 0x0b), names = section(0, ...name("name"), 1, 5, 1, 1, ...name("go"));
+  const adapter = [...header, ...type, ...section(2, 1, ...name("a:b/c"), ...name("f"), 0, 0), ...section(3, 2, 0, 0), ...section(7, 1, ...name("run"), 0, 2), ...code, ...names];
+  const found = shown([file("app.wasm", [...header, ...type, ...section(2, 1, ...name("old"), ...name("run"), 0, 0)]), file("old.wasm", adapter)]);
+  assert.deepEqual(paths(found), ["app.wasm → run → go → a:b/c f"]);
+  assert.equal(found.picture.boxes.find((it) => it.kind === "item").title, "func 1, go of old");
+});
+
+test("an export that is taken away takes its imports and bytes with it, and another brings its own", () => {
+  const off = (...list) => ({ switched: Object.fromEntries(list.map((it) => [`old-notes ${it}`, false])) });
+  const all = shown(files()), without = shown(files(), off("length_of"));
   assert.ok(without.numbers.after < all.numbers.after && without.numbers.functions < all.numbers.functions);
   assert.ok(!paths(without).some((it) => it.includes("length_of")));
-  const none = shown(files(), { world: 2, off: ["length_of", "is-ready", "cabi_import_realloc"] });
-  assert.equal(none.numbers.after, 0);
+  assert.equal(shown(files(), off("length_of", "is-ready", "cabi_import_realloc")).numbers.after, 0);
+  const [{ others }] = all.switches, more = shown(files(), { switched: { [others.list[0].key]: true }, picked: "my:notes/store@1.2.0" });
+  assert.ok(!others.list[0].isOn && more.switches[0].others.list[0].isOn && more.numbers.after > all.numbers.after);
+});
+
+test("what can be saved has the bytes of the examples", () => {
+  const kept = downloadsOf(compute(library, files()));
+  assert.deepEqual(kept.map((it) => it.name), ["old-notes.trimmed.wasm", "record.json"]);
+  assert.equal(Buffer.compare(kept[0].bytes, example("wcplan/trimmed.wasm")), 0);
+  assert.equal(JSON.parse(new TextDecoder().decode(kept[1].bytes)).plan.length, 4);
 });
 
 test("a search finds interfaces and functions", () => {
   assert.deepEqual(["SUMMARIZE", "store", "other"].map((find) => shown(files(), { find }).interfaces.length), [1, 1, 0]);
 });
 
-test("faults have a place and what to do, and leave the rest", () => {
-  const cut = file("adapter.wasm", readFileSync(new URL("../../examples/wcplan/adapter.wasm", import.meta.url)).subarray(0, 100));
-  const refused = shown([files()[0], cut]);
-  assert.match(refused.faults[0].text, /^adapter\.wasm: /);
-  assert.equal(refused.main, "main.wasm");
+test("what is to be done next is said: the program, an adapter or its name, the worlds", () => {
+  const [main, adapter, worlds] = files(), notes = (list, state) => shown(list, state).notes.map((it) => it.text);
+  assert.deepEqual(notes([main, adapter, worlds]), []);
+  assert.match(notes([main])[0], /^Drop the adapter old-notes too, if it is one: main\.wasm imports 1 function /);
+  assert.match(notes([main, adapter])[0], /^Drop the worlds/);
+  assert.match(notes([main, adapter], { names: { "adapter.wasm": "other" } })[1], /^Give adapter\.wasm the name .* but of old-notes\./);
+  assert.match(notes([adapter])[0], /^Drop your program too/);
+  assert.match(notes([main, worlds]).at(-1), /^Mend the fault above first/);
+  assert.match(notes([file("empty.wasm", header)])[0], /^Nothing is to be done/);
+});
+
+test("faults say what they mean, in which file and where, and what to do, and leave the rest", () => {
+  const refused = shown([files()[0], file("adapter.wasm", example("wcplan/adapter.wasm").subarray(0, 100))]);
+  assert.equal(refused.faults[0].title, "adapter.wasm: The module ends inside an item.");
+  assert.match(refused.faults[0].where, /^byte 100$/);
+  assert.deepEqual([refused.faults[0].text, refused.main], ["Truncated", "main.wasm"]);
+  const component = shown([file("app.wasm", [0, 0x61, 0x73, 0x6d, 0x0d, 0, 1, 0])]);
+  assert.deepEqual([component.faults[0].text, component.main], ["Component", null]);
   const wrong = shown([...files().slice(0, 2), file("notes.json", Buffer.from("{"))]);
-  assert.equal(wrong.faults[0].text, "Json: not JSON");
-  assert.deepEqual([wrong.faults[0].where, wrong.interfaces.map((it) => it.key)], ["json-byte: byte 1", ["__main_module__", "env", "my:notes/store@1.2.0"]]);
+  assert.deepEqual([wrong.faults[0].text, wrong.faults[0].where], ["Json: not JSON", "byte 1"]);
+  assert.match(wrong.faults[0].title, /^notes\.json: /);
   assert.match(wrong.faults[0].hint, /wasm-tools/);
-  const lacking = shown([files()[0], files()[2]], { world: 2 });
-  assert.equal(lacking.faults[0].where.split(":")[0], "import");
+  assert.deepEqual(wrong.interfaces.map((it) => it.key), ["my:notes/store@1.2.0"]);
+  const lacking = shown([files()[0], files()[2]]).faults[0];
+  assert.deepEqual([lacking.title.split(":")[0], lacking.where], ["main.wasm", 'import "old-notes" "length_of"']);
   assert.equal(faultView(Object.assign(new Error("x"), { place: null })).where, "");
+  const types = { wanted: { params: ["i32"], results: [] }, found: { params: [], results: ["i64", { nullable: true, index: 3 }] } };
+  assert.equal(placeOf({ kind: "export", adapter: null, name: "f", types }), 'export "f": wanted (i32) → (), found () → (i64, (ref null 3))');
+});
+
+test("each fault has what it means and what to do", () => {
+  for (const [of, names] of Object.entries(FAULTS)) for (const name of Object.keys(names)) assert.ok(HINTS[of]?.[name]?.[0].endsWith("."), `${of} ${name}`);
+  const { message, world, validate, read } = FAULTS;
+  const number = message.WORLD + 256 * (world.MAIN + 256 * (validate.READ + 256 * read.TRUNCATED));
+  assert.deepEqual(faultsOf("world", number), [["message", "WORLD"], ["world", "MAIN"], ["validate", "READ"], ["read", "TRUNCATED"]]);
+  assert.deepEqual(faultsOf("world", FAULTS.message.JSON + 256 * FAULTS.json.WRONG).at(-1), ["problem", "MISSING"]);
+  assert.equal(hintOf({ call: "scan", number: read.COMPONENT }).means, HINTS.read.COMPONENT[0]);
+  assert.deepEqual(hintOf({ call: "scan", number: 99999 }), { means: "", hint: "" });
+});
+
+test("names that Rust mangled are read, and others left as they are", () => {
+  const part = (text) => text.length + text, drop = `_ZN${part("_$LT$a..b..Error$u20$as$u20$a.._rt..WasmResource$GT$")}4drop17he7fd0afb26170df8E`;
+  assert.deepEqual([readable(drop), shortName(drop)], ["<a::b::Error as a::_rt::WasmResource>::drop", "drop"]);
+  assert.deepEqual([readable("_ZN1a2bc1d17h0123456789abcdefE"), shortName("_ZN1a2bc1d17h0123456789abcdefE")], ["a::bc::d", "bc::d"]);
+  for (const name of ["", "main", "_ZN", "_ZNE", "_ZN9aE", "_ZN1aEv", "_ZN1a0E", "std::move"]) assert.ok(typeof shortName(name) === "string" && readable(name).length <= name.length);
+});
+
+test("the path through the main module is drawn, where the library has that call", () => {
+  const item = (index, name) => ({ kind: "item", space: "func", index, name }), exported = { kind: "export", adapter: null, name: "run" };
+  const over = (paths) => new Proxy(library, { get: (of, name) => (name === "paths" ? paths : typeof of[name] === "function" ? of[name].bind(of) : of[name]) });
+  const path = (...steps) => paths(shown(files(), {}, over(() => [{ interface: "old-notes", name: "length_of", steps }]))).find((it) => it.endsWith("summarize"));
+  assert.equal(path(exported, item(7, "run"), item(5, null), item(3, "length")), "main.wasm → run → func 5 → length_of → my:notes/store@1.2.0 summarize");
+  assert.equal(path({ kind: "start" }, item(7, "init"), item(3, null)), "main.wasm → start function → init → length_of → my:notes/store@1.2.0 summarize");
+  const filled = [{ kind: "fills", space: "table", index: 0 }, { kind: "item", space: "elem", index: 0, name: null }, item(24, "close"), item(3, null)];
+  assert.equal(path(...filled), "main.wasm → table 0 → close → length_of → my:notes/store@1.2.0 summarize");
+  assert.equal(paths(shown(files(), {}, over(() => []))).length, 6);
+  const refused = shown(files(), {}, over(() => library.scan(new Uint8Array(3))));
+  assert.match(refused.notes[0].text, /^For paths through main\.wasm too, .* no WebAssembly module\.$/);
 });
 
 test("2,000 damaged sets of files are shown, with their faults", () => {
   const drawn = numbers(4), whole = files();
   let count = 0;
   for (let n = 0; n < 2000; n++) {
-    const found = shown(whole.map((it, at) => (at === n % 3 || drawn(4) === 0 ? readFile(it.name, damaged(it.bytes, drawn)) : it)), { world: 2 });
-    assert.ok(found.faults.every((it) => it.text.length > 0));
+    const found = shown(whole.map((it, at) => (at === n % 3 || drawn(4) === 0 ? readFile(library, it.name, damaged(it.bytes, drawn)) : it)));
+    assert.ok(found.faults.every((it) => it.title.length > 0));
     count += found.faults.length > 0 ? 1 : 0;
   }
   assert.ok(count > 500, `${count} have faults`);
@@ -79,7 +158,7 @@ test("no more is shown than a page can show", () => {
   const name = (text) => [text.length, ...Buffer.from(text)];
   const imports = Array.from({ length: 3000 }, (_, n) => [...name(`a:b/c${n}`), ...name("f"), 0, 0]).flat();
   const content = [...number(3000), ...imports];
-  const main = file("many.wasm", [0, 0x61, 0x73, 0x6d, 1, 0, 0, 0, 1, 4, 1, 0x60, 0, 0, 2, ...number(content.length), ...content]);
+  const main = file("many.wasm", [...header, 1, 4, 1, 0x60, 0, 0, 2, ...number(content.length), ...content]);
   const found = shown([main]);
   assert.deepEqual([found.interfaces.length, found.moreInterfaces], [MOST.interfaces, 3000 - MOST.interfaces]);
   assert.equal(paths(found).length, MOST.ends);

@@ -101,6 +101,29 @@ test("scan lists imports and exports of each kind, and names of functions", () =
   assert.deepEqual([cut.call, cut.text, cut.number, cut.place.kind, cut.place.offset], ["scan", "Truncated", 3, "bytes", 12]);
 });
 
+// `f` of `a:b/c@1.0.0` is called by function 2, `telemetry`, which stands in a table; function 1, the export `run`, does nothing
+const TABLE = Buffer.from(
+  "0061736d010000000104016000000211010b613a622f6340312e302e300166000003030200000404017000040707010372756e0001090701" +
+    "0041010b01020a090202000b040010000b0013046e616d65010c01020974656c656d65747279",
+  "hex",
+);
+
+test("paths lead to the imports of main modules, with names", () => {
+  const items = [
+    { kind: "item", space: "elem", index: 0, name: null },
+    { kind: "item", space: "func", index: 2, name: "telemetry" },
+    { kind: "item", space: "func", index: 0, name: null },
+  ];
+  const steps = [{ kind: "fills", space: "table", index: 0 }, ...items], ways = [{ interface: "a:b/c@1.0.0", name: "f", steps }];
+  assert.deepEqual(library.paths(TABLE), ways);
+  assert.deepEqual(library.paths(TABLE, { exports: ["run"], imports: ["a:b/c"] }), ways);
+  assert.deepEqual(library.paths(TABLE, { imports: ["a:b/c@1.0.0=g"] }), []);
+  const missing = thrown(() => library.paths(TABLE, { exports: ["run", "other"] }));
+  assert.deepEqual([missing.call, missing.number, missing.missing], ["paths", 2, "other"]);
+  const cut = thrown(() => library.paths(TABLE.subarray(0, 12)));
+  assert.deepEqual([cut.text, cut.place.kind, cut.place.offset], ["Read: Truncated", "bytes", 12]);
+});
+
 test("a component's world and plan are those of the examples", () => {
   const { record, main, adapters } = library.plannedWorld(notes());
   same(main, example("wcplan/main.wasm"));
@@ -175,6 +198,7 @@ test("damaged modules and messages end each call, and change no later one", () =
     tried(() => library.dedupe(wasm));
     tried(() => library.trim(wasm, wanted, { realloc: drawn(2) ? "cabi_realloc" : null, pageSizeLog2: drawn(18) }));
     tried(() => library.why(wasm, wanted));
+    tried(() => library.paths(wasm, { exports: drawn(2) ? wanted : [], imports: drawn(2) ? ["__main_module__", "env=memory"] : [] }));
     const message = drawn(2) ? { worlds: new TextDecoder().decode(damaged(text, drawn)) } : drawn(2) ? { main: wasm } : {};
     const component = notes(message);
     if (drawn(2)) component.adapters[0].wasm = damaged(component.adapters[0].wasm, drawn);

@@ -29,6 +29,7 @@ ghost use Rattle.wc_calls.specs.Renaming.{IsRenamed, IsRenamingFault};
 ghost use Rattle.wc_calls.specs.ExportNames.{texts};
 ghost use Rattle.wc_calls.specs.FaultTexts.{IsFaultText};
 ghost use Rattle.wc_calls.specs.ImportChains.{IsWhyFault, IsWhyText};
+ghost use Rattle.wc_calls.specs.ModulePaths.{ArePathArguments, IsPathsAnswer, IsPathsFault};
 ghost use Rattle.wc_calls.specs.PlannedWorlds.{IsPlannedWorldAnswer};
 ghost use Rattle.wc_calls.specs.Scanning.{IsScanFault, IsScanText};
 ghost use Rattle.wc_calls.specs.Trimming.{AreArguments, IsTrimmingFault};
@@ -38,8 +39,8 @@ ghost use Rattle.nuigatre.specs.Arguments.{optional_name, settings_of};
 
 use std::alloc::Global;
 use wc_calls::{
-    Answer, dedupe, fault_text, plan, planned_world, scan, trim, validate, validated_module, why,
-    world,
+    Answer, dedupe, fault_text, paths, plan, planned_world, scan, trim, validate, validated_module,
+    why, world,
 };
 use wc_maps::Seed;
 
@@ -287,8 +288,41 @@ pub extern "C" fn nuigatre_scan(alloc: Global, wasm: &[u8], out: &mut [u8]) -> A
     scan(alloc, wasm, out)
 }
 
-/// Writes the text of a fault of `nuigatre_dedupe` (`call` is 0), `nuigatre_trim` (1), `nuigatre_why` (2) or `nuigatre_scan`
-/// (3), by the number that the call answers: `wc_calls::fault_text`.
+/// Answers the paths to the imports of a module, main modules too, from its exports of these names, or from all, where there
+/// are none; `imports` has what asks for imports: `wc_calls::paths`.
+#[unsafe(no_mangle)]
+pub extern "C" fn nuigatre_paths(
+    alloc: Global,
+    seed0: u64,
+    seed1: u64,
+    wasm: &[u8],
+    exports: &[&[u8]],
+    imports: &[&[u8]],
+    out: &mut [u8],
+) -> Answer
+    ensures done { result.status ≡ done
+        → IsPut (IsPathsAnswer wasm.now (texts exports.now) (texts imports.now))
+        result.length out.old out.new }
+    ensures too_small { result.status ≡ too_small
+        → IsTooLong (IsPathsAnswer wasm.now (texts exports.now) (texts imports.now))
+        result.length out.old }
+    ensures fault { result.status ≡ failed
+        → IsPathsFault wasm.now (texts exports.now) result out.old out.new }
+    ensures module_length { result.module_length ≡ 0 }
+    ensures bad_argument { result.status ≡ bad_argument
+        → ¬ (ArePathArguments (texts exports.now) (texts imports.now)) }
+    ensures arguments { result.status ≢ bad_argument
+        → ArePathArguments (texts exports.now) (texts imports.now) }
+    ensures unchanged { result.status ≢ done → result.status ≢ failed → out.new ≡ out.old }
+    ensures statuses { (result.status ≤ 5) × (result.status ≢ same) }
+    ensures others { AreOthersOfTextZero result }
+{
+    let seed = Seed::new(seed0, seed1);
+    paths(alloc, seed, wasm, exports, imports, out)
+}
+
+/// Writes the text of a fault of `nuigatre_dedupe` (`call` is 0), `nuigatre_trim` (1), `nuigatre_why` (2), `nuigatre_scan`
+/// (3) or `nuigatre_paths` (4), by the number that the call answers: `wc_calls::fault_text`.
 #[unsafe(no_mangle)]
 pub extern "C" fn nuigatre_fault_text(
     alloc: Global,
@@ -312,12 +346,12 @@ pub extern "C" fn nuigatre_fault_text(
 }
 
 /// The form of the calls, messages and answers.
-const ABI: u32 = 8;
+const ABI: u32 = 9;
 
 /// The number of the form of these calls, their messages and answers. It goes up with each change that a caller can see.
 #[unsafe(no_mangle)]
 pub extern "C" fn nuigatre_abi() -> u32
-    ensures { result ≡ 8 }
+    ensures { result ≡ 9 }
 {
     ABI
 }

@@ -51,6 +51,13 @@ pub set_more : (keys : List (String Global)) (xs : List (Bor (List ℕ))) (i : �
 set_more keys xs i d name within known is =
     name_more keys (texts (take i xs)) name (get_or xs i d).now known is ∙ ap first_occurrences (sym (texts_more xs i d within))
 
+-- the list of the texts that were passed, after one more is put to it
+pub list_more : (list xs : List (Bor (List ℕ))) (i : ℕ) (d text : Bor (List ℕ)) → i < length xs → texts list ≡ texts (take i xs) → text.now ≡ (get_or xs i d).now
+    → texts (list ++ text ∷ []) ≡ texts (take (i + 1) xs)
+list_more list xs i d text within known is =
+    map-append (λ (s : Bor (List ℕ)). s.now) list (text ∷ []) ∙ (ap (λ ts. ts ++ text.now ∷ []) known
+    ∙ (ap (λ t. texts (take i xs) ++ t ∷ []) is ∙ sym (texts_more xs i d within)))
+
 -- a set of names is not empty, where there is a name
 pub some_texts : (keys : List (String Global)) (xs : List (Bor (List ℕ))) → names_of keys ≡ first_occurrences (texts xs) → xs ≢ [] → keys ≢ []
 some_texts keys [] same some = λ e. some refl

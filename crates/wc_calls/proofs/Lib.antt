@@ -9,6 +9,7 @@ mod AskedKeyLemmas
 mod FaultAnswerLemmas
 mod FaultTextLemmas
 mod ModuleLemmas
+mod ModulePathLemmas
 mod OptionTableLemmas
 mod PlannedWorldLemmas
 mod RefusalLemmas

@@ -1,5 +1,5 @@
 -- The name of a missing export is at its position among the names that are passed.
-use Rattle.std.proofs.Common.{◌≡◌, ◌≢◌, ℕ, Bool, true, List, [], ◌∷◌, cond, Some, refl, sym, ap, subst, inl, inr}
+use Rattle.std.proofs.Common.{◌≡◌, ◌≢◌, ℕ, Bool, true, List, [], ◌∷◌, cond, Option, Some, refl, sym, ap, subst, inl, inr}
 use Rattle.std.proofs.Math.Bool.{or-true}
 use Rattle.std.proofs.lemmas.Bool.{cases_Bool, or_cases}
 use Rattle.std.proofs.lemmas.Slice.Eq.{bytes_eq-Decides}
@@ -13,6 +13,8 @@ use Rattle.wc_gc.specs.Trim.{IsTrimFault}
 use Rattle.wc_gc.specs.declared.fault.GcFault.{GcFault}
 use Rattle.wc_gc.specs.declared.fault.GcFault.TheVariants.{Memory, MissingExport}
 use Rattle.wc_gc.proofs.NameSetLemmas.{among_distinct}
+use Rattle.wc_gc.specs.declared.trim_place.TrimPlace.{TrimPlace}
+use Rattle.wc_import_paths.specs.Following.{IsRefusal}
 use Rattle.wc_calls.specs.ExportNames.{position_of}
 use Rattle.wc_calls.specs.Trimming.{IsPosition, position_in}
 
@@ -70,3 +72,10 @@ live_position wasm names (MissingExport name) other fault =
       | inr cause ↦ (let is = cause.0 in (refl, missing_there names _ (string_bytes name) is.2))
     ]
 live_position wasm names f other fault = refl
+
+-- the same of a fault of a module that is followed
+pub followed_position : (wasm : List ℕ) (names : List (List ℕ)) (f : GcFault) (place : Option TrimPlace) → IsRefusal wasm names f place
+    → IsPosition names f (position_in names f)
+followed_position wasm names (MissingExport name) place ((m, s, both, is), none) =
+    (refl, position_there names (string_bytes name) (found_among _ names (string_bytes name) is))
+followed_position wasm names f place cause = refl

@@ -26,7 +26,7 @@ IsTrimText number text = (f : GcFault) × (gc_is_memory f ≡ false) × (gc_faul
 abbrev pub IsReadText : ℕ → List ℕ → Type 0
 IsReadText number text = (f : ReadFault) × (read_is_memory f ≡ false) × (read_fault_number f ≡ number) × (text ≡ read_fault_text f)
 
--- the calls on bytes, by their numbers; two of them answer faults of trimming
+-- the calls on bytes, by their numbers
 
 abbrev pub dedupe_call : ℕ
 dedupe_call = 0
@@ -40,8 +40,15 @@ why_call = 2
 abbrev pub scan_call : ℕ
 scan_call = 3
 
+abbrev pub paths_call : ℕ
+paths_call = 4
+
+-- the calls that answer faults of trimming
+abbrev pub AnswersTrimFaults : ℕ → Type 0
+AnswersTrimFaults call = (call ≡ trim_call) ⊎ (call ≡ why_call) ⊎ (call ≡ paths_call)
+
 -- a fault of a call has this number and this text
 abbrev pub IsFaultText : ℕ → ℕ → List ℕ → Type 0
 IsFaultText call number text =
-    ((call ≡ dedupe_call) × IsDedupeText number text) ⊎ (((call ≡ trim_call) ⊎ (call ≡ why_call)) × IsTrimText number text)
+    ((call ≡ dedupe_call) × IsDedupeText number text) ⊎ (AnswersTrimFaults call × IsTrimText number text)
     ⊎ ((call ≡ scan_call) × IsReadText number text)

@@ -10,6 +10,7 @@ pub mod ImportChains
 pub mod ImportOptions
 pub mod MemoryFaults
 pub mod MessageFault
+pub mod ModulePaths
 pub mod Places
 pub mod PlannedWorlds
 pub mod Private

@@ -1,11 +1,12 @@
 //! The names of exports that a call is passed, and of a realloc.
 
-ghost use Rattle.std.specs.Prelude.{◌≡◌, ◌↔◌, IsTrue, IfOk, IfErr, IfSome, Option};
+ghost use Rattle.std.specs.Prelude.{◌≡◌, ◌↔◌, IsTrue, IfOk, IfErr, IfSome, Option, map};
 ghost use Rattle.std.specs.List.{All};
 ghost use Rattle.std.specs.Option.{option_map};
 ghost use Rattle.std.specs.Str.{IsUtf8};
 ghost use Rattle.wc_gc.specs.LiveItems.{names_of};
 ghost use Rattle.wc_texts.specs.Names.{first_occurrences};
+ghost use Rattle.wc_why.specs.Paths.{text_of};
 ghost use Rattle.wc_calls.specs.ExportNames.{texts, position_of};
 
 use std::alloc::{AllocError, Global};
@@ -59,6 +60,19 @@ pub(crate) fn name_set(
         set.insert(String::from_str(alloc, name)?)?;
     }
     Ok(set)
+}
+
+/// The texts of slices, in order.
+pub(crate) fn text_list<'a>(alloc: Global, slices: &[&'a [u8]]) -> Result<Vec<&'a str>, AllocError>
+    requires { All IsUtf8 (texts slices.now) }
+    ensures { IfOk result (λ v. map text_of v.items ≡ texts slices.now) }
+{
+    let mut list = Vec::new(alloc);
+    for bytes in slices {
+        let text = str::from_utf8(bytes).unwrap();
+        list.push(text)?;
+    }
+    Ok(list)
 }
 
 /// The position of the first of the names that is this one; how many names there are where none is.

@@ -31,6 +31,9 @@ pub const WHY_CALL: u32 = 2;
 /// The call `scan`.
 pub const SCAN_CALL: u32 = 3;
 
+/// The call `paths`.
+pub const PATHS_CALL: u32 = 4;
+
 /// The fault of reading that has this number.
 fn read_fault(number: u32) -> Option<ReadFault>
     ensures number { IfSome result (λ f. read_fault_number f ≡ number) }
@@ -212,9 +215,9 @@ fn read_text(alloc: Global, number: u32, out: &mut [u8]) -> Answer
 }
 
 /// Writes the text of a fault of a call on bytes, by the number that the call answers. `call` is `DEDUPE_CALL`, `TRIM_CALL`,
-/// `WHY_CALL` or `SCAN_CALL`. The text is that which `Display` of the fault prints, with that of a fault which it carries:
-/// `Read: NotWasm`. A name that
-/// the fault carries is left out: the call answers where it is among those that were passed.
+/// `WHY_CALL`, `SCAN_CALL` or `PATHS_CALL`. The text is that which `Display` of the fault prints, with that of a fault which it
+/// carries: `Read: NotWasm`. A name that the fault carries is left out: the call answers where it is among those that were
+/// passed.
 ///
 /// - `DONE`: the front of `out` has the text, `length` bytes of UTF-8.
 /// - `TOO_SMALL`: the text has `length` bytes, and `out` has fewer.
@@ -241,6 +244,7 @@ pub fn fault_text(alloc: Global, call: u32, number: u32, out: &mut [u8]) -> Answ
         TRIM_CALL => trim_text(alloc, number, out),
         WHY_CALL => trim_text(alloc, number, out),
         SCAN_CALL => read_text(alloc, number, out),
+        PATHS_CALL => trim_text(alloc, number, out),
         _ => answer_without_bytes(NO_SUCH_FAULT),
     }
 }

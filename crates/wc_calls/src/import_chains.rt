@@ -82,7 +82,7 @@ fn why_for_names<'a>(
         return answer_without_bytes(MEMORY);
     };
     let text = why_text(alloc, wasm, &names);
-    put_why(alloc, required, &text, out)
+    put_text_or_fault(alloc, required, &text, out)
 }
 
 /// The chains to imports of an adapter, as JSON.
@@ -101,8 +101,8 @@ fn why_text(
     Ok(text)
 }
 
-/// Writes the chains to imports of an adapter; of a fault what it is about.
-fn put_why(
+/// Writes the text that a call answers of a module; of a fault what it is about.
+pub(crate) fn put_text_or_fault(
     alloc: Global,
     required: &[&[u8]],
     text: &Result<Vec<u8>, Refused<GcFault, TrimPlace>>,

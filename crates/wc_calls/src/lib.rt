@@ -2,10 +2,11 @@
 //! imports of a module, `trim` cuts an adapter to what its exports reach, `why` says why it imports what it does, and `world`
 //! makes the world of a component, which is described in JSON; `plan` makes its plan, `planned_world` both, `validate`
 //! validates one of its modules, and `validated_module` says what is recorded of it. `scan` lists what a module imports and
-//! exports. `fault_text` gives the text of a fault of `dedupe`, `trim`, `why` or `scan` by its number. Each writes its answer to the front of a buffer of the caller's, and returns an
-//! `Answer`, which is numbers alone.
-//! No call requires anything of its arguments. The maps of all but `dedupe` hash under a seed that is passed: whoever
-//! chooses names shouldn't know it.
+//! exports, and `paths` answers the paths that lead to its imports. `fault_text` gives the text of a fault of `dedupe`,
+//! `trim`, `why`, `scan` or `paths` by its number. Each writes its answer to the front of a buffer of the caller's, and
+//! returns an `Answer`, which is numbers alone.
+//! No call requires anything of its arguments. The maps of all but `dedupe` and `scan` hash under a seed that is passed:
+//! whoever chooses names shouldn't know it.
 //!
 //! ```rust
 //! use std::alloc::Global;
@@ -40,6 +41,7 @@ mod import_chains;
 mod import_options;
 mod memory_faults;
 mod message_fault;
+mod module_paths;
 mod places;
 mod planned_worlds;
 mod refusals;
@@ -54,9 +56,10 @@ mod validation;
 pub use answers::{Answer, BAD_ARGUMENT, DONE, FAULT, MEMORY, NO_SUCH_FAULT, SAME, TOO_SMALL};
 pub use component_plans::plan;
 pub use component_worlds::world;
-pub use fault_texts::{DEDUPE_CALL, SCAN_CALL, TRIM_CALL, WHY_CALL, fault_text};
+pub use fault_texts::{DEDUPE_CALL, PATHS_CALL, SCAN_CALL, TRIM_CALL, WHY_CALL, fault_text};
 pub use import_chains::why;
 pub use message_fault::MessageFault;
+pub use module_paths::paths;
 pub use planned_worlds::planned_world;
 pub use renaming::dedupe;
 pub use scanning::scan;

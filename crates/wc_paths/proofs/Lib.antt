@@ -1,4 +1,5 @@
 pub mod PathRootLemmas
+pub mod FirstPlaceLemmas
 pub mod MarkLemmas
 pub mod SearchLemmas
 pub mod TreeLemmas

@@ -15,7 +15,7 @@ use Rattle.wc_paths.specs.declared.items.PathItem.{PathItem}
 abbrev pub NoneBefore : List Export → PathItem → ℕ → Type 0
 NoneBefore es x n = (j : ℕ) → j < n → export_item (export_value (get_or es j no_export)) ≡ x → ⊥
 
-got : (es : List Export) (k : ℕ) → k < length es → slice_get (map export_value es) k ≡ Some (export_value (get_or es k no_export))
+pub got : (es : List Export) (k : ℕ) → k < length es → slice_get (map export_value es) k ≡ Some (export_value (get_or es k no_export))
 got [] k lt = absurd (omega arith)
 got (e ∷ es) zero lt = refl
 got (e ∷ es) (suc k) lt = got es k (omega arith)

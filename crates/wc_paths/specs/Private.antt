@@ -1,3 +1,4 @@
 pub mod Search
 pub mod Roots
 pub mod Paths
+pub mod PathRoots

@@ -16,7 +16,7 @@ pub use chains::Chains;
 pub use counts::{Counts, counts_of, has_item, item_at, item_count, number_of};
 pub use graph::ModuleGraph;
 pub use items::PathItem;
-pub use path_roots::{PathRoot, path_root};
+pub use path_roots::{PathRoot, PathRoots};
 pub use paths::{Path, PathFault, Paths};
 pub use roots::{export_item, first_roots, import_items, roots_of, second_roots};
 pub use search::{Graph, SearchFault, find_all};

@@ -39,7 +39,7 @@ impl From<AllocError> for PathFault {
 /// linear in the module; the paths of n items together may be n² items.
 #[derive(Drop)]
 pub struct Paths {
-    counts: Counts,
+    pub(crate) counts: Counts,
     first: Chains,
     second: Chains,
     ghost fits: { item_count (counts_value counts) < 2 ^ 64 },

@@ -1,9 +1,11 @@
 -- Of equal functions the first, found one after another.
 use Rattle.std.proofs.Common.{◌≡◌, ℕ, List, [], ◌∷◌, ◌++◌, Bool, true, false, cond, ◌&&◌, ◌||◌, Option, Some, None, refl, ◌∙◌, ap, subst}
 use Rattle.std.specs.Prelude.{not, filter}
+use Rattle.std.specs.Cmp.Lexicographic.{options_equiv}
 use Rattle.std.specs.List.{list_any}
 use Rattle.std.specs.Option.{option_eq}
 use Rattle.std.specs.Str.{bytes_eq}
+use Rattle.std.proofs.lemmas.Cmp.{nat_list_eq_equiv}
 use Rattle.std.proofs.lemmas.List.Folds.{list_any-append}
 use Rattle.std.proofs.lemmas.Slice.Eq.{bytes_eq-Decides}
 use Rattle.std.proofs.lemmas.Bool.{and_parts}
@@ -13,7 +15,6 @@ use Rattle.wc_world.specs.FunctionsLowered.{abi_eq}
 use Rattle.wc_plan.specs.Calls.{Wanted, call_eq, firsts, owner_eq}
 use Rattle.wc_plan.specs.Planner.{is_seen, left}
 use Rattle.wc_uses.specs.Views.{CallView, OwnerView, adapter_owner, main_owner}
-use Rattle.wc_world.proofs.ImportedItemLemmas.{bytes_turned}
 
 -- what is equal by tests is equal
 
@@ -56,13 +57,7 @@ owner_turned : (a b : OwnerView) → owner_eq a b ≡ owner_eq b a
 owner_turned main_owner main_owner = refl
 owner_turned main_owner (adapter_owner n) = refl
 owner_turned (adapter_owner m) main_owner = refl
-owner_turned (adapter_owner m) (adapter_owner n) = bytes_turned m n
-
-interface_turned : (a b : Option (List ℕ)) → option_eq bytes_eq a b ≡ option_eq bytes_eq b a
-interface_turned None None = refl
-interface_turned None (Some n) = refl
-interface_turned (Some m) None = refl
-interface_turned (Some m) (Some n) = bytes_turned m n
+owner_turned (adapter_owner m) (adapter_owner n) = nat_list_eq_equiv.symm m n
 
 abi_turned : (a b : AbiVariant) → abi_eq a b ≡ abi_eq b a
 abi_turned GuestImport GuestImport = refl
@@ -74,7 +69,10 @@ abi_turned a b = refl
 
 pub call_turned : (a b : CallView) → call_eq a b ≡ call_eq b a
 call_turned a b =
-    rw (owner_turned a.owner b.owner, interface_turned a.interface b.interface, bytes_turned a.name b.name, abi_turned a.abi b.abi) refl
+    let interface : option_eq bytes_eq a.interface b.interface ≡ option_eq bytes_eq b.interface a.interface =
+    (options_equiv nat_list_eq_equiv).symm a.interface b.interface in
+    let name : bytes_eq a.name b.name ≡ bytes_eq b.name a.name = nat_list_eq_equiv.symm a.name b.name in
+    rw (owner_turned a.owner b.owner, interface, name, abi_turned a.abi b.abi) refl
 
 -- what passes one test of those that pass another
 

@@ -1,5 +1,5 @@
 -- Of an encoder and options there is one world at most.
-use Rattle.std.proofs.Common.{◌≡◌, ◌↔◌, ℕ, List, [], ◌∷◌, ◌++◌, Bool, true, false, Option, Some, None, IsTrue, filter, refl, sym, ap, subst, ◌∙◌}
+use Rattle.std.proofs.Common.{◌≡◌, ℕ, List, [], ◌∷◌, ◌++◌, Bool, Option, Some, None, filter, refl, sym, ap, subst, ◌∙◌}
 use Rattle.std.specs.Prelude.{IsSome, is_some}
 use Rattle.std.specs.List.{AllZip}
 use Rattle.wc_read.specs.Laws.{HasOneValue}
@@ -21,13 +21,8 @@ use Rattle.wc_world.specs.Used.{AreUsed, Used, UsedView}
 use Rattle.wc_world.specs.Views.{NamedWorldAdapter, WorldAdapterView}
 use Rattle.wc_world.specs.World.{AreAdapters, IsAdapterOf, IsTrimmedAdapter, IsTrimmedOrLibrary}
 use Rattle.wc_plan.specs.Laws.{IsSameAdapter, WorldsUnique}
+use Rattle.wc_world.proofs.ExclusionLemmas.{same_test}
 use Rattle.wc_plan.proofs.SameWorldLemmas.{flat_same}
-
-same_test : (a b : Bool) (P : Type 0) → IsTrue a ↔ P → IsTrue b ↔ P → a ≡ b
-same_test true true P p q = refl
-same_test false false P p q = refl
-same_test true false P p q = absurd (let holds : IsTrue false = q.1 (p.0 refl) in let bad : ⊥ = cc holds in bad)
-same_test false true P p q = absurd (let holds : IsTrue false = p.1 (q.0 refl) in let bad : ⊥ = cc holds in bad)
 
 -- sets of the interfaces that exported interfaces use
 

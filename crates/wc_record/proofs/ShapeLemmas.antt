@@ -2,7 +2,7 @@
 use Rattle.std.proofs.Common.{◌≡◌, ℕ, ◌+◌, ◌<◌, List, [], ◌∷◌, ◌++◌, map, length, get_or, drop, Result, Ok, Err, OnOk, Option, Some, None, refl, ap, sym, subst, append_assoc, append-nil, ◌∙◌}
 use Rattle.std.specs.List.{flat_map}
 use Rattle.std.specs.Option.{option_map}
-use Rattle.std.proofs.lemmas.List.{drop_more}
+use Rattle.std.proofs.lemmas.List.{drop_more, map-id}
 use Rattle.json.specs.Json.{Json}
 use Rattle.json.specs.Token.{Token, begin_array, end_array, begin_object, end_object, key}
 use Rattle.json.specs.Tree.{json_tokens, items_tokens, members_tokens}
@@ -124,12 +124,8 @@ pub field_is : {a b : Written} {name : List ℕ} (j k : Json) → j ≡ k → Pu
 field_is {a} {b} {name} j k e p = subst (PutsField a b name) e p
 
 -- values that are seen as they are
-map_same : {A : Type 0} (xs : List A) → map (λ (x : A). x) xs ≡ xs
-map_same [] = refl
-map_same (x ∷ xs) = ap (λ ys. x ∷ ys) (map_same xs)
-
 pub array_same : {A : Type 0} (json : A → Json) (xs ys : List A) → xs ≡ ys → array_of (map json (map (λ (x : A). x) xs)) ≡ array_of (map json ys)
-array_same json xs ys e = ap (λ zs. array_of (map json zs)) (map_same xs ∙ e)
+array_same json xs ys e = ap (λ zs. array_of (map json zs)) (map-id xs ∙ e)
 
 pub nullable_same : {A : Type 0} (json : A → Json) (o : Option A) → nullable_json json (option_map (λ (x : A). x) o) ≡ nullable_json json o
 nullable_same json None = refl

@@ -1,30 +1,23 @@
 -- The first text that is none of others, and the first that was there before.
-use Rattle.std.proofs.Common.{◌≡◌, ◌↔◌, ℕ, ◌+◌, ◌<◌, suc, Bool, true, false, not, ◌||◌, List, [], ◌∷◌, ◌++◌, map, length, take, drop, get_or, All, Contains, refl, sym, ◌∙◌, ap, subst, inl, inr}
+use Rattle.std.proofs.Common.{◌≡◌, ◌↔◌, ℕ, ◌+◌, ◌<◌, suc, Bool, true, false, not, List, [], ◌∷◌, ◌++◌, map, length, take, drop, get_or, All, Contains, sym, ◌∙◌, ap, subst, inl, inr}
 use Rattle.std.specs.Borrow.{Bor}
 use Rattle.std.specs.List.{list_any}
 use Rattle.std.specs.Str.{bytes_eq}
+use Rattle.std.proofs.lemmas.Bool.{not-false, or_cases, or_parts}
 use Rattle.std.proofs.lemmas.List.{drop_more}
 use Rattle.std.proofs.lemmas.Slice.Eq.{bytes_eq-Decides}
 use Rattle.wc_resolve.proofs.SearchLemmas.{contains_cons, contains_head, contains_none, contains_tail}
 use Rattle.wc_encoder.proofs.SeenLemmas.{IsSeen}
-use Rattle.wc_selection.proofs.ListLemmas.{any_held, cut_at, either}
+use Rattle.wc_selection.proofs.ListLemmas.{any_held, cut_at}
 use Rattle.wc_selection.specs.Texts.{IsFirstMissing, IsFirstRepeated, is_in, text_of}
 
 abbrev pub Words : Type 0
 Words = List (Bor (List ℕ))
 
-neither : (b c : Bool) → (b || c) ≡ false → (b ≡ false) × (c ≡ false)
-neither true c is = absurd cc
-neither false c is = (refl, is)
-
-unfresh : (b : Bool) → not b ≡ false → b ≡ true
-unfresh true is = refl
-unfresh false is = absurd cc
-
 -- a text is in a list exactly where the test says so
 pub in_contains : (texts : List (List ℕ)) (text : List ℕ) → is_in texts text ≡ true → Contains texts text
 in_contains [] text is = absurd cc
-in_contains (x ∷ xs) text is = elim (either (bytes_eq x text) (is_in xs text) is) [
+in_contains (x ∷ xs) text is = elim (or_cases (bytes_eq x text) (is_in xs text) is) [
   | inl same ↦ subst (Contains (x ∷ xs)) ((bytes_eq-Decides x text).0 same) (contains_head xs x)
   | inr later ↦ contains_tail x xs text (in_contains xs text later)
 ]
@@ -32,8 +25,8 @@ in_contains (x ∷ xs) text is = elim (either (bytes_eq x text) (is_in xs text) 
 pub out_lacks : (texts : List (List ℕ)) (text : List ℕ) → is_in texts text ≡ false → Contains texts text → ⊥
 out_lacks [] text is has = contains_none text has
 out_lacks (x ∷ xs) text is has = elim (contains_cons x xs text has) [
-  | inl same ↦ absurd (let yes = (bytes_eq-Decides x text).1 same in let no = (neither (bytes_eq x text) (is_in xs text) is).0 in cc)
-  | inr later ↦ out_lacks xs text (neither (bytes_eq x text) (is_in xs text) is).1 later
+  | inl same ↦ absurd (let yes = (bytes_eq-Decides x text).1 same in let no = (or_parts (bytes_eq x text) (is_in xs text) is).0 in cc)
+  | inr later ↦ out_lacks xs text (or_parts (bytes_eq x text) (is_in xs text) is).1 later
 ]
 
 -- the first that is missing, where the test says so
@@ -61,5 +54,5 @@ repeated_at texts left rest test seen text new law s next is old = record {
   back = rest;
   cut = s.split ∙ ap (λ l. map text_of seen ++ l) next;
   distinct = s.distinct;
-  repeated = any_held text_of test text law seen (unfresh (list_any test seen) (sym is ∙ old));
+  repeated = any_held text_of test text law seen (not-false (list_any test seen) (sym is ∙ old));
 }

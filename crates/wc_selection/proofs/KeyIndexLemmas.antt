@@ -4,6 +4,7 @@ use Rattle.std.specs.Borrow.{Bor}
 use Rattle.std.specs.List.{list_any}
 use Rattle.std.specs.Prelude.{◌&&◌, ◌||◌}
 use Rattle.std.specs.Str.{bytes_eq}
+use Rattle.std.proofs.lemmas.Cmp.{nat_list_eq_equiv}
 use Rattle.std.proofs.lemmas.Slice.Eq.{bytes_eq-Decides}
 use Rattle.std.specs.declared.vec.Vec.{Vec}
 use Rattle.std.proofs.lemmas.List.{get_or-map, get_or-take, length-map, map-append, take-map}
@@ -13,11 +14,10 @@ use Rattle.indexmap.specs.IndexSet.{insert_key}
 use Rattle.wc_resolve.specs.Views.{KeyView, key_view}
 use Rattle.wc_resolve.specs.declared.worlds.WorldKey.{WorldKey}
 use Rattle.wc_resolve.specs.contracts.worlds.WorldKeyPartialEq.TheImpl.{eq-value as key_eq}
-use Rattle.wc_selection.proofs.KeyListLemmas.{unheld}
-use Rattle.wc_selection.proofs.ListLemmas.{passed_more}
+use Rattle.wc_selection.proofs.KeyListLemmas.{first_key, unheld}
+use Rattle.wc_selection.proofs.ListLemmas.{length_one, passed_more}
 use Rattle.wc_selection.proofs.PositionLemmas.{sorted_is}
 use Rattle.wc_selection.proofs.RequiredLemmas.{Pair, filter_same, under_in, under_more}
-use Rattle.wc_selection.proofs.SetLemmas.{bytes_swap}
 use Rattle.wc_selection.specs.KeyIndex.{AreApart, AreSorted, IsKeyIndex, key_at, keys_under, listed_positions, positions_from, viewed_key}
 use Rattle.wc_selection.specs.Keys.{AreKeysApart, NamedKey, named_key}
 use Rattle.wc_selection.specs.ModuleKeys.{is_pair, is_required, required_keys}
@@ -25,9 +25,6 @@ use Rattle.wc_selection.specs.Requests.{RequestValue}
 use Rattle.wc_selection.specs.RequiredTexts.{texts_under}
 use Rattle.wc_selection.specs.TextLists.{ListsMore, listed}
 use Rattle.wc_selection.specs.Texts.{is_in, second_parts, text_of, text_pair}
-
-abbrev first_key : NamedKey → KeyView
-first_key k = k.0
 
 abbrev Lists : Type 0
 Lists = List (Bor (List ℕ) × Vec ℕ Global)
@@ -51,10 +48,6 @@ append_one : (front : List NamedKey) (k : NamedKey) (keys : List NamedKey) → (
 append_one [] k keys = refl
 append_one (x ∷ front) k keys = ap (λ l. x ∷ l) (append_one front k keys)
 
-length_more : (front : List NamedKey) (k : NamedKey) → length (front ++ k ∷ []) ≡ suc (length front)
-length_more [] k = refl
-length_more (x ∷ front) k = ap suc (length_more front k)
-
 kept_at : (f : ℕ → KeyView) (b : Bool) (low : ℕ) (ps : List ℕ) (k : NamedKey) (rest : List NamedKey) → f low ≡ k.0
     → map f ps ≡ map first_key rest → map f (cond b (low ∷ ps) ps) ≡ map first_key (cond b (k ∷ rest) rest)
 kept_at f true low ps k rest here h = λ i. here i ∷ h i
@@ -66,7 +59,7 @@ keys_from p front [] all low is cut = refl
 keys_from p front (k ∷ keys) all low is cut =
     kept_at (key_at all) (p k) low (positions_from (suc low) p keys) k (filter p keys)
     ((λ i. key_at (sym cut i) (is i)) ∙ key_there front k keys)
-    (keys_from p (front ++ k ∷ []) keys all (suc low) (ap suc is ∙ sym (length_more front k)) (append_one front k keys ∙ cut))
+    (keys_from p (front ++ k ∷ []) keys all (suc low) (ap suc is ∙ sym (length_one front k)) (append_one front k keys ∙ cut))
 
 pub keys_found : (texts : List (List ℕ)) (keys : List NamedKey)
     → map (key_at keys) (positions_from 0 (λ (k : NamedKey). is_in texts k.1) keys) ≡ keys_under texts keys
@@ -196,5 +189,5 @@ pub texts_next : (pairs : List Pair) (k : ℕ) (d : Pair) (old new : List (Bor (
 texts_next pairs k d old new lt more before q =
     let x : Pair = get_or pairs k d in
     ap (map text_of) (more q) ∙ map-append text_of (listed old q) (cond (bytes_eq q x.0.now) (x.1 ∷ []) [])
-    ∙ (λ i. before q i ++ (ap (λ b. map text_of (cond b (x.1 ∷ []) [])) (bytes_swap q x.0.now) ∙ second_one (bytes_eq x.0.now q) x) i)
+    ∙ (λ i. before q i ++ (ap (λ b. map text_of (cond b (x.1 ∷ []) [])) (nat_list_eq_equiv.symm q x.0.now) ∙ second_one (bytes_eq x.0.now q) x) i)
     ∙ sym (under_more q pairs k d lt)

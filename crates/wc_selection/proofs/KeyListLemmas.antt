@@ -25,7 +25,7 @@ use Rattle.wc_selection.specs.Keys.{NamedKey, named_key, named_keys, with_text}
 abbrev Entry : Type 0
 Entry = WorldKey × WorldItem
 
-abbrev under_text : KeyView → List ℕ → NamedKey
+abbrev pub under_text : KeyView → List ℕ → NamedKey
 under_text key text = (key, text)
 
 -- the next key, which has a text
@@ -92,7 +92,7 @@ keys_apart r (e ∷ rest) h =
 abbrev Pair : Type 0
 Pair = WorldKey × String Global
 
-abbrev first_key : NamedKey → KeyView
+abbrev pub first_key : NamedKey → KeyView
 first_key k = k.0
 
 has_at : (pairs : List Pair) (k : ℕ) (x : Pair) → k < length pairs → x ≡ get_or pairs k x → Contains (map named_key pairs) (named_key x)

@@ -8,7 +8,7 @@ use Rattle.std.proofs.lemmas.Slice.Eq.{bytes_eq-Decides}
 use Rattle.wc_resolve.specs.Views.{KeyView, interface_key, plain_key}
 use Rattle.wc_resolve.specs.declared.worlds.WorldKey.{WorldKey}
 use Rattle.wc_selection.proofs.KeyNameLemmas.{not_one, texted}
-use Rattle.wc_selection.proofs.ListLemmas.{passed_more}
+use Rattle.wc_selection.proofs.ListLemmas.{length_one, passed_more}
 use Rattle.wc_selection.specs.KeyNames.{count_unversioned, index_text, keys_as_given, keys_by_index, text_as_given, text_or_index_of, unversioned}
 use Rattle.wc_selection.specs.Keys.{NamedKey, named_key, texts_of}
 use Rattle.wc_selection.specs.KeyTexts.{HasSingles, IsUnknownKey, ShortTexts, found_short, is_single, keys_found, single, text_found}
@@ -29,10 +29,6 @@ texts_more keys k x text lt at is =
     ∙ ap (λ t. texts_of (map named_key (take k keys)) ++ t ∷ []) (sym is)
 
 -- one more key of a text without its version
-
-length_one : (xs : List NamedKey) (k : NamedKey) → length (xs ++ k ∷ []) ≡ suc (length xs)
-length_one [] k = refl
-length_one (x ∷ xs) k = ap suc (length_one xs k)
 
 counted_append : (keys : List NamedKey) (k : NamedKey) (t : List ℕ) → count_unversioned (keys ++ k ∷ []) t
     ≡ length (filter (λ (x : NamedKey). bytes_eq (unversioned x) t) keys ++ cond (bytes_eq (unversioned k) t) (k ∷ []) [])

@@ -16,7 +16,7 @@ use Rattle.std.proofs.lemmas.List.Sorted.{list_any-IsPermutation}
 use Rattle.std.proofs.lemmas.Map.Keys.{IsStrictlyIncreasing-dedup}
 use Rattle.wc_resolve.proofs.KeyLemmas.{nat_from, nat_to}
 use Rattle.wc_resolve.specs.declared.worlds.WorldKey.{WorldKey}
-use Rattle.wc_selection.proofs.ListLemmas.{passed_more}
+use Rattle.wc_selection.proofs.ListLemmas.{or_step, passed_more}
 use Rattle.wc_selection.specs.KeyIndex.{AreSorted, ArePositions, has_text, listed_positions, positions_from}
 use Rattle.wc_selection.specs.Keys.{NamedKey, named_key}
 use Rattle.wc_selection.specs.TextLists.{ListsMore, listed}
@@ -66,10 +66,6 @@ or_each : (e a b c : Bool) → a ≡ (b || c) → (e || a) ≡ ((e || b) || (e |
 or_each true a b c h = refl
 or_each false a b c h = h
 
-or_left : (e a b c : Bool) → a ≡ (b || c) → (e || a) ≡ ((e || b) || c)
-or_left true a b c h = refl
-or_left false a b c h = h
-
 or_right : (e a b c : Bool) → a ≡ (b || c) → (e || a) ≡ (b || (e || c))
 or_right true a true c h = refl
 or_right true a false c h = refl
@@ -78,7 +74,7 @@ or_right false a b c h = h
 union_at : (n low : ℕ) (b c : Bool) (xs ys zs : List ℕ) → has n xs ≡ (has n ys || has n zs)
     → has n (cond (b || c) (low ∷ xs) xs) ≡ (has n (cond b (low ∷ ys) ys) || has n (cond c (low ∷ zs) zs))
 union_at n low true true xs ys zs h = or_each (nat_eq n low) (has n xs) (has n ys) (has n zs) h
-union_at n low true false xs ys zs h = or_left (nat_eq n low) (has n xs) (has n ys) (has n zs) h
+union_at n low true false xs ys zs h = or_step (nat_eq n low) (has n xs) (has n ys) (has n zs) h
 union_at n low false true xs ys zs h = or_right (nat_eq n low) (has n xs) (has n ys) (has n zs) h
 union_at n low false false xs ys zs h = h
 

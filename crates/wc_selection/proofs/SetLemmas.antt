@@ -1,41 +1,24 @@
 -- Texts in sets: which are there, the first that is not, and one more that is put in.
-use Rattle.std.proofs.Common.{◌≡◌, ℕ, Bool, true, false, true≢false, cond, ◌||◌, List, [], ◌∷◌, ◌++◌, map, Option, Some, None, IfSome, IfNone, All, Contains, refl, sym, ◌∙◌, ap, subst, inl, inr}
+use Rattle.std.proofs.Common.{◌≡◌, ℕ, Bool, true, false, cond, ◌||◌, List, [], ◌∷◌, ◌++◌, map, Option, Some, None, IfSome, IfNone, All, Contains, refl, sym, ◌∙◌, ap, subst, inl, inr}
 use Rattle.std.specs.Borrow.{Bor}
 use Rattle.std.specs.List.{list_any}
 use Rattle.std.specs.Str.{bytes_eq}
 use Rattle.std.proofs.lemmas.Bool.{cases_Bool}
+use Rattle.std.proofs.lemmas.Cmp.{nat_list_eq_equiv}
 use Rattle.std.proofs.lemmas.List.{map-append}
 use Rattle.std.proofs.lemmas.List.Elements.{All-weaker}
 use Rattle.std.proofs.lemmas.Slice.Eq.{bytes_eq-Decides}
+use Rattle.std.proofs.Math.Bool.{or-false}
 use Rattle.wc_selection.proofs.FirstLemmas.{Words, in_contains, out_lacks}
+use Rattle.wc_selection.proofs.ListLemmas.{or_step}
 use Rattle.wc_selection.specs.Texts.{HasTexts, IsFirstMissing, is_in, text_of}
-
-pub bytes_swap : (a b : List ℕ) → bytes_eq a b ≡ bytes_eq b a
-bytes_swap a b = elim (cases_Bool (bytes_eq a b)) [
-  | inl same ↦ same ∙ sym ((bytes_eq-Decides b a).1 (sym ((bytes_eq-Decides a b).0 same)))
-  | inr other ↦
-      elim (cases_Bool (bytes_eq b a)) [
-        | inl back ↦
-            let same : bytes_eq a b ≡ true = (bytes_eq-Decides a b).1 (sym ((bytes_eq-Decides b a).0 back)) in
-            let bad : true ≡ false = sym same ∙ other in absurd (true≢false bad)
-        | inr also ↦ other ∙ sym also
-      ]
-]
 
 -- a set has a text where its keys do
 pub set_in : (keys : Words) (text : List ℕ) → list_any (λ k. bytes_eq text k.now) keys ≡ is_in (map text_of keys) text
 set_in [] text = refl
-set_in (k ∷ keys) text = λ i. bytes_swap text k.now i || set_in keys text i
+set_in (k ∷ keys) text = λ i. nat_list_eq_equiv.symm text k.now i || set_in keys text i
 
 -- one more key
-
-or_none : (b : Bool) → (b || false) ≡ b
-or_none true = refl
-or_none false = refl
-
-or_step : (b c d e : Bool) → c ≡ (d || e) → (b || c) ≡ ((b || d) || e)
-or_step true c d e h = refl
-or_step false c d e h = h
 
 held_or : (b c : Bool) → (c ≡ true → b ≡ true) → b ≡ (b || c)
 held_or true c h = refl
@@ -43,7 +26,7 @@ held_or false true h = h refl
 held_or false false h = refl
 
 in_append : (xs : List (List ℕ)) (y t : List ℕ) → is_in (xs ++ y ∷ []) t ≡ (is_in xs t || bytes_eq y t)
-in_append [] y t = or_none (bytes_eq y t)
+in_append [] y t = or-false (bytes_eq y t)
 in_append (x ∷ xs) y t = or_step (bytes_eq x t) (is_in (xs ++ y ∷ []) t) (is_in xs t) (bytes_eq y t) (in_append xs y t)
 
 with_held : (keys : List (List ℕ)) (k t : List ℕ) → is_in keys k ≡ true → is_in keys t ≡ (is_in keys t || bytes_eq k t)

@@ -8,9 +8,9 @@ use Rattle.std.specs.Prelude.{is_ok}
 use Rattle.std.specs.Str.{bytes_eq}
 use Rattle.std.specs.declared.alloc.Global.{Global}
 use Rattle.std.specs.declared.vec.Vec.{Vec}
+use Rattle.std.proofs.lemmas.Cmp.{nat_list_eq_equiv}
 use Rattle.std.proofs.lemmas.Map.{lookup-set_value}
 use Rattle.std.proofs.lemmas.Slice.Eq.{bytes_eq-Decides}
-use Rattle.wc_selection.proofs.SetLemmas.{bytes_swap}
 use Rattle.wc_selection.specs.TextLists.{ListsMore, listed}
 
 abbrev pub Text : Type 0
@@ -24,8 +24,8 @@ text_eq a b = bytes_eq a.now b.now
 
 text_equiv : IsEquivalence text_eq
 text_equiv = record {
-  refl = λ x. (bytes_eq-Decides x.now x.now).1 refl;
-  symm = λ x y. bytes_swap x.now y.now;
+  refl = λ x. nat_list_eq_equiv.refl x.now;
+  symm = λ x y. nat_list_eq_equiv.symm x.now y.now;
   congr = λ x y z same. ap (λ (t : List ℕ). bytes_eq t z.now) ((bytes_eq-Decides x.now y.now).0 same);
 }
 
@@ -47,11 +47,11 @@ module _ {X : Type 0} where
       step : (c : Bool) → bytes_eq text q ≡ c → listed new q ≡ listed old q ++ cond (bytes_eq q text) (x ∷ []) []
       step true same =
           let here : text ≡ q = (bytes_eq-Decides text q).0 same in
-          let back : true ≡ bytes_eq q text = sym (bytes_swap q text ∙ same) in
+          let back : true ≡ bytes_eq q text = sym (nat_list_eq_equiv.symm q text ∙ same) in
           ap items_in (put b ∙ ap (λ c. cond c (Some w) (lookup (under q) old)) same) ∙ is
           ∙ (λ i. listed old (here i) ++ cond (back i) (x ∷ []) [])
       step false other =
-          let back : false ≡ bytes_eq q text = sym (bytes_swap q text ∙ other) in
+          let back : false ≡ bytes_eq q text = sym (nat_list_eq_equiv.symm q text ∙ other) in
           ap items_in (put b ∙ ap (λ c. cond c (Some w) (lookup (under q) old)) other) ∙ sym (append-nil (listed old q))
           ∙ ap (λ c. listed old q ++ cond c (x ∷ []) []) back
 

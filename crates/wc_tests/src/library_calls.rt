@@ -3,7 +3,8 @@
 use crate::call_example::trim_to_write;
 use std::alloc::{AllocError, Global};
 use wc_calls::{
-    Answer, MEMORY, dedupe, fault_text, plan, scan, trim, validate, validated_module, why, world,
+    Answer, MEMORY, dedupe, fault_text, paths, plan, scan, trim, validate, validated_module, why,
+    world,
 };
 use wc_lines::input::{Stop, bad_row, bytes_of, end_answer};
 use wc_lines::lines::Lines;
@@ -22,6 +23,7 @@ pub(crate) fn answer(alloc: Global, row: &Row<'_>, out: &mut Lines) -> bool {
         "trim_to_write" => answer_trim_to_write(alloc, row, out),
         "why_into" => answer_why(alloc, row, out),
         "scan_into" => answer_scan(alloc, row, out),
+        "paths_into" => answer_paths(alloc, row, out),
         "fault_text_into" => answer_fault_text(alloc, row, out),
         "world_into" | "plan_into" | "validate_into" => answer_message(alloc, row, out),
         "record_into" => answer_record(alloc, row, out),
@@ -111,6 +113,33 @@ fn answer_scan(alloc: Global, row: &Row<'_>, out: &mut Lines) -> Result<(), Stop
     let answer = scan(alloc, &wasm, &mut buffer);
     put_answer(&answer, &buffer, out);
     Ok(())
+}
+
+/// `paths_into ROOM COUNT NAME..`: the paths to the imports of a module, in a buffer of so many bytes: from COUNT exports, to
+/// the imports that the other texts ask for. The names and the texts are bytes as those of input.
+fn answer_paths(alloc: Global, row: &Row<'_>, out: &mut Lines) -> Result<(), Stop> {
+    let wasm = bytes_of(alloc, &row.input, out)?;
+    let names = names_from(alloc, row, 2, out)?;
+    let slices = slices_of(alloc, &names)?;
+    let Some((exports, imports)) = asked_names(row, &slices) else {
+        return Err(bad_row(out, "no exports", row.call));
+    };
+    let mut buffer = buffer_of(alloc, row, out)?;
+    let answer = paths(alloc, row_seed(), &wasm, exports, imports, &mut buffer);
+    put_answer(&answer, &buffer, out);
+    Ok(())
+}
+
+/// So many of these as the second argument says, and the others.
+fn asked_names<'n, 'a>(
+    row: &Row<'_>,
+    names: &'n [&'a [u8]],
+) -> Option<(&'n [&'a [u8]], &'n [&'a [u8]])> {
+    let count = row.arguments.get(1)?.parse::<usize>().ok()?;
+    if count > names.len() {
+        return None;
+    }
+    Some(names.split_at(count))
 }
 
 /// `fault_text_into ROOM CALL NUMBER`: the text of a fault of a call, by their numbers, in a buffer of so many bytes.

@@ -2,7 +2,7 @@
 use Rattle.std.proofs.Common.{◌≡◌, ℕ, Bool, true, false, not, cond, is_some, List, [], ◌∷◌, ◌++◌, map, Option, Some, None, OnOk, Result, Ok, Err, String, string_bytes, refl, sym, ap, subst, ◌∙◌, append-nil}
 use Rattle.std.specs.List.{filter, filter_map, cons_option}
 use Rattle.std.specs.Map.{lookup}
-use Rattle.std.specs.Option.{option_map, option_map_or}
+use Rattle.std.specs.Option.{option_map_or}
 use Rattle.std.specs.String.{string_eq}
 use Rattle.std.specs.Str.{bytes_eq}
 use Rattle.std.specs.declared.alloc.Global.{Global}
@@ -17,8 +17,10 @@ use Rattle.wc_validate.specs.Imports.Entries.{Records}
 use Rattle.wc_validate.specs.Imports.Map.{first_of_names, function_of, functions_in, required_in}
 use Rattle.wc_validate.specs.Imports.Instances.{instance_entry, instance_view}
 use Rattle.wc_validate.specs.Private.Imports.AdapterFunctions.{HasFirsts, functions_of}
+use Rattle.wc_validate.proofs.ArgumentLemmas.{is_some_map}
 use Rattle.wc_validate.proofs.IndexLemmas.{index_kept, index_more}
-use Rattle.wc_validate.proofs.PutLemmas.{insert_new, is_called, record_found, record_none}
+use Rattle.wc_names.proofs.ExportIndexLemmas.{is_called}
+use Rattle.wc_validate.proofs.PutLemmas.{insert_new, record_found, record_none}
 use Rattle.wc_validate.proofs.InstanceLemmas.{other, same, self}
 
 module _ {X : Type 0} where
@@ -69,10 +71,6 @@ module _ {X : Type 0} (functions passed : List (List ℕ × X)) (k : List ℕ) (
     ap (λ z. z ++ (k, v) ∷ []) h.0 ∙ sym (firsts_more passed (k, v) ∙ ap (λ b. first_of_names passed ++ cond b [] ((k, v) ∷ [])) (same_found false absent)),
     index_more functions passed k v h.1,
   )
-
-is_some_map : {X Y : Type 0} (f : X → Y) (o : Option X) → is_some (option_map f o) ≡ is_some o
-is_some_map f None = refl
-is_some_map f (Some x) = refl
 
 -- values by names, of which something is seen
 module _ {V X : Type 0} (view : V → X) where

@@ -4,6 +4,7 @@ use Rattle.std.specs.Map.{lookup}
 use Rattle.std.specs.Option.{option_map}
 use Rattle.std.specs.Str.{bytes_eq}
 use Rattle.std.specs.declared.alloc.Global.{Global}
+use Rattle.std.proofs.lemmas.Bool.{and_parts}
 use Rattle.std.proofs.lemmas.Slice.Eq.{bytes_eq-Decides}
 use Rattle.indexmap.specs.IndexMap.{insert_entry}
 use Rattle.wc_read.specs.declared.types.ValType.{ValType}
@@ -57,18 +58,13 @@ noted_new es new key v adapter function ty is none first second third a f =
     ∙ (ap (λ z. first_some (noted_type (map type_entry es) a f) (one_type adapter z (func_type_value v) a f)) second
     ∙ ap (λ z. first_some (noted_type (map type_entry es) a f) (one_type adapter function z a f)) third)))
 
-both_true : (x y : Bool) → (x && y) ≡ true → (x ≡ true) × (y ≡ true)
-both_true true true h = (refl, refl)
-both_true true false h = absurd (let bad : ⊥ = cc h in bad)
-both_true false y h = absurd (let bad : ⊥ = cc h in bad)
-
 kept_at : (E : _) (adapter function a f : List ℕ) (ty t : FuncTypeValue) (o : Option FuncTypeValue) (b : Bool) → noted_type E a f ≡ o
     → noted_type E adapter function ≡ Some t → (bytes_eq a adapter && bytes_eq f function) ≡ b
     → o ≡ first_some o (cond b (Some ty) None)
 kept_at E adapter function a f ty t (Some x) b is noted test = refl
 kept_at E adapter function a f ty t None false is noted test = refl
 kept_at E adapter function a f ty t None true is noted test =
-    let both = both_true (bytes_eq a adapter) (bytes_eq f function) test in
+    let both = and_parts (bytes_eq a adapter) (bytes_eq f function) test in
     let there : None ≡ Some t = sym is ∙ (ap (λ z. noted_type E z f) ((bytes_eq-Decides a adapter).0 both.0)
     ∙ (ap (λ z. noted_type E adapter z) ((bytes_eq-Decides f function).0 both.1) ∙ noted)) in
     absurd (let bad : ⊥ = cc there in bad)

@@ -8,18 +8,14 @@ use Rattle.std.proofs.lemmas.List.Elements.{All-cons, All-contains, All-head, Al
 use Rattle.std.proofs.lemmas.List.Kept.{AllPairs-cons}
 use Rattle.wc_adapters.proofs.PairLemmas.{pairs_head, pairs_none, pairs_tail}
 use Rattle.wc_resolve.proofs.SearchLemmas.{contains_cons, contains_head, contains_none}
+use Rattle.wc_resolve.proofs.WellFormedLemmas.{all_get}
 use Rattle.wc_validate.proofs.ContainedLemmas.{all_by, found_there, kept_from, looked_up, none_some, some_same}
-
-all_at : {X : Type 0} (P : X → Type 0) (xs : List X) (p : ℕ) (x : X) → All P xs → slice_get xs p ≡ Some x → P x
-all_at P [] p x h at = absurd (none_some x at)
-all_at P (y ∷ xs) zero x h at = subst P (some_same at) (All-head P y xs h)
-all_at P (y ∷ xs) (suc p) x h at = all_at P xs p x (All-tail P y xs h) at
 
 module _ {X : Type 0} (R : X → X → Type 0) where
   pair_at : (xs : List X) (p q : ℕ) (x y : X) → AllPairs R xs → p < q → slice_get xs p ≡ Some x → slice_get xs q ≡ Some y → R x y
   pair_at [] p q x y h less at_p at_q = absurd (none_some x at_p)
   pair_at (z ∷ xs) p zero x y h less at_p at_q = absurd (omega (arith, less))
-  pair_at (z ∷ xs) zero (suc q) x y h less at_p at_q = subst (λ a. R a y) (some_same at_p) (all_at (R z) xs q y (pairs_head R z xs h) at_q)
+  pair_at (z ∷ xs) zero (suc q) x y h less at_p at_q = subst (λ a. R a y) (some_same at_p) (all_get (R z) xs q y (pairs_head R z xs h) at_q)
   pair_at (z ∷ xs) (suc p) (suc q) x y h less at_p at_q = pair_at xs p q x y (pairs_tail R z xs h) (omega (arith, less)) at_p at_q
 
   -- at two positions, in one order or the other

@@ -12,7 +12,6 @@ use Rattle.wc_adapters.specs.Adapters.{LibraryView}
 use Rattle.wc_encoder.specs.EncoderParts.{EncoderView}
 use Rattle.wc_names.specs.Exports.{CoreExport, ExportMeaning, is_export}
 use Rattle.wc_names.specs.ExportViews.{ExportView}
-use Rattle.wc_names.specs.First.{FirstOf}
 use Rattle.wc_names.specs.Imports.{CoreImport, NameScope, Classified}
 use Rattle.wc_names.specs.Laws.{ExportsUnique, MeaningsUnique}
 use Rattle.wc_names.specs.Meanings.{means, refuses}
@@ -30,16 +29,13 @@ use Rattle.wc_validate.specs.Validate.{HasNoCause, IsValidateCause, IsExportsCau
 use Rattle.wc_validate.specs.declared.validate.ValidatedModule.{ValidatedModule}
 use Rattle.wc_validate.specs.declared.fault.ValidateFault.{ValidateFault}
 use Rattle.wc_validate.specs.declared.fault.ValidateFault.TheVariants.{Memory, Read, NotAModule, SignatureMismatch}
+use Rattle.wc_names.proofs.SearchLemmas.{first_kind}
+use Rattle.wc_validate.proofs.MissingLemmas.{no_unmet}
 use Rattle.wc_validate.proofs.LawLemmas.{exports_alike, none_some, one_core, one_entry, one_name_scope, same_signature, import_scopes_same}
 use Rattle.wc_validate.specs.Refused.{RefusedModule}
 
-pub kind_of : {K O : Type 0} (Holds : K → O → Type 0) (ks : List K) (o : O) → FirstOf Holds ks o → (k : K) × Holds k o
-kind_of Holds [] o h = absurd h
-kind_of Holds (k ∷ ks) o (inl h) = (k, h)
-kind_of Holds (k ∷ ks) o (inr h) = kind_of Holds ks o h.1
-
 no_entry_fault : (before : List Entry) (x : Entry) (f : ValidateFault) → IsValidAfter before x → ¬ IsEntryFault before x f
-no_entry_fault before x f valid h = let kind = kind_of (λ k (g : ValidateFault). IsEntryCause before x k × (g ≡ k)) entry_faults f h in valid kind.0 kind.1.0
+no_entry_fault before x f valid h = let kind = first_kind (λ k (g : ValidateFault). IsEntryCause before x k × (g ≡ k)) entry_faults f h in valid kind.0 kind.1.0
 
 -- imports
 module _ (r : ResolveView) (unique : MeaningsUnique r) where
@@ -109,12 +105,6 @@ exports_fault s keys xs Memory h = inl refl
 exports_fault s keys xs SignatureMismatch h = inr h
 exports_fault s keys xs f h = absurd h
 
-no_unmet : (r : ResolveView) (xs : List CoreExport) (recorded : ExportRecord) (needs : List Requirement) (f : ValidateFault) → AreMet r xs recorded needs
-    → ¬ IsFirstUnmet r xs recorded needs f
-no_unmet r xs recorded [] f p q = q
-no_unmet r xs recorded (need ∷ needs) f p (inl q) = q.0 p.0
-no_unmet r xs recorded (need ∷ needs) f p (inr q) = no_unmet r xs recorded needs f p.1 q.1
-
 unmet_fault : (r : ResolveView) (xs : List CoreExport) (recorded : ExportRecord) (needs : List Requirement) (f : ValidateFault)
     → IsUnmetFault r xs recorded needs f → (f ≡ Memory) ⊎ IsFirstUnmet r xs recorded needs f
 unmet_fault r xs recorded needs Memory h = inl refl
@@ -136,7 +126,7 @@ exports_by e keys required m recorded f unique s exports met (inl h) =
 exports_by e keys required m recorded f unique s exports met (inr h) =
     let same = exports_alike s keys (core_exports m m.exports) recorded h.0 unique exports h.1 in
     memory_or (unmet_fault s.resolve (core_exports m m.exports) h.0 (requirements s.world.exports keys required) f h.2)
-    (no_unmet s.resolve (core_exports m m.exports) h.0 (requirements s.world.exports keys required) f
+    (no_unmet s.resolve (core_exports m m.exports) h.0 f (requirements s.world.exports keys required)
     (subst (λ z. AreMet s.resolve (core_exports m m.exports) z (requirements s.world.exports keys required)) same met))
 
 no_exports_fault : (e : EncoderView) (keys : List KeyView) (required : List (List ℕ × FuncTypeValue)) (m : ModuleValue) (recorded : ExportRecord)

@@ -46,7 +46,7 @@ use Rattle.wc_validate.specs.Private.Exports.Classify.{IsExportClassified}
 use Rattle.wc_validate.specs.Private.Imports.Contexts.{AreRecorded, AreRecordedIn, HasLibrary, IsImportRecorded, IsImportRefusal, import_scope}
 use Rattle.wc_validate.specs.Validate.{IsImportScopeFor, IsNameScopeOf, ValidationInput}
 use Rattle.wc_validate.proofs.ContainedLemmas.{some_same}
-use Rattle.wc_validate.proofs.ExclusionLemmas.{kind_of}
+use Rattle.wc_names.proofs.SearchLemmas.{first_kind}
 use Rattle.wc_validate.proofs.ExportRecordLemmas.{ExportsPassed}
 use Rattle.wc_validate.proofs.RefusedLemmas.{memory_at, refused_as}
 
@@ -126,7 +126,7 @@ name_of_import e a f h = absurd h
 pub fault_of_import : (s : ImportScope) (before : List Entry) (i : ImportValue) (f : ValidateFault) → IsFaultOfImport s before i f → IsPlainFault f
 fault_of_import s before i f (inl h) = name_of_import s.name_scope h.1 f h.3
 fault_of_import s before i f (inr h) =
-    let kind = kind_of (λ k (g : ValidateFault). IsEntryCause before h.0 k × (g ≡ k)) entry_faults f h.2 in
+    let kind = first_kind (λ k (g : ValidateFault). IsEntryCause before h.0 k × (g ≡ k)) entry_faults f h.2 in
     subst IsPlainFault (sym kind.1.1) (cause_of_import before h.0 kind.0 kind.1.0)
 
 -- an import as the place of the fault that it is refused with

@@ -26,7 +26,8 @@ use Rattle.wc_validate.specs.Exports.Contexts.{core_export}
 use Rattle.wc_validate.specs.Exports.Map.{ExportRecord, export_entry}
 use Rattle.wc_validate.specs.Exports.Record.{AreExports, IsExportEntry, IsExportRecorded, core_exports, entry_of, item_type, typed_export}
 use Rattle.wc_validate.proofs.IndexLemmas.{lookup_push}
-use Rattle.wc_validate.proofs.PutLemmas.{insert_new, is_called}
+use Rattle.wc_names.proofs.ExportIndexLemmas.{is_called}
+use Rattle.wc_validate.proofs.PutLemmas.{insert_new}
 use Rattle.wc_validate.specs.Classifications.{IsClassification}
 use Rattle.wc_validate.specs.declared.name_fault.NameFault.TheVariants as naming
 use Rattle.wc_validate.specs.Private.Exports.Classify.{IsExportClassified}

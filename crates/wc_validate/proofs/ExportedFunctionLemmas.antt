@@ -1,5 +1,5 @@
 -- Exported functions: those that are recorded, and all by their names.
-use Rattle.std.proofs.Common.{◌≡◌, ◌↔◌, ◌⊎◌, ℕ, ◌<◌, ◌+◌, Bool, true, false, ◌&&◌, ◌||◌, cond, List, [], ◌∷◌, ◌++◌, map, take, length, get_or, Option, Some, None, All, Contains, IsTrue, is_some, String, string_bytes, inl, inr, refl, sym, ap, subst, ◌∙◌, append-nil, append_assoc}
+use Rattle.std.proofs.Common.{◌≡◌, ◌↔◌, ◌⊎◌, ℕ, ◌<◌, ◌+◌, Bool, true, false, ◌&&◌, cond, List, [], ◌∷◌, ◌++◌, map, take, length, get_or, Option, Some, None, All, Contains, IsTrue, is_some, String, string_bytes, inl, inr, refl, sym, ap, subst, ◌∙◌, append-nil, append_assoc}
 use Rattle.std.specs.Borrow.{Bor}
 use Rattle.std.specs.List.{cons_option, filter_map, list_any}
 use Rattle.std.specs.Map.{lookup}
@@ -7,6 +7,7 @@ use Rattle.std.specs.Option.{option_eq, option_map, option_to_list}
 use Rattle.std.specs.String.{string_eq}
 use Rattle.std.specs.Str.{bytes_eq}
 use Rattle.std.specs.declared.alloc.Global.{Global}
+use Rattle.std.proofs.lemmas.Bool.{and_from, and_parts, or_cases, or_left, or_right}
 use Rattle.std.proofs.lemmas.List.{map-append, take_more}
 use Rattle.std.proofs.lemmas.List.Elements.{All-cons, All-head, All-nil, All-tail, Contains-append_cases, Contains-append_left, Contains-append_right, filter_map-append}
 use Rattle.indexmap.specs.IndexMap.{insert_entry}
@@ -39,15 +40,6 @@ Key = Option InterfaceId × String Global
 abbrev pub key_test : Key → Key → Bool
 key_test a b = option_eq id_eq.it a.0 b.0 && string_eq a.1 b.1
 
-both_true : (x y : Bool) → (x && y) ≡ true → (x ≡ true) × (y ≡ true)
-both_true true true h = (refl, refl)
-both_true true false h = absurd (let bad : ⊥ = cc h in bad)
-both_true false y h = absurd (let bad : ⊥ = cc h in bad)
-
-true_both : (x y : Bool) → x ≡ true → y ≡ true → (x && y) ≡ true
-true_both true y h k = k
-true_both false y h k = absurd (let bad : ⊥ = cc h in bad)
-
 options_law : (a b : Option InterfaceId) → (option_eq id_eq.it a b ≡ true)
     ↔ (option_map (λ (id : InterfaceId). id.0) a ≡ option_map (λ (id : InterfaceId). id.0) b)
 options_law None None = (λ h. refl, λ h. refl)
@@ -60,24 +52,12 @@ pair_is x y p q = λ i. (p i, q i)
 
 pub keys_law : (a b : Key) → (key_test a b ≡ true) ↔ (function_key a ≡ function_key b)
 keys_law a b = (
-  λ h. to (both_true (option_eq id_eq.it a.0 b.0) (string_eq a.1 b.1) h),
-  λ h. true_both _ _
+  λ h. to (and_parts (option_eq id_eq.it a.0 b.0) (string_eq a.1 b.1) h),
+  λ h. and_from _ _
       ((options_law a.0 b.0).1 (ap (λ (z : Option ℕ × List ℕ). z.0) h)) ((texts_law a.1 b.1).1 (ap (λ (z : Option ℕ × List ℕ). z.1) h)),
 ) where
   to : (option_eq id_eq.it a.0 b.0 ≡ true) × (string_eq a.1 b.1 ≡ true) → function_key a ≡ function_key b
   to h = pair_is (function_key a) (function_key b) ((options_law a.0 b.0).0 h.0) ((texts_law a.1 b.1).0 h.1)
-
-either : (b c : Bool) → (b || c) ≡ true → (b ≡ true) ⊎ (c ≡ true)
-either true c h = inl refl
-either false c h = inr h
-
-or_left : (b c : Bool) → b ≡ true → (b || c) ≡ true
-or_left true c h = refl
-or_left false c h = absurd (let bad : ⊥ = cc h in bad)
-
-or_right : (b c : Bool) → c ≡ true → (b || c) ≡ true
-or_right true c h = refl
-or_right false c h = h
 
 any_to : (k x : Key) (keys : List Key) → (list_any (key_test k) keys ≡ true → Contains (map function_key keys) (function_key k)) → (key_test k x ≡ true)
     ⊎ (list_any (key_test k) keys ≡ true)
@@ -96,7 +76,7 @@ any_from k x keys rest (inr h) = or_right (key_test k x) (list_any (key_test k) 
 pub any_key : (k : Key) (keys : List Key) → (list_any (key_test k) keys ≡ true) ↔ Contains (map function_key keys) (function_key k)
 any_key k [] = (λ h. absurd (let e : false ≡ true = h in let bad : ⊥ = cc e in bad), λ h. absurd (contains_none (function_key k) h))
 any_key k (x ∷ keys) = (
-  λ h. any_to k x keys (any_key k keys).0 (either (key_test k x) (list_any (key_test k) keys) h),
+  λ h. any_to k x keys (any_key k keys).0 (or_cases (key_test k x) (list_any (key_test k) keys) h),
   λ h. any_from k x keys (any_key k keys).1
       (contains_cons (function_key x) (map function_key keys) (function_key k) h),
 )

@@ -12,6 +12,7 @@ use Rattle.wc_resolve.specs.Views.{KeyView, plain_key, interface_key, key_view}
 use Rattle.wc_resolve.proofs.KeyLemmas.{nat_from, nat_to}
 use Rattle.wc_names.specs.Keys.{key_eq}
 use Rattle.wc_validate.specs.FirstPositions.{kept_position}
+pub use Rattle.wc_names.proofs.FirstMemberLemmas.{or_none}
 use Rattle.wc_names.proofs.InterfaceIndexLemmas.{lookup_push}
 use Rattle.wc_names.proofs.KeyLemmas.{keys_viewed as keys_agree}
 
@@ -19,10 +20,6 @@ use Rattle.wc_names.proofs.KeyLemmas.{keys_viewed as keys_agree}
 pub on_ok : {T F P Q : Type 0} (r : Result T F) → (P → Q) → OnOk r P → OnOk r Q
 on_ok (Ok x) f h = f h
 on_ok (Err e) f h = tt
-
-pub or_none : {X : Type 0} (o : Option X) → option_or o None ≡ o
-or_none None = refl
-or_none (Some x) = refl
 
 absent : {X : Type 0} (o : Option X) (there : Bool) → there ≡ is_some o → there ≡ false → o ≡ None
 absent None there is not = refl

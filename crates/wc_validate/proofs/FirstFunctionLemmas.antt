@@ -21,7 +21,8 @@ use Rattle.wc_validate.specs.Imports.Instances.{import_entry, instance_entry, in
 use Rattle.wc_validate.specs.Private.Imports.AdapterFunctions.{HasFirsts}
 use Rattle.wc_validate.proofs.FirstPositionLemmas.{image_at}
 use Rattle.wc_validate.proofs.IndexLemmas.{first_some_none, lookup_push}
-use Rattle.wc_validate.proofs.PutLemmas.{is_called, record_found, record_none}
+use Rattle.wc_names.proofs.ExportIndexLemmas.{is_called}
+use Rattle.wc_validate.proofs.PutLemmas.{record_found, record_none}
 use Rattle.wc_validate.proofs.InstanceLemmas.{other, same}
 use Rattle.wc_validate.proofs.AdapterFunctionLemmas.{others}
 
@@ -294,10 +295,6 @@ none_added under name m positions empty none = at (bytes_eq m name) refl where
   at : (b : Bool) → bytes_eq m name ≡ b → under m ≡ cond b positions (under m)
   at true is = ap under (same m name is) ∙ (empty ∙ sym none)
   at false is = refl
-
-pub no_entries : {X : Type 0} (xs : List X) → length xs ≡ 0 → xs ≡ []
-no_entries [] h = refl
-no_entries (x ∷ xs) h = absurd (let bad : ⊥ = cc h in bad)
 
 -- modules that are gone through
 unseen_at : {X : Type 0} (name : List ℕ) (p : String Global × X) (ps : List (String Global × X)) → bytes_eq name (string_bytes p.0) ≡ false

@@ -14,12 +14,12 @@ use Rattle.wc_names.specs.Mangling.{Scheme, interface_prefix, export_prefix}
 use Rattle.wc_validate.specs.Classifications.{FaultKind, IsImportClassification, of_imports}
 use Rattle.wc_names.specs.Views.{interface_func}
 use Rattle.wc_names.specs.WitIntrinsics.{wit_intrinsics, IsWitIntrinsic}
+use Rattle.wc_names.proofs.MeaningLemmas.{function_unique, interface_unique}
 use Rattle.wc_names.proofs.SearchLemmas.{NoneOf}
 use Rattle.wc_validate.proofs.ClassificationLemmas.{classified_as}
 use Rattle.wc_validate.specs.Private.Imports.Kinds.{MeansFunction, MeansIntrinsic, export_kinds, function_import}
 use Rattle.wc_validate.specs.NameScope.{imported_function}
-use Rattle.wc_validate.proofs.ImportInterfaceLemmas.{interface_unique}
-use Rattle.wc_validate.proofs.ImportRootLemmas.{lookup_scope_in, function_unique, none_append, none_mapped, classified_mapped}
+use Rattle.wc_validate.proofs.ImportRootLemmas.{lookup_scope_in, none_append, none_mapped, classified_mapped}
 
 module _ {F : Type 0} (kind : F → FaultKind) (s : Scheme) (e : NameScope) (formed : IsWellFormed e.resolve) (text name : List ℕ) (ty : FuncTypeValue) where
   abbrev imported : CoreFunction
@@ -38,7 +38,7 @@ module _ {F : Type 0} (kind : F → FaultKind) (s : Scheme) (e : NameScope) (for
   module _ (found : FoundInterface) (is_found : NamesInterface s e.resolve e.world.imports text found) where
     only_import : (g : FoundInterface) → NamesImportedInterface s e (interface_prefix s ++ text) g → g ≡ found
     only_import g h =
-        interface_unique e.resolve formed e.world.imports s text g found (subst (λ z. NamesInterface s e.resolve e.world.imports z g) (same_text h.0 h.1) h.2)
+        interface_unique e.resolve formed.distinct e.world.imports s text g found (subst (λ z. NamesInterface s e.resolve e.world.imports z g) (same_text h.0 h.1) h.2)
         is_found
 
     -- the interface is known
@@ -90,7 +90,7 @@ module _ {F : Type 0} (kind : F → FaultKind) (s : Scheme) (e : NameScope) (for
   module _ (found : FoundInterface) (is_found : NamesInterface s e.resolve e.world.exports text found) where
     only_export : (g : FoundInterface) → NamesExportedInterface s e (interface_prefix s ++ (export_prefix s ++ text)) g → g ≡ found
     only_export g h =
-        interface_unique e.resolve formed e.world.exports s text g found (subst (λ z. NamesInterface s e.resolve e.world.exports z g) (same_export h.0 h.1) h.2)
+        interface_unique e.resolve formed.distinct e.world.exports s text g found (subst (λ z. NamesInterface s e.resolve e.world.exports z g) (same_export h.0 h.1) h.2)
         is_found
 
     pub export_known : (m : Meaning) → ¬ IsKind s e exported export_unknown m

@@ -1,21 +1,19 @@
--- Interfaces that texts are about: one at most, and in range.
-use Rattle.std.proofs.Common.{◌≡◌, ℕ, ◌<◌, Bool, List, [], ◌∷◌, length, Option, Some, None, All, inl, inr, refl, sym, ap, subst, ◌∙◌}
+-- Interfaces that texts are about are in range.
+use Rattle.std.proofs.Common.{◌≡◌, ℕ, ◌<◌, Bool, List, [], ◌∷◌, length, Option, Some, None, All, inl, inr, refl, sym, subst}
 use Rattle.std.specs.Prelude.{slice_get}
 use Rattle.std.specs.Option.{option_and_then}
 use Rattle.std.proofs.lemmas.List.Elements.{All-head, All-tail}
 use Rattle.wc_resolve.specs.declared.ids.InterfaceId.{InterfaceId}
-use Rattle.wc_resolve.specs.Ranges.{AreIdsInRange, IsEntryIn, IsItemIn, IsKeyIn, IsPackageIn}
+use Rattle.wc_resolve.specs.Ranges.{AreIdsInRange, IsEntryIn, IsItemIn, IsPackageIn}
 use Rattle.wc_resolve.specs.Views.{KeyView, plain_key, interface_key, ItemView, interface_item, function_item, type_item, PackageView, PackageNameView, WorldView}
 use Rattle.wc_resolve.specs.WellFormed.{IsWellFormed}
 use Rattle.wc_resolve.specs.Kinds.{ResolveView}
 use Rattle.wc_adapters.specs.Entries.{Entries}
 use Rattle.wc_names.specs.First.{FirstOf}
-use Rattle.wc_names.specs.Interfaces.{FoundInterface, IsMemberOf, IsOnTrack, IsCloneOf, IsEntryOf, IdMatch, exact_version, clone, same_track, id_matches, IsIdMatch, TextMatch, by_plain_key, by_id, text_matches, IsTextMatch, IsCanonicalEntry, NamesInterface}
+use Rattle.wc_names.specs.Interfaces.{FoundInterface, IsMemberOf, IsOnTrack, IsCloneOf, IsEntryOf, id_matches, IsIdMatch, IsCanonicalEntry, NamesInterface}
 use Rattle.wc_names.specs.Keys.{as_interface, item_under, world_entries}
 use Rattle.wc_names.specs.Mangling.{Scheme, standard, legacy}
-use Rattle.wc_names.proofs.InterfaceLemmas.{id_unique, member_unique}
-use Rattle.wc_resolve.proofs.WellFormedLemmas.{all_get}
-use Rattle.wc_names.proofs.SearchLemmas.{first_unique}
+use Rattle.wc_resolve.proofs.WellFormedLemmas.{all_get, item_in, key_in}
 use Rattle.wc_validate.proofs.ScopeLemmas.{entries_in_range, holds_of_found, item_in_range}
 
 -- the one that is first is one of the list
@@ -24,39 +22,7 @@ first_with H P [] o all f = absurd f
 first_with H P (k ∷ ks) o all (inl h) = (k, All-head P k ks all, h)
 first_with H P (k ∷ ks) o all (inr h) = first_with H P ks o (All-tail P k ks all) h.1
 
-entry_of_unique : (P : ℕ → Type 0) (k : KeyView × ItemView) (f g : FoundInterface) → IsEntryOf P k f → IsEntryOf P k g → f ≡ g
-entry_of_unique P (plain_key n, item) f g h i = absurd h
-entry_of_unique P (interface_key k, item) f g h i = h.1 ∙ sym i.1
-
-canonical_unique : (r : ResolveView) (text : List ℕ) (k : KeyView × ItemView) (f g : FoundInterface) → IsCanonicalEntry r text k f → IsCanonicalEntry r text k g
-    → f ≡ g
-canonical_unique r text (plain_key n, interface_item i x) f g h k = h.1 ∙ sym k.1
-canonical_unique r text (plain_key n, function_item x) f g h k = absurd h
-canonical_unique r text (plain_key n, type_item x) f g h k = absurd h
-canonical_unique r text (interface_key i, item) f g h k = h.1 ∙ sym k.1
-
 module _ (r : ResolveView) (formed : IsWellFormed r) (es : Entries) where
-  id_match_unique : (p : PackageNameView) (n : List ℕ) (k : IdMatch) (f g : FoundInterface) → IsIdMatch r es p n k f → IsIdMatch r es p n k g → f ≡ g
-  id_match_unique p n exact_version f g h i = h.3 ∙ (ap (λ z. (interface_key z, z)) (member_unique r p n h.0 i.0 formed.distinct h.1 i.1) ∙ sym i.3)
-  id_match_unique p n clone f g h i =
-      first_unique (IsEntryOf (IsCloneOf r h.0)) (entry_of_unique (IsCloneOf r h.0)) es f g h.2
-      (subst (λ z. FirstOf (IsEntryOf (IsCloneOf r z)) es g) (member_unique r p n i.0 h.0 formed.distinct i.1 h.1) i.2)
-  id_match_unique p n same_track f g h i = first_unique (IsEntryOf (IsOnTrack r p n)) (entry_of_unique (IsOnTrack r p n)) es f g h i
-
-  text_match_unique : (text : List ℕ) (k : TextMatch) (f g : FoundInterface) → IsTextMatch r es text k f → IsTextMatch r es text k g → f ≡ g
-  text_match_unique text by_plain_key f g h i =
-      let same : h.0 ≡ i.0 = let both : Some h.0 ≡ Some i.0 = sym h.1 ∙ i.1 in cc both in
-      h.2 ∙ (ap (λ z. (plain_key text, z)) same ∙ sym i.2)
-  text_match_unique text by_id f g h i =
-      let same = id_unique text i.0 h.0 i.1 h.1 i.2 h.2 in
-      first_unique (IsIdMatch r es h.0 h.1) (id_match_unique h.0 h.1) id_matches f g h.3
-      (subst (λ z. FirstOf (IsIdMatch r es h.0 z) id_matches g) same.1 (subst (λ z. FirstOf (IsIdMatch r es z i.1) id_matches g) same.0 i.3))
-
-  -- a text is about one interface at most
-  pub interface_unique : (s : Scheme) (text : List ℕ) (f g : FoundInterface) → NamesInterface s r es text f → NamesInterface s r es text g → f ≡ g
-  interface_unique standard text f g h i = first_unique (IsCanonicalEntry r text) (canonical_unique r text) es f g h i
-  interface_unique (legacy hook) text f g h i = first_unique (IsTextMatch r es text) (text_match_unique text) text_matches f g h i
-
   packages_in : AreIdsInRange r → All (IsPackageIn r) r.packages
   unfolding AreIdsInRange
   packages_in h = h.3
@@ -70,28 +36,20 @@ module _ (r : ResolveView) (formed : IsWellFormed r) (es : Entries) where
       (holds_of_found (λ e. e.1 < length r.interfaces) _ m.in_package.interfaces i
       (members_in m.in_package (all_get (IsPackageIn r) r.packages m.index m.in_package (packages_in formed.in_range) m.is_package)) m.is_member).1
 
-  key_in : (e : KeyView × ItemView) → IsEntryIn r e → IsKeyIn r e.0
-  unfolding IsEntryIn
-  key_in e h = h.0
-
-  item_in : (e : KeyView × ItemView) → IsEntryIn r e → IsItemIn r e.1
-  unfolding IsEntryIn
-  item_in e h = h.1
-
   module _ (all : All (IsEntryIn r) es) where
     entry_found : (P : ℕ → Type 0) (k : KeyView × ItemView) (f : FoundInterface) → IsEntryIn r k → IsEntryOf P k f → f.1 < length r.interfaces
     entry_found P (plain_key n, item) f there h = absurd h
-    entry_found P (interface_key i, item) f there h = subst (λ z. z.1 < length r.interfaces) (sym h.1) (key_in (interface_key i, item) there)
+    entry_found P (interface_key i, item) f there h = subst (λ z. z.1 < length r.interfaces) (sym h.1) (key_in r (interface_key i, item) there)
 
     entry_first : (P : ℕ → Type 0) (f : FoundInterface) → FirstOf (IsEntryOf P) es f → f.1 < length r.interfaces
     entry_first P f h = let found = first_with (IsEntryOf P) (IsEntryIn r) es f all h in entry_found P found.0 f found.1 found.2
 
     canonical_found : (text : List ℕ) (k : KeyView × ItemView) (f : FoundInterface) → IsEntryIn r k → IsCanonicalEntry r text k f → f.1 < length r.interfaces
     canonical_found text (plain_key n, interface_item i x) f there h =
-        subst (λ z. z.1 < length r.interfaces) (sym h.1) (item_in (plain_key n, interface_item i x) there)
+        subst (λ z. z.1 < length r.interfaces) (sym h.1) (item_in r (plain_key n, interface_item i x) there)
     canonical_found text (plain_key n, function_item x) f there h = absurd h
     canonical_found text (plain_key n, type_item x) f there h = absurd h
-    canonical_found text (interface_key i, item) f there h = subst (λ z. z.1 < length r.interfaces) (sym h.1) (key_in (interface_key i, item) there)
+    canonical_found text (interface_key i, item) f there h = subst (λ z. z.1 < length r.interfaces) (sym h.1) (key_in r (interface_key i, item) there)
 
     as_interface_is : (o : Option ItemView) (i : ℕ) → option_and_then as_interface o ≡ Some i → ((item : ItemView) → o ≡ Some item → IsItemIn r item)
         → i < length r.interfaces

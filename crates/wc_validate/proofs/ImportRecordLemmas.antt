@@ -23,7 +23,7 @@ use Rattle.wc_validate.specs.Imports.Record.{ImportScope, library_entry, IsCoreI
 use Rattle.wc_validate.specs.Private.Imports.Recorder.{AreTypesOfEntry, IsRecordedAfter, IsRefusedBy, IsTypedRefusal, types_of}
 use Rattle.wc_validate.specs.Imports.Classify.{IsClassified}
 use Rattle.wc_validate.proofs.ContainedLemmas.{none_some, some_same}
-use Rattle.wc_validate.proofs.ExclusionLemmas.{kind_of}
+use Rattle.wc_names.proofs.SearchLemmas.{first_kind}
 
 pub by_library : (s : ImportScope) (i : ImportValue) (x : Entry) (o : Option Entry) → Some x ≡ o → o ≡ library_entry s.library i.module_name i.name
     → IsEntry s i x
@@ -79,7 +79,7 @@ no_mismatch before (single m n i) h = h
 
 no_entry_mismatch : (before : List Entry) (x : Entry) → ¬ IsEntryFault before x SignatureMismatch
 no_entry_mismatch before x h =
-    let kind = kind_of (λ k (g : ValidateFault). IsEntryCause before x k × (g ≡ k)) entry_faults SignatureMismatch h in
+    let kind = first_kind (λ k (g : ValidateFault). IsEntryCause before x k × (g ≡ k)) entry_faults SignatureMismatch h in
     no_mismatch before x (subst (IsEntryCause before x) (sym kind.1.1) kind.1.0)
 
 -- an entry that is all of a module, and one of a single import

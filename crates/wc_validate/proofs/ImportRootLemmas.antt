@@ -1,6 +1,5 @@
 -- Kinds of names: functions of the world and of interfaces, and groups of kinds.
-use Rattle.std.proofs.Common.{◌≡◌, ℕ, Bool, true, false, is_some, List, [], ◌∷◌, ◌++◌, map, Option, Some, None, Result, Ok, Err, inl, inr, refl, sym, ap, subst, ◌∙◌, codes}
-use Rattle.std.proofs.lemmas.List.{append_cancel_left}
+use Rattle.std.proofs.Common.{◌≡◌, ℕ, Bool, true, false, is_some, List, [], ◌∷◌, ◌++◌, map, Option, Some, None, Result, Ok, Err, inl, inr, refl, sym, ap, subst, ◌∙◌}
 use Rattle.wc_read.specs.Types.{FuncTypeValue}
 use Rattle.wc_resolve.specs.declared.functions.AbiVariant.{AbiVariant}
 use Rattle.wc_resolve.specs.Views.{plain_key}
@@ -9,9 +8,10 @@ use Rattle.wc_names.specs.First.{FirstOf}
 use Rattle.wc_names.specs.Imports.{NameScope, root_builtin, root_function, root_intrinsic, root_other_item, root_unknown, IsKind, NamesFunctionAs, function_type, import_abi}
 use Rattle.wc_names.specs.Keys.{Scope, world_scope, item_under}
 use Rattle.wc_names.specs.Meanings.{Meaning, means, refuses, root_not_function}
-use Rattle.wc_names.specs.Mangling.{Scheme, standard, legacy, root_module, NamesFunction}
+use Rattle.wc_names.specs.Mangling.{Scheme, root_module}
 use Rattle.wc_validate.specs.Classifications.{FaultKind, IsClassification, IsImportClassification, of_imports}
 use Rattle.wc_names.specs.WitIntrinsics.{wit_intrinsics, IsWitIntrinsic}
+use Rattle.wc_names.proofs.MeaningLemmas.{function_unique}
 use Rattle.wc_names.proofs.SearchLemmas.{NoneOf, none_of}
 use Rattle.wc_validate.proofs.ClassificationLemmas.{classified_as, group_err, group_some}
 use Rattle.wc_validate.specs.Private.Imports.Builtins.{IsAnyBuiltin, MeansBuiltin}
@@ -64,16 +64,6 @@ unfolding IsClassification
 group_total kind H xs ys ty (Ok None) some v = absurd (some (none_of H xs v))
 group_total kind H xs ys ty (Ok (Some i)) some v = group_some of_imports kind H xs ys ty (Some i) v refl
 group_total kind H xs ys ty (Err f) some v = group_err of_imports kind H xs ys ty f v
-
--- a name is of one function, lowered in one way
-pub function_unique : (s : Scheme) (a b : Bool) (x y name : List ℕ) → NamesFunction s a x name → NamesFunction s b y name → (a ≡ b) × (x ≡ y)
-function_unique standard true b x y name h k = absurd h
-function_unique standard false true x y name h k = absurd k
-function_unique standard false false x y name h k = (refl, sym h ∙ k)
-function_unique (legacy hook) true true x y name h k = (refl, append_cancel_left (codes "[async-lower]") x y (sym h ∙ k))
-function_unique (legacy hook) true false x y name h k = absurd (k.1 x h)
-function_unique (legacy hook) false true x y name h k = absurd (h.1 y k)
-function_unique (legacy hook) false false x y name h k = (refl, sym h.0 ∙ k.0)
 
 module _ {F : Type 0} (kind : F → FaultKind) (s : Scheme) (e : NameScope) (name : List ℕ) (ty : FuncTypeValue) where
   -- the function of the world that a name is of

@@ -1,6 +1,5 @@
 -- Built-ins of resources and tasks: what their names mean, by what is looked up under the names that they hold.
-use Rattle.std.proofs.Common.{◌≡◌, ℕ, Bool, true, false, List, [], ◌∷◌, Option, Some, None, Result, inl, inr, refl, sym, ap, subst, ◌∙◌, codes}
-use Rattle.std.proofs.lemmas.List.{append_cancel_left, append_cancel_right}
+use Rattle.std.proofs.Common.{◌≡◌, ℕ, Bool, true, false, List, [], ◌∷◌, Option, Some, None, Result, inl, inr, refl, sym, ap, subst, ◌∙◌}
 use Rattle.wc_read.specs.declared.types.ValType.TheVariants.{I32}
 use Rattle.wc_read.specs.Types.{FuncTypeValue}
 use Rattle.wc_resolve.specs.Views.{FunctionView, KeyView}
@@ -8,9 +7,10 @@ use Rattle.wc_names.specs.declared.imports.Import.{Import}
 use Rattle.wc_names.specs.Builtins.{signature}
 use Rattle.wc_names.specs.Keys.{scope_key}
 use Rattle.wc_names.specs.Meanings.{Meaning, means, refuses, no_such_export}
-use Rattle.wc_names.specs.Mangling.{Scheme, standard, legacy, ResourceOperation, resource_drop, resource_new, resource_rep, NamesResource, NamesTaskReturn}
+use Rattle.wc_names.specs.Mangling.{Scheme, ResourceOperation, resource_drop, resource_new, resource_rep, NamesResource, NamesTaskReturn}
 use Rattle.wc_validate.specs.Classifications.{FaultKind, IsImportClassification, of_imports}
 use Rattle.wc_names.specs.Views.{ImportView, exported_task_return}
+use Rattle.wc_names.proofs.MeaningLemmas.{resource_unique, task_return_unique}
 use Rattle.wc_names.specs.WitIntrinsics.{of_resource, task_return, no_task_return, resource_row}
 use Rattle.wc_validate.proofs.ClassificationLemmas.{classified_as}
 use Rattle.wc_validate.specs.Private.Imports.Kinds.{IsIntrinsic, MeansIntrinsic, MeansOnResource}
@@ -25,18 +25,6 @@ same_meaning i j a b e f = cc (e, f)
 
 pub same_task : (k l : KeyView) (o : Option ℕ) (f h : FunctionView) → k ≡ l → f ≡ h → exported_task_return k o f ≡ exported_task_return l o h
 same_task k l o f h d e = cc (d, e)
-
-pub resource_unique : (s : Scheme) (op : ResourceOperation) (a b name : List ℕ) → NamesResource s op a name → NamesResource s op b name → a ≡ b
-resource_unique standard resource_drop a b name x y = append_cancel_right a b (codes "_drop") (sym x ∙ y)
-resource_unique standard resource_new a b name x y = append_cancel_right a b (codes "_new") (sym x ∙ y)
-resource_unique standard resource_rep a b name x y = append_cancel_right a b (codes "_rep") (sym x ∙ y)
-resource_unique (legacy hook) resource_drop a b name x y = append_cancel_left (codes "[resource-drop]") a b (sym x ∙ y)
-resource_unique (legacy hook) resource_new a b name x y = append_cancel_left (codes "[resource-new]") a b (sym x ∙ y)
-resource_unique (legacy hook) resource_rep a b name x y = append_cancel_left (codes "[resource-rep]") a b (sym x ∙ y)
-
-pub task_return_unique : (s : Scheme) (a b name : List ℕ) → NamesTaskReturn s a name → NamesTaskReturn s b name → a ≡ b
-task_return_unique standard a b name x y = absurd x
-task_return_unique (legacy hook) a b name x y = append_cancel_left (codes "[task-return]") a b (sym x ∙ y)
 
 pub with_result : (imported : Bool) (op : ResourceOperation) → has_result imported op ≡ true → signature (I32 ∷ []) (I32 ∷ []) ≡ (resource_row imported op).ty
 with_result true op h = absurd (let bad : ⊥ = cc h in bad)

@@ -13,7 +13,7 @@ use Rattle.wc_adapters.specs.Adapters.{InstanceView, module_instance, item_insta
 use Rattle.wc_encoder.specs.EncoderParts.{EncoderView}
 use Rattle.wc_names.specs.Exports.{CoreExport, ExportMeaning, is_export}
 use Rattle.wc_names.specs.ExportViews.{ExportView}
-use Rattle.wc_names.specs.Imports.{CoreImport, ExternType, NameScope, Classified}
+use Rattle.wc_names.specs.Imports.{CoreImport, NameScope, Classified}
 use Rattle.wc_names.specs.Laws.{ExportsUnique, IsImportIn, MeaningsInRange, MeaningsUnique}
 use Rattle.wc_names.specs.Meanings.{Meaning, means}
 use Rattle.wc_names.specs.Views.{ImportView, library_item}
@@ -24,15 +24,13 @@ use Rattle.wc_validate.specs.Laws.{EntriesInRange, EntriesUnique, RecordsUnique,
 use Rattle.wc_validate.specs.Exports.Record.{AreExports, IsExportEntry, core_exports, entry_of}
 use Rattle.wc_validate.specs.Imports.Classify.{HasSignature}
 use Rattle.wc_validate.specs.Validate.{IsExportsRecord, IsImportsRecord, IsImportScopeFor, IsNameScopeOf, ModuleRecord, encoder_scope}
+use Rattle.wc_names.proofs.SameMeaningLemmas.{import_of}
 use Rattle.wc_validate.proofs.ContainedLemmas.{some_same}
-
-abbrev core_by : List ℕ → List ℕ → ExternType → CoreImport
-core_by from name ty = record { from = from; name = name; ty = ty }
 
 pub one_core : (s : ImportScope) (i : ImportValue) (a b : CoreImport) → IsCoreImport s i a → IsCoreImport s i b → a ≡ b
 one_core s i a b p q =
-    ap (λ z. core_by z a.name a.ty) (p.0 ∙ sym q.0) ∙ (ap (λ z. core_by b.from z a.ty) (p.1 ∙ sym q.1)
-    ∙ ap (λ z. core_by b.from b.name z) (some_same (sym p.2 ∙ q.2)))
+    ap (λ z. import_of z a.name a.ty) (p.0 ∙ sym q.0) ∙ (ap (λ z. import_of b.from z a.ty) (p.1 ∙ sym q.1)
+    ∙ ap (λ z. import_of b.from b.name z) (some_same (sym p.2 ∙ q.2)))
 
 pub same_import : {v u : ImportView} {p q : Option FuncTypeValue} → means v p ≡ means u q → v ≡ u
 same_import e = cc e

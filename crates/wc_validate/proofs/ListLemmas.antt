@@ -1,5 +1,5 @@
 -- Lists by their items.
-use Rattle.std.proofs.Common.{◌≡◌, ℕ, zero, suc, ◌<◌, List, [], ◌∷◌, map, length, get_or, refl, arith}
+use Rattle.std.proofs.Common.{◌≡◌, ℕ, suc, ◌<◌, List, [], ◌∷◌, map, length, get_or, refl, arith}
 
 -- a list whose items are those of another one, each by a function
 pub same_by_index : {A B : Type 0} (f : A → B) (xs : List A) (ys : List B) → length xs ≡ length ys
@@ -11,9 +11,3 @@ same_by_index f (x ∷ xs) (y ∷ ys) n h =
     let first : y ≡ f x = h 0 (omega arith) y x in
     let rest : ys ≡ map f xs = same_by_index f xs ys (omega (arith, n)) (λ k l d e. h (suc k) (omega arith) d e) in
     cc (first, rest)
-
--- what is read at an index in range is read at any default
-pub any_default : {A : Type 0} (xs : List A) (i : ℕ) (d e : A) → i < length xs → get_or xs i d ≡ get_or xs i e
-any_default [] i d e l = absurd (omega (arith, l))
-any_default (x ∷ xs) zero d e l = refl
-any_default (x ∷ xs) (suc i) d e l = any_default xs i d e (omega (arith, l))

@@ -3,9 +3,7 @@ use Rattle.std.proofs.Common.{◌≡◌, ◌≢◌, ◌≤◌, ◌+◌, ℕ, Boo
 use Rattle.std.specs.Borrow.{Bor}
 use Rattle.std.specs.Map.{lookup}
 use Rattle.std.specs.Option.{option_to_list}
-use Rattle.wc_resolve.proofs.KeyLemmas.{nat_from}
-use Rattle.std.specs.Str.{bytes_eq}
-use Rattle.std.proofs.lemmas.Slice.Eq.{bytes_eq-Decides}
+use Rattle.wc_names.proofs.InterfaceLemmas.{same_key}
 use Rattle.semver.specs.Identifiers.{parts_text}
 use Rattle.std.specs.declared.alloc.Global.{Global}
 use Rattle.std.proofs.lemmas.List.{map-append}
@@ -15,7 +13,7 @@ use Rattle.wc_read.specs.Types.{FuncTypeValue, func_type_value}
 use Rattle.wc_resolve.specs.declared.ids.InterfaceId.{InterfaceId}
 use Rattle.wc_resolve.specs.declared.worlds.WorldItem.{WorldItem}
 use Rattle.wc_resolve.specs.declared.worlds.WorldKey.{WorldKey}
-use Rattle.wc_resolve.specs.Views.{ItemView, KeyView, interface_key, key_view, plain_key, world_entry}
+use Rattle.wc_resolve.specs.Views.{ItemView, KeyView, key_view, world_entry}
 use Rattle.wc_resolve.specs.WellFormed.{IsWellFormed}
 use Rattle.wc_resolve.proofs.WellFormedLemmas.{export_keys_have_texts, export_keys_in}
 use Rattle.wc_resolve.specs.Kinds.{ResolveView}
@@ -76,7 +74,7 @@ passed_end P all left p is =
     subst (All P) (sym whole) p.hold
 
 -- something of a list that does not hold
-all_rest : {X : Type 0} (P : X → Type 0) (xs ys : List X) → All P (xs ++ ys) → All P ys
+pub all_rest : {X : Type 0} (P : X → Type 0) (xs ys : List X) → All P (xs ++ ys) → All P ys
 all_rest P [] ys h = h
 all_rest P (a ∷ xs) ys h = all_rest P xs ys (All-tail P a (xs ++ ys) h)
 
@@ -223,13 +221,7 @@ module _ (r : ResolveView) (xs : List CoreExport) (recorded : ExportRecord) wher
     memory_at (IsFunctionPlace r xs recorded functions) x h,
   )
 
--- keys that are equal by the test are equal, so what holds of the keys of entries holds of one that is found
-same_key : (a b : KeyView) → key_eq a b ≡ true → a ≡ b
-same_key (plain_key n) (plain_key m) h = ap plain_key ((bytes_eq-Decides n m).0 h)
-same_key (plain_key n) (interface_key j) h = absurd (let bad : ⊥ = cc h in bad)
-same_key (interface_key i) (plain_key m) h = absurd (let bad : ⊥ = cc h in bad)
-same_key (interface_key i) (interface_key j) h = ap interface_key (nat_from i j h)
-
+-- what holds of the keys of entries holds of one that is found
 key_step : (P : KeyView → Type 0) (key : KeyView) (e : KeyView × ItemView) (es : Entries) (item : ItemView) (b : Bool) → key_eq key e.0 ≡ b → P e.0
     → (lookup (key_eq key) es ≡ Some item → P key) → cond b (Some e.1) (lookup (key_eq key) es) ≡ Some item → P key
 key_step P key e es item true test here rest is = subst P (sym (same_key key e.0 test)) here

@@ -11,6 +11,7 @@ use Rattle.wc_adapters.specs.Adapters.{WhichView, which_view}
 use Rattle.wc_resolve.proofs.LookupLemmas.{name_viewed}
 use Rattle.wc_validate.specs.declared.imports.instances.ImportInstance.TheVariants.{Whole, Names}
 use Rattle.indexmap.specs.IndexMap.{insert_entry}
+use Rattle.wc_names.proofs.ExportIndexLemmas.{is_called}
 use Rattle.wc_names.specs.declared.imports.Import.{Import}
 use Rattle.wc_validate.specs.Imports.Entries.{InstanceRecord, all_of, names_of, Records, IsAllRecorded, IsNameRecorded}
 use Rattle.wc_validate.specs.Imports.Instances.{import_entry, instance_view, instance_entry, add_to, put_in, IsFree, IsInstanceFault, IsWholeFault, IsWholePut}
@@ -19,9 +20,6 @@ use Rattle.wc_validate.specs.declared.fault.ValidateFault.{ValidateFault}
 use Rattle.wc_validate.specs.declared.fault.ValidateFault.TheVariants.{Memory}
 use Rattle.wc_names.specs.Views.{ImportView, import_view}
 use Rattle.wc_validate.specs.declared.imports.instances.ImportInstance.{ImportInstance}
-
-abbrev pub is_called : List ℕ → String Global → Bool
-is_called m k = bytes_eq m (string_bytes k)
 
 -- in the place of the instance that was there
 put_at : (es : List (String Global × ImportInstance)) (e : String Global × ImportInstance) (m name : List ℕ) (i : ImportView) (old new : ImportInstance)

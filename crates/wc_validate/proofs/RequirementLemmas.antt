@@ -24,7 +24,7 @@ use Rattle.wc_validate.specs.declared.fault.ValidateFault.TheVariants.{AdapterEx
 use Rattle.wc_validate.specs.declared.fault.AdapterModuleDidNotExport.{AdapterModuleDidNotExport}
 use Rattle.wc_validate.specs.Exports.Map.{ExportRecord, export_entry}
 use Rattle.wc_validate.specs.Requirements.{AreMet, IsFirstUnmet, IsMet, IsShortfall, IsUnmetFault, Requirement, callback_name, exported_type, interface_functions, is_called_back, is_callback_for, item_requirement, key_requirement, key_requirements, needs_callback, typed_function, world_function}
-use Rattle.wc_validate.proofs.PutLemmas.{is_called}
+use Rattle.wc_names.proofs.ExportIndexLemmas.{is_called}
 use Rattle.wc_validate.proofs.ScopeLemmas.{holds_of_found}
 use Rattle.wc_validate.specs.Texts.{name_not_exported}
 

@@ -29,6 +29,7 @@ use Rattle.wc_validate.specs.Imports.Classify.{HasSignature}
 use Rattle.wc_validate.proofs.DistinctNameLemmas.{HaveDistinctNames, distinct_kept, lookup_one, same_lookups}
 use Rattle.wc_validate.proofs.ContainedLemmas.{all_by, found_there, kept_from, kept_there, none_some, some_same}
 use Rattle.wc_validate.proofs.LawLemmas.{same_entries}
+use Rattle.wc_validate.proofs.MissingLemmas.{no_unmet}
 use Rattle.wc_validate.proofs.RequirementLemmas.{at_most_one}
 
 -- the entry of what is recorded
@@ -323,12 +324,6 @@ module _ (s : NameScope) (keys : List KeyView) (unique : ExportsUnique) (names :
     all_met r (need ∷ needs) named h =
         (met_still r need (All-head (IsNamedIn names) need needs named) h.0, all_met r needs (All-tail (IsNamedIn names) need needs named) h.1)
 
-not_unmet : (r : ResolveView) (xs : List CoreExport) (recorded : ExportRecord) (needs : List Requirement) (f : ValidateFault) → AreMet r xs recorded needs
-    → ¬ IsFirstUnmet r xs recorded needs f
-not_unmet r xs recorded [] f met h = h
-not_unmet r xs recorded (need ∷ needs) f met (inl h) = h.0 met.0
-not_unmet r xs recorded (need ∷ needs) f met (inr h) = not_unmet r xs recorded needs f met.1 h.1
-
 first_unmet : (r : ResolveView) (xs : List CoreExport) (recorded : ExportRecord) (needs : List Requirement) (f : ValidateFault) → f ≢ Memory
     → IsUnmetFault r xs recorded needs f → IsFirstUnmet r xs recorded needs f
 first_unmet r xs recorded needs Memory other h = absurd (other refl)
@@ -353,6 +348,6 @@ module _ (s : NameScope) (keys : List KeyView) (unique : ExportsUnique) (names :
       → ¬ (IsExportsFault s keys ys f ⊎ ((q : ExportRecord) × AreExports s keys ys q × IsUnmetFault s.resolve ys q needs f))
   exports_valid f other met (inl h) = no_mismatch_among s keys unique xs ys p first from (mismatch_of s keys ys f other h)
   exports_valid f other met (inr h) =
-      not_unmet s.resolve ys h.0 needs f (all_met s keys unique names xs ys p h.0 first h.1 from kept recorded distinct s.resolve needs
+      no_unmet s.resolve ys h.0 f needs (all_met s keys unique names xs ys p h.0 first h.1 from kept recorded distinct s.resolve needs
       (all_named names s.world.exports keys required named) met)
       (first_unmet s.resolve ys h.0 needs f other h.2)

@@ -4,13 +4,13 @@ use Rattle.std.specs.Prelude.{slice_get}
 use Rattle.std.specs.Map.{lookup}
 use Rattle.std.specs.Option.{option_and_then}
 use Rattle.std.proofs.lemmas.List.Elements.{All-head, All-tail, All-weaker}
-use Rattle.wc_resolve.specs.Ranges.{AreIdsInRange, AreNamesIn, IsEntryIn, IsFunctionIn, IsInterfaceIn, IsItemIn, IsKeyIn, IsWorldIn}
+use Rattle.wc_resolve.specs.Ranges.{AreNamesIn, IsEntryIn, IsFunctionIn, IsInterfaceIn, IsItemIn, IsKeyIn, IsWorldIn}
 use Rattle.wc_resolve.specs.Views.{KeyView, plain_key, ItemView, function_item, type_item, FunctionView, InterfaceView, WorldView}
 use Rattle.wc_resolve.specs.WellFormed.{IsFree, IsUsable, IsWellFormed}
 use Rattle.wc_resolve.specs.Kinds.{ResolveView, DoAllTypesPass, DoesInterfacePass, DoesItemPass, DoesWorldPass, SignatureHasOnly}
 use Rattle.wc_names.specs.Keys.{as_type, function_at, item_under, type_named, world_entries}
 use Rattle.wc_texts.specs.Names.{under_name}
-use Rattle.wc_resolve.proofs.WellFormedLemmas.{all_get}
+use Rattle.wc_resolve.proofs.WellFormedLemmas.{all_get, interfaces_in, item_in, key_in, worlds_in}
 use Rattle.wc_names.proofs.RangeLemmas.{as_function_is}
 use Rattle.wc_names.proofs.KeyLemmas.{entries_in_range as entries_in}
 
@@ -25,21 +25,9 @@ module _ {K X : Type 0} (P : K × X → Type 0) (test : K → Bool) where
   holds_of_found [] x all is = absurd (let bad : ⊥ = cc is in bad)
   holds_of_found (e ∷ es) x all is = found_step e es x (test e.0) (All-head P e es all) (λ h. holds_of_found es x (All-tail P e es all) h) is
 
-worlds_in : (r : ResolveView) → AreIdsInRange r → All (IsWorldIn r) r.worlds
-unfolding AreIdsInRange
-worlds_in r h = h.0
-
 -- the world at an index is in range
 pub world_in_range : (r : ResolveView) (k : ℕ) (w : WorldView) → IsWellFormed r → slice_get r.worlds k ≡ Some w → IsWorldIn r w
 world_in_range r k w formed at = all_get (IsWorldIn r) r.worlds k w (worlds_in r formed.in_range) at
-
-entry_item : (r : ResolveView) (e : KeyView × ItemView) → IsEntryIn r e → IsItemIn r e.1
-unfolding IsEntryIn
-entry_item r e h = h.1
-
-entry_key : (r : ResolveView) (e : KeyView × ItemView) → IsEntryIn r e → IsKeyIn r e.0
-unfolding IsEntryIn
-entry_key r e h = h.0
 
 -- what a world imports or exports is in range, and so are its keys
 pub entries_in_range : (r : ResolveView) (w : WorldView) (k : ℕ) (imported : Bool) → IsWellFormed r → slice_get r.worlds k ≡ Some w
@@ -49,21 +37,17 @@ entries_in_range r w k imported formed at = entries_in r w imported (world_in_ra
 pub keys_in_range : (r : ResolveView) (w : WorldView) (k : ℕ) (imported : Bool) → IsWellFormed r → slice_get r.worlds k ≡ Some w
     → All (λ x. IsKeyIn r x.0) (world_entries w imported)
 keys_in_range r w k imported formed at =
-    All-weaker (IsEntryIn r) (λ x. IsKeyIn r x.0) (entry_key r) (world_entries w imported) (entries_in_range r w k imported formed at)
+    All-weaker (IsEntryIn r) (λ x. IsKeyIn r x.0) (key_in r) (world_entries w imported) (entries_in_range r w k imported formed at)
 
 -- the item under a key is in range
 pub item_in_range : (r : ResolveView) (es : List (KeyView × ItemView)) (key : KeyView) (item : ItemView) → All (IsEntryIn r) es → item_under es key ≡ Some item
     → IsItemIn r item
-item_in_range r es key item all is = let found = holds_of_found (IsEntryIn r) _ es item all is in entry_item r (found.0, item) found.1
+item_in_range r es key item all is = let found = holds_of_found (IsEntryIn r) _ es item all is in item_in r (found.0, item) found.1
 
 as_type_is : (o : Option ItemView) (t : ℕ) → option_and_then as_type o ≡ Some t → o ≡ Some (type_item t)
 as_type_is None t is = absurd (let bad : ⊥ = cc is in bad)
 as_type_is (Some (type_item u)) t is = let same : u ≡ t = cc is in ap (λ z. Some (type_item z)) same
 as_type_is (Some i) t is = absurd (let bad : ⊥ = cc is in bad)
-
-interfaces_in : (r : ResolveView) → AreIdsInRange r → All (IsInterfaceIn r) r.interfaces
-unfolding AreIdsInRange
-interfaces_in r h = h.1
 
 types_in : (r : ResolveView) (v : InterfaceView) → IsInterfaceIn r v → All (λ e. e.1 < length r.types) v.types
 unfolding IsInterfaceIn AreNamesIn

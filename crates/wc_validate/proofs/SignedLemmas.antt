@@ -1,5 +1,5 @@
 -- Only functions have signatures: what an import or an export means by a rule that fixes a signature.
-use Rattle.std.proofs.Common.{◌≡◌, ℕ, List, [], ◌∷◌, map, Some, inl, inr, refl, ap, subst}
+use Rattle.std.proofs.Common.{◌≡◌, ℕ, List, [], ◌∷◌, map, Some, inl, inr, refl, subst}
 use Rattle.wc_read.specs.declared.types.FuncType.{FuncType}
 use Rattle.wc_read.specs.declared.types.Import.{Import}
 use Rattle.wc_read.specs.declared.types.ImportType.{ImportType}

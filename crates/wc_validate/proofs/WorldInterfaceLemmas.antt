@@ -1,19 +1,16 @@
 -- The interfaces of an encoder's world.
-use Rattle.std.proofs.Common.{◌≡◌, ◌∙◌, Option, Some, None, IfSome, option_copied, ap, sym, subst}
+use Rattle.std.proofs.Common.{◌≡◌, Option, Some, None, IfSome, option_copied, sym, subst}
 use Rattle.std.specs.Borrow.{Bor}
 use Rattle.wc_encoder.specs.EncoderParts.{EncoderView}
 use Rattle.wc_names.specs.Imports.{NameScope}
 use Rattle.wc_validate.specs.NameScope.{AreInterfacesOf}
 use Rattle.wc_validate.specs.Private.WorldInterfaces.{AreInterfacesFor, AreInterfacesThere}
-use Rattle.wc_validate.specs.Validate.{IsNameScopeOf, encoder_scope}
+use Rattle.wc_validate.specs.Validate.{IsNameScopeOf}
 use Rattle.wc_validate.specs.declared.name_scope.Interfaces.{Interfaces}
-
--- an encoder has one scope of names
-same_scope : (e : EncoderView) (s t : NameScope) → IsNameScopeOf e s → IsNameScopeOf e t → s ≡ t
-same_scope e s t (w, at, is) (x, there, same) = let one : w ≡ x = (let both = sym at ∙ there in cc both) in is ∙ (ap (encoder_scope e) one ∙ sym same)
+use Rattle.wc_validate.proofs.LawLemmas.{one_name_scope}
 
 pub interfaces_are : (e : EncoderView) (s : NameScope) (i : Interfaces) → IsNameScopeOf e s → AreInterfacesOf s i → AreInterfacesFor e i
-interfaces_are e s i scope h = λ t is. subst (λ z. AreInterfacesOf z i) (same_scope e s t scope is) h
+interfaces_are e s i scope h = λ t is. subst (λ z. AreInterfacesOf z i) (one_name_scope e s t scope is) h
 
 -- none were made
 pub none_there : (e : EncoderView) (o : Option (Bor Interfaces)) → option_copied o ≡ None → AreInterfacesThere e o

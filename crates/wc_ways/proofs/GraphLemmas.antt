@@ -2,10 +2,9 @@
 use Rattle.std.proofs.Common.{◌≡◌, ℕ, Bool, List, ◌++◌, codes, Result, Ok, Err, IfOk, Some, String, Global, string_bytes, ◌∙◌, ap, subst}
 use Rattle.wc_why.specs.Graph.{AreNodes}
 use Rattle.wc_why.specs.Lines.{importer_text}
-use Rattle.wc_ways.specs.Nodes.{cluster_text}
 use Rattle.wc_ways.specs.Private.Graph.{AreImportArrows, AreMainArrows, AreWalkMarks, IsWalkGraph}
 use Rattle.wc_ways.specs.Private.Adapters.{IsWalk, original_in}
-use Rattle.wc_ways.specs.Words.{adapter_id, adapter_prefix}
+use Rattle.wc_ways.specs.Words.{adapter_id, adapter_prefix, cluster_text}
 use Rattle.wc_ways.specs.declared.originals.Walk.{Walk}
 
 -- the graph, of which it is known what its parts are

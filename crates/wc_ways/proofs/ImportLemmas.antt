@@ -16,7 +16,7 @@ use Rattle.wc_why.specs.declared.paths.Path.{Path}
 use Rattle.wc_why.proofs.ItemLemmas.{index_there}
 use Rattle.wc_ways.specs.Asked.{FunctionName}
 use Rattle.wc_ways.specs.Originals.{Original, asked_of, required_of}
-use Rattle.wc_ways.specs.Ways.{IsImportPath, IsItemPath, IsPathAt, adapter_path}
+use Rattle.wc_ways.specs.Ways.{IsAdapterPath, IsImportPath, IsItemPath, IsPathAt}
 
 -- an import that was read
 pub import_read : (xs : List Import) (k : ℕ) (i : Import) → k < length xs → i ≡ get_or xs k i → slice_get (map import_value xs) k ≡ Some (import_value i)
@@ -70,6 +70,6 @@ module _ (a : Original) (position : ℕ) (j : ImportValue) (at : slice_get a.val
 
 -- the path by the chain that was taken
 pub chain_item : (a : Original) (f : FunctionName) (j : ImportValue) (chains : ImportChains) (item_index : ℕ) (c : Chain) (path : PathView)
-    → AreImportChains (required_of a) a.value chains → IsChainAt chains item_index c → path ≡ adapter_path a f c j
+    → AreImportChains (required_of a) a.value chains → IsChainAt chains item_index c → IsAdapterPath a f c j path
     → (x : ItemIndex) → slice_get chains.order.items item_index ≡ Some x → IsItemPath a f j x (path ∷ [])
-chain_item a f j chains item_index c path are found h x e = inr (c, found (required_of a) a.value x are e, ap (λ z. z ∷ []) h)
+chain_item a f j chains item_index c path are found h x e = inr (c, path, found (required_of a) a.value x are e, h, refl)

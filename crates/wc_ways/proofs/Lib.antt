@@ -5,5 +5,9 @@ mod UserLemmas
 mod OriginalLemmas
 mod ImportLemmas
 mod WalkLemmas
+mod EachLemmas
+mod MainLemmas
+mod MainWayLemmas
+mod MainGraphLemmas
 mod GraphLemmas
 mod WaysLemmas

@@ -30,7 +30,7 @@ module _ {A B : Type 0} (shown : A → List B) where
   pub says_these : (Is : List A → Type 0) (parts : List A) (old new : List B) → Is parts → new ≡ old ++ flat_map shown parts → Says shown Is old new
   says_these Is parts old new is put = (parts, is, put)
 
-  appended : (front more : List A) (old mid new : List B) → mid ≡ old ++ flat_map shown front → new ≡ mid ++ flat_map shown more
+  pub appended : (front more : List A) (old mid new : List B) → mid ≡ old ++ flat_map shown front → new ≡ mid ++ flat_map shown more
       → new ≡ old ++ flat_map shown (front ++ more)
   appended front more old mid new p q =
       q ∙ (ap (λ z. z ++ flat_map shown more) p ∙ (append_assoc old (flat_map shown front) (flat_map shown more) ∙ ap (λ z. old ++ z) (sym (flat_map-append shown front more))))
@@ -40,12 +40,12 @@ module _ {A B : Type 0} (shown : A → List B) where
   says_more IsAt n old mid new (front, joined, put) (part, here, more) =
       (front ++ part, one_joined n IsAt front part joined here, appended front part old mid new put more)
 
-  -- parts between these
-  pub says_between : (Is Both : List A → Type 0) (first last : List A) (old mid other new : List B) → mid ≡ old ++ flat_map shown first
-      → Says shown Is mid other → new ≡ other ++ flat_map shown last → ((parts : List A) → Is parts → Both (first ++ (parts ++ last)))
-      → Says shown Both old new
-  says_between Is Both first last old mid other new put (parts, is, more) rest make =
-      (first ++ (parts ++ last), make parts is, appended first (parts ++ last) old mid new put (appended parts last mid other new more rest))
+  -- parts of two kinds, and these after them
+  pub says_before : (First Is All : List A → Type 0) (last : List A) (old mid other new : List B) → Says shown First old mid → Says shown Is mid other
+      → new ≡ other ++ flat_map shown last → ((first parts : List A) → First first → Is parts → All (first ++ (parts ++ last)))
+      → Says shown All old new
+  says_before First Is All last old mid other new (first, was, put) (parts, is, more) rest make =
+      (first ++ (parts ++ last), make first parts was is, appended first (parts ++ last) old mid new put (appended parts last mid other new more rest))
 
   -- one part
   pub says_one : {E : Type 0} (Is : List A → Type 0) (x : A) (old new : List B) (r : Result (Unit {0}) E) → Is (x ∷ []) → OnOk r (new ≡ old ++ shown x)

@@ -3,6 +3,8 @@ pub mod Asked
 pub mod Users
 pub mod Types
 pub mod Words
+pub mod Main
+pub mod MainNodes
 pub mod Originals
 pub mod Said
 pub mod Ways

@@ -2,4 +2,6 @@
 pub mod Adapters
 pub mod Graph
 pub mod Imported
+pub mod MainPaths
+pub mod MainWays
 pub mod Users

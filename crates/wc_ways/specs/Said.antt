@@ -1,5 +1,5 @@
 -- What is said of the modules of a component's world, whatever that is: lists of parts.
-use Rattle.std.specs.Prelude.{◌≡◌, ℕ, List, [], ◌++◌, length, MatchOption, Option, Some, None}
+use Rattle.std.specs.Prelude.{◌≡◌, ℕ, List, [], ◌∷◌, ◌++◌, length, MatchOption, Option, Some}
 use Rattle.std.specs.List.{flat_map, slice_get}
 use Rattle.std.specs.Map.{lookup}
 use Rattle.std.specs.Str.{bytes_eq}
@@ -15,9 +15,18 @@ use Rattle.wc_why.specs.Joined.{AreJoined}
 use Rattle.wc_why.specs.Lines.{importer_text}
 use Rattle.wc_ways.specs.Originals.{Original, original_of}
 use Rattle.wc_ways.specs.Types.{SayingTypes, types_said}
-use Rattle.wc_ways.specs.Words.{adapter_id, main_text}
+use Rattle.wc_ways.specs.Words.{adapter_id}
 
--- what is said of a module of which only its imports are known: by the types, the key, the name of the adapter, what the module is
+-- parts are said of the main module of a world, by the key
+abbrev pub SayingMain : Type 0 → Type 1
+SayingMain A = ComponentWorldView → List ℕ → List A → Type 0
+
+-- parts are said of things in a row, of each as `Is` says
+abbrev pub AreEach : {X A : Type 0} → (X → List A → Type 0) → List X → List A → Type 0
+AreEach {X} {A} Is [] parts = parts ≡ []
+AreEach {X} {A} Is (x ∷ xs) parts = (first rest : List A) × Is x first × AreEach Is xs rest × (parts ≡ first ++ rest)
+
+-- what is said of a library, of which only its imports are known: by the types, the key, the name of the adapter, what the module is
 -- called as a node and in a graph, and its imports
 abbrev pub SayingAlone : Type 0 → Type 0
 SayingAlone A = ResolveView → List ℕ → Option (List ℕ) → List ℕ → List ℕ → Records → List A
@@ -43,10 +52,7 @@ IsSaidOfTrimmed Is w name info parts =
 abbrev pub IsSaidOf : {A : Type 0} → Saying A → (NamedWorldAdapter → List A) → ComponentWorldView → NamedWorldAdapter → List A → Type 0
 IsSaidOf Is library w y parts = MatchOption y.1.library_info (IsSaidOfTrimmed Is w y.0 y.1.info parts) (λ (l : LibraryView). parts ≡ library y)
 
--- what is said of the main module, and of a library, of which only their imports are known
-abbrev pub main_said : {A : Type 0} → SayingAlone A → ComponentWorldView → List ℕ → List A
-main_said alone w key = alone w.encoder.resolve key None main_text main_text w.info.imports
-
+-- what is said of a library
 abbrev pub library_said : {A : Type 0} → SayingAlone A → ComponentWorldView → List ℕ → ℕ → NamedWorldAdapter → List A
 library_said alone w key index y = alone w.encoder.resolve key (Some y.0) (adapter_id index) (importer_text (Some y.0)) y.1.info.imports
 
@@ -60,9 +66,10 @@ abbrev pub AreAllSaid : {A : Type 0} → SayingAlone A → SayingAt A → Compon
 AreAllSaid alone saying w key parts = AreJoined (length w.adapters) (IsSaidAt alone saying w key) parts
 
 -- of the main module, then of each adapter, and then of what is imported for its types alone
-abbrev pub IsAllSaid : {A : Type 0} → SayingAlone A → SayingAt A → SayingTypes A → ComponentWorldView → List ℕ → List A → Type 0
-IsAllSaid {A} alone saying typed w key parts =
-    (adapters : List A) × AreAllSaid alone saying w key adapters × (parts ≡ main_said alone w key ++ (adapters ++ types_said typed w key))
+abbrev pub IsAllSaid : {A : Type 0} → SayingMain A → SayingAlone A → SayingAt A → SayingTypes A → ComponentWorldView → List ℕ → List A → Type 0
+IsAllSaid {A} main alone saying typed w key parts =
+    (first adapters : List A) × main w key first × AreAllSaid alone saying w key adapters
+    × (parts ≡ first ++ (adapters ++ types_said typed w key))
 
 -- parts that are as `Is` says were printed
 abbrev pub Says : {A B : Type 0} → (A → List B) → (List A → Type 0) → List B → List B → Type 0

@@ -1,5 +1,5 @@
 -- The paths to what a component imports, from its main module and through its adapters: as lines and as JSON.
-use Rattle.std.specs.Prelude.{◌≡◌, ◌⊎◌, ℕ, List, [], ◌∷◌, ◌++◌, length, map, codes, cond, MatchOption, Option, Some, None}
+use Rattle.std.specs.Prelude.{◌≡◌, ◌⊎◌, ℕ, Bool, true, false, List, [], ◌∷◌, ◌++◌, length, map, codes, MatchOption, Option, Some, None}
 use Rattle.std.specs.List.{flat_map, slice_get}
 use Rattle.std.specs.Option.{option_map_or}
 use Rattle.json.specs.Lex.{tokens}
@@ -22,9 +22,10 @@ use Rattle.wc_why.specs.JsonPaths.{paths_json}
 use Rattle.wc_why.specs.Lines.{path_lines}
 use Rattle.wc_why.specs.Paths.{PathView, StepView, exported, imported, item_step, named, typed}
 use Rattle.wc_ways.specs.Asked.{FunctionName, asked_function}
+use Rattle.wc_ways.specs.Main.{AreMainSteps}
 use Rattle.wc_ways.specs.Originals.{Original, asked_of, required_of, wanted_of}
-use Rattle.wc_ways.specs.Said.{IsAllSaid}
-use Rattle.wc_ways.specs.Words.{WantedFunctions, is_wanted}
+use Rattle.wc_ways.specs.Said.{AreEach, IsAllSaid}
+use Rattle.wc_ways.specs.Words.{is_wanted}
 
 -- the path to a function that is its import alone
 abbrev pub import_path : Option (List ℕ) → FunctionName → List ℕ → List ℕ → PathView
@@ -37,26 +38,50 @@ recorded_path r key adapter x = option_map_or (λ (f : FunctionName). import_pat
 abbrev pub recorded_paths : ResolveView → List ℕ → Option (List ℕ) → Records → List PathView
 recorded_paths r key adapter records = flat_map (recorded_path r key adapter) (imports_in records)
 
--- the steps to an export of an adapter: the main module's import of it, if there is one, and the export
-abbrev pub first_steps : WantedFunctions → List ℕ → List ℕ → List StepView
-first_steps wanted adapter export =
-    cond (is_wanted wanted export) (imported None adapter export ∷ exported adapter export ∷ []) (exported adapter export ∷ [])
+-- the path to a function from the main module: the steps to its import, and that
+abbrev pub main_path : FunctionName → List ℕ → List ℕ → List StepView → PathView
+main_path f from name steps = record { interface = f.0; target = named f.1; steps = steps ++ imported None from name ∷ [] }
+
+-- by the steps in the main module of a world
+abbrev pub IsMainPath : ComponentWorldView → FunctionName → List ℕ → List ℕ → PathView → Type 0
+IsMainPath w f from name p = (steps : List StepView) × AreMainSteps w.encoder.module_bytes from name steps × (p ≡ main_path f from name steps)
+
+-- the path to a recorded import of the main module, if it is asked about; and to all of them
+abbrev pub IsRecordedMainPath : ComponentWorldView → List ℕ → List ℕ × (List ℕ × ImportView) → List PathView → Type 0
+IsRecordedMainPath w key x paths =
+    MatchOption (asked_function w.encoder.resolve key x.1.0 x.1.1) (paths ≡ []) (λ f. (p : PathView) × IsMainPath w f x.0 x.1.0 p × (paths ≡ p ∷ []))
+
+abbrev pub AreRecordedMainPaths : ComponentWorldView → List ℕ → List PathView → Type 0
+AreRecordedMainPaths w key paths = AreEach (IsRecordedMainPath w key) (imports_in w.info.imports) paths
+
+-- the steps to an export of an adapter: if the main module imports it, the steps to its import, and that; and the export
+abbrev pub AreFirstStepsBy : Bool → Original → List ℕ → List StepView → Type 0
+AreFirstStepsBy true a export first =
+    (steps : List StepView) × AreMainSteps a.world.encoder.module_bytes a.name export steps
+    × (first ≡ steps ++ imported None a.name export ∷ exported a.name export ∷ [])
+AreFirstStepsBy false a export first = first ≡ exported a.name export ∷ []
+
+abbrev pub AreFirstSteps : Original → List ℕ → List StepView → Type 0
+AreFirstSteps a export first = AreFirstStepsBy (is_wanted (wanted_of a) export) a export first
 
 -- the path to a function through an adapter by a chain: these steps to the export that it begins with, its items, and the import
-abbrev pub adapter_path : Original → FunctionName → Chain → ImportValue → PathView
-adapter_path a f c i =
+abbrev pub adapter_path : Original → FunctionName → List StepView → Chain → ImportValue → PathView
+adapter_path a f first c i =
     record {
       interface = f.0;
       target = named f.1;
-      steps = first_steps (wanted_of a) a.name c.export.now ++ (map (item_step a.names) c.items.items ++ imported (Some a.name) i.module_name i.name ∷ []);
+      steps = first ++ (map (item_step a.names) c.items.items ++ imported (Some a.name) i.module_name i.name ∷ []);
     }
+
+abbrev pub IsAdapterPath : Original → FunctionName → Chain → ImportValue → PathView → Type 0
+IsAdapterPath a f c i p = (first : List StepView) × AreFirstSteps a c.export.now first × (p ≡ adapter_path a f first c i)
 
 -- the path to a function, which is this import and item of an adapter: by the first of the shortest chains from a required export;
 -- none, where no required export reaches the item
 abbrev pub IsItemPath : Original → FunctionName → ImportValue → ItemIndex → List PathView → Type 0
 IsItemPath a f i x paths =
     ((¬ (IsLive (required_of a) a.value x)) × (paths ≡ []))
-    ⊎ ((c : Chain) × IsChainTo (required_of a) a.value x c × (paths ≡ adapter_path a f c i ∷ []))
+    ⊎ ((c : Chain) × (p : PathView) × IsChainTo (required_of a) a.value x c × IsAdapterPath a f c i p × (paths ≡ p ∷ []))
 
 -- the path to an import at a position of the adapter, if it is asked about
 abbrev pub IsImportPath : Original → List ℕ → ℕ → ImportValue → List PathView → Type 0
@@ -77,7 +102,8 @@ typed_path interface user = record { interface = interface; target = typed user;
 -- the paths to what is asked about: from the main module, and through each adapter in order; then what is imported for its types
 -- alone
 abbrev pub ArePaths : ComponentWorldView → List ℕ → List PathView → Type 0
-ArePaths w key paths = IsAllSaid (λ r k adapter id label records. recorded_paths r k adapter records) (λ k index. AreOriginalPaths k) typed_path w key paths
+ArePaths w key paths =
+    IsAllSaid AreRecordedMainPaths (λ r k adapter id label records. recorded_paths r k adapter records) (λ k index. AreOriginalPaths k) typed_path w key paths
 
 -- their lines; or that nothing is imported
 abbrev pub or_none : List ℕ → List ℕ → List ℕ

@@ -6,11 +6,13 @@ ghost use Rattle.wc_plan.specs.Fault.{AreNameable};
 ghost use Rattle.wc_validate.specs.Validate.{module_record};
 ghost use Rattle.wc_world.specs.WorldViews.{adapter_view, world_view};
 ghost use Rattle.wc_ways.specs.Said.{AreAllSaid, Says};
-ghost use Rattle.wc_ways.specs.Private.Adapters.{IsNameableIn, IsSaidBy, IsSaidOfThis, library_said};
+ghost use Rattle.wc_ways.specs.Private.Adapters.{HasMain, IsMainOf, IsNameableIn, IsSaidBy, IsSaidOfThis, library_said};
 ghost use Rattle.wc_ways.specs.WaysFaults.{IsAdapterFault, IsOriginalFault, IsWaysFault};
 
 use crate::forms::{Form, Module};
-use crate::originals::{Adapter, put_in};
+use crate::main_paths::MainPaths;
+use crate::modules::Adapter;
+use crate::originals::put_in;
 use std::alloc::{AllocError, Global};
 use wc_gc::GcFault;
 use wc_why::importer_text;
@@ -21,9 +23,11 @@ pub(crate) fn put_adapters<F: Form>(
     alloc: Global,
     world: &ComponentWorld<'_>,
     key: &str,
+    main: &MainPaths<'_>,
     out: &mut F,
 ) -> Result<(), GcFault>
-    requires { AreNameable (world_view world.now) }
+    requires nameable { AreNameable (world_view world.now) }
+    requires main { IsMainOf (world_view world.now) main.now }
     ensures said { OnOk result (Says F.shown
         (AreAllSaid F.alone F.saying (world_view world.now) key.now)
         (F.printed out.old) (F.printed out.new)) }
@@ -39,6 +43,7 @@ pub(crate) fn put_adapters<F: Form>(
             index,
             name: *name,
             info,
+            main,
         };
         put_adapter(alloc, &asked, adapter, out)?;
         index += 1;
@@ -49,12 +54,13 @@ pub(crate) fn put_adapters<F: Form>(
 /// Says what leads to imports of an adapter.
 fn put_adapter<F: Form>(
     alloc: Global,
-    asked: &Adapter<'_, '_>,
+    asked: &Adapter<'_, '_, '_>,
     adapter: &WorldAdapter<'_>,
     out: &mut F,
 ) -> Result<(), GcFault>
     requires nameable { IsNameableIn asked.now }
     requires same { asked.now.info.now ≡ adapter.now.info }
+    requires main { HasMain asked.now }
     ensures said { OnOk result (Says F.shown
         (IsSaidBy F.alone F.saying asked.now (adapter_view adapter.now))
         (F.printed out.old) (F.printed out.new)) }
@@ -74,7 +80,7 @@ fn put_adapter<F: Form>(
 /// Says what leads to imports of a library, of which only its imports are known.
 fn put_library<F: Form>(
     alloc: Global,
-    asked: &Adapter<'_, '_>,
+    asked: &Adapter<'_, '_, '_>,
     out: &mut F,
 ) -> Result<(), AllocError>
     requires { IsNameableIn asked.now }
@@ -96,8 +102,13 @@ fn put_library<F: Form>(
 }
 
 /// Says what leads to imports of an adapter that was trimmed.
-fn put_trimmed<F: Form>(alloc: Global, asked: &Adapter<'_, '_>, out: &mut F) -> Result<(), GcFault>
-    requires { IsNameableIn asked.now }
+fn put_trimmed<F: Form>(
+    alloc: Global,
+    asked: &Adapter<'_, '_, '_>,
+    out: &mut F,
+) -> Result<(), GcFault>
+    requires nameable { IsNameableIn asked.now }
+    requires main { HasMain asked.now }
     ensures said { OnOk result (Says F.shown (IsSaidOfThis F.saying asked.now)
         (F.printed out.old) (F.printed out.new)) }
     ensures kept { OnOk result (F.before out.new ≡ F.before out.old) }

@@ -4,16 +4,22 @@ ghost use Rattle.std.specs.Prelude.{◌≡◌, ◌++◌, ℕ, List, All, OnOk, O
 ghost use Rattle.std.specs.List.{flat_map};
 ghost use Rattle.std.specs.Option.{option_map};
 ghost use Rattle.wc_plan.specs.Calls.{IsNameable};
+ghost use Rattle.wc_plan.specs.Fault.{AreNameable};
 ghost use Rattle.wc_resolve.specs.Kinds.{ResolveView};
 ghost use Rattle.wc_validate.specs.Imports.Entries.{Records};
 ghost use Rattle.wc_validate.specs.Imports.Map.{imports_in};
 ghost use Rattle.wc_why.specs.Paths.{text_of};
 ghost use Rattle.wc_world.specs.Slots.{imports_of};
+ghost use Rattle.wc_world.specs.Views.{ComponentWorldView};
 ghost use Rattle.wc_ways.specs.Originals.{Original};
 ghost use Rattle.wc_ways.specs.Said.{Says};
 ghost use Rattle.wc_ways.specs.Private.Adapters.{IsWalk, key_in, original_in};
+ghost use Rattle.wc_ways.specs.Private.MainWays.{IsFollowedIn, key_of, world_of};
 
 use crate::graph::{module_graph, original_graph, typed_node};
+use crate::main_graph::graph_of_main;
+use crate::main_ways::recorded_main_paths;
+use crate::modules::MainModule;
 use crate::originals::Walk;
 use crate::paths::original_paths;
 use crate::recorded::{Question, recorded_paths};
@@ -23,12 +29,12 @@ use wc_resolve::Resolve;
 use wc_validate::ImportMap;
 use wc_why::PathPrinter;
 
-/// A module of which only its imports are known: what it is called, in a graph and as its node, and its imports.
+/// A library, of which only its imports are known: what it is called, in a graph and as its node, and its imports.
 #[derive(Clone, Copy)]
 pub(crate) struct Module<'a> {
     pub(crate) name: &'a str,
     pub(crate) id: &'a str,
-    /// The name of the adapter; `None` for the main module.
+    /// Its name.
     pub(crate) adapter: Option<&'a str>,
     pub(crate) imports: &'a ImportMap,
 }
@@ -47,7 +53,10 @@ pub(crate) trait Form {
 
     ghost before: { Self → List ℕ };
 
-    // The parts that are said of a module of which only its imports are known.
+    // The parts that are said of the main module of a world, by the key.
+    ghost leading: { ComponentWorldView → List ℕ → List Part → Type 0 };
+
+    // The parts that are said of a library, of which only its imports are known.
     ghost alone: { ResolveView → List ℕ → Option (List ℕ) → List ℕ → List ℕ → Records → List Part };
 
     // The parts that are said of an adapter that was trimmed, by the key and the adapter's index.
@@ -57,7 +66,15 @@ pub(crate) trait Form {
     // that uses them.
     ghost typed: { List ℕ → Option (List ℕ) → List Part };
 
-    /// Says what leads to imports of a module of which only its imports are known.
+    /// Says what leads to imports of the main module.
+    fn put_main(&mut self, alloc: Global, main: &MainModule<'_, '_, '_>) -> Result<(), AllocError>
+        requires nameable { AreNameable (world_of main.now) }
+        requires main { IsFollowedIn main.now }
+        ensures said { OnOk result (Says shown (leading (world_of main.now) (key_of main.now))
+            (printed self.old) (printed self.new)) }
+        ensures kept { OnOk result (before self.new ≡ before self.old) };
+
+    /// Says what leads to imports of a library.
     fn put_alone(
         &mut self,
         alloc: Global,
@@ -72,7 +89,7 @@ pub(crate) trait Form {
         ensures kept { OnOk result (before self.new ≡ before self.old) };
 
     /// Says what leads to imports of an adapter.
-    fn put_walk(&mut self, alloc: Global, walk: &Walk<'_, '_, '_>) -> Result<(), AllocError>
+    fn put_walk(&mut self, alloc: Global, walk: &Walk<'_, '_, '_, '_>) -> Result<(), AllocError>
         requires { IsWalk walk.now }
         ensures said { OnOk result (Says shown
             (saying (key_in walk.now) walk.now.adapter.now.index (original_in walk.now))
@@ -94,7 +111,7 @@ pub(crate) trait Form {
 /// The paths, printed one after another.
 impl<P: PathPrinter> Form for P {
     ghost use Rattle.wc_why.specs.Paths.{PathView};
-    ghost use Rattle.wc_ways.specs.Ways.{AreOriginalPaths, recorded_paths, typed_path};
+    ghost use Rattle.wc_ways.specs.Ways.{AreOriginalPaths, AreRecordedMainPaths, recorded_paths, typed_path};
 
     ghost Part = { PathView };
 
@@ -106,11 +123,17 @@ impl<P: PathPrinter> Form for P {
 
     ghost before = { P.before };
 
+    ghost leading = { AreRecordedMainPaths };
+
     ghost alone = { λ r key adapter id label records. recorded_paths r key adapter records };
 
     ghost saying = { λ key index. AreOriginalPaths key };
 
     ghost typed = { typed_path };
+
+    fn put_main(&mut self, alloc: Global, main: &MainModule<'_, '_, '_>) -> Result<(), AllocError> {
+        recorded_main_paths(alloc, main, self)
+    }
 
     fn put_alone(
         &mut self,
@@ -127,7 +150,7 @@ impl<P: PathPrinter> Form for P {
         recorded_paths(alloc, question, module.imports, self)
     }
 
-    fn put_walk(&mut self, alloc: Global, walk: &Walk<'_, '_, '_>) -> Result<(), AllocError> {
+    fn put_walk(&mut self, alloc: Global, walk: &Walk<'_, '_, '_, '_>) -> Result<(), AllocError> {
         original_paths(alloc, walk, self)
     }
 
@@ -151,7 +174,7 @@ pub(crate) struct Graph {
 
 impl Form for Graph {
     ghost use Rattle.std.specs.Prelude.{ℕ, [], ◌∷◌, string_bytes};
-    ghost use Rattle.wc_ways.specs.Nodes.{IsOriginalGraph, module_graph, typed_node};
+    ghost use Rattle.wc_ways.specs.Nodes.{IsMainGraph, IsOriginalGraph, module_graph, typed_node};
 
     ghost Part = { ℕ };
 
@@ -163,11 +186,18 @@ impl Form for Graph {
 
     ghost before = { λ _. [] };
 
+    ghost leading = { IsMainGraph };
+
     ghost alone = { λ r key adapter id label records. module_graph r key id label records };
 
     ghost saying = { IsOriginalGraph };
 
     ghost typed = { typed_node };
+
+    fn put_main(&mut self, alloc: Global, main: &MainModule<'_, '_, '_>) -> Result<(), AllocError> {
+        let graph = graph_of_main(alloc, main)?;
+        self.text.push_str(&graph)
+    }
 
     fn put_alone(
         &mut self,
@@ -180,7 +210,7 @@ impl Form for Graph {
         self.text.push_str(&graph)
     }
 
-    fn put_walk(&mut self, alloc: Global, walk: &Walk<'_, '_, '_>) -> Result<(), AllocError> {
+    fn put_walk(&mut self, alloc: Global, walk: &Walk<'_, '_, '_, '_>) -> Result<(), AllocError> {
         let graph = original_graph(alloc, walk)?;
         self.text.push_str(&graph)
     }

@@ -9,14 +9,16 @@ ghost use Rattle.wc_validate.specs.Imports.Iter.{import_shown};
 ghost use Rattle.wc_validate.specs.Imports.Map.{imports_in};
 ghost use Rattle.wc_why.specs.Paths.{text_of};
 ghost use Rattle.wc_world.specs.Slots.{imports_of};
-ghost use Rattle.wc_ways.specs.Nodes.{cluster_text, function_node, module_graph, module_node, recorded_arrow, recorded_arrows, text_id, typed_node};
-ghost use Rattle.wc_ways.specs.Private.Adapters.{IsNameableIn, IsWalk, function_value, is_asked_of};
-ghost use Rattle.wc_ways.specs.Words.{adapter_prefix};
-ghost use Rattle.wc_ways.specs.Private.Graph.{AreImportArrows, AreMainArrows, AreWalkMarks, IsImportArrowOf, IsItemsCluster, IsMainArrowOf, IsWalkGraph};
+ghost use Rattle.wc_ways.specs.Nodes.{function_node, module_graph, module_node, recorded_arrow, recorded_arrows, typed_node};
+ghost use Rattle.wc_ways.specs.Private.Adapters.{HasMain, IsNameableIn, IsWalk, function_value, is_asked_of};
+ghost use Rattle.wc_ways.specs.Words.{adapter_prefix, cluster_text, text_id};
+ghost use Rattle.wc_ways.specs.Private.Graph.{AreImportArrows, AreMainArrows, AreWalkMarks, IsExportArrowOf, IsImportArrowOf, IsItemsCluster, IsMainArrowOf, IsMarkedArrow, IsWalkGraph};
 
 use crate::asked::{Function, asked_function};
 use crate::forms::Module;
-use crate::originals::{Adapter, Walk, asked_import, is_wanted};
+use crate::main_graph::step_nodes;
+use crate::modules::Adapter;
+use crate::originals::{Walk, asked_import, is_wanted};
 use std::alloc::{AllocError, Global};
 use wc_names::Import as Recorded;
 use wc_read::Import;
@@ -27,7 +29,7 @@ use wc_why::{
     marks_of, target_box, target_node, target_text, two_words, word,
 };
 
-/// The graph of a module that is one node: its cluster, and the arrows to the functions that are asked about.
+/// The graph of a library, which is one node: its cluster, and the arrows to the functions that are asked about.
 pub(crate) fn module_graph(
     alloc: Global,
     resolve: &Resolve,
@@ -45,7 +47,12 @@ pub(crate) fn module_graph(
 }
 
 /// The cluster of a module, with its nodes.
-fn cluster_text(alloc: Global, id: &str, label: &str, nodes: &str) -> Result<String, AllocError>
+pub(crate) fn cluster_text(
+    alloc: Global,
+    id: &str,
+    label: &str,
+    nodes: &str,
+) -> Result<String, AllocError>
     ensures { IfOk result (λ s. string_bytes s ≡ cluster_text id.now label.now nodes.now) }
 {
     let label = graph_text(alloc, label)?;
@@ -53,7 +60,7 @@ fn cluster_text(alloc: Global, id: &str, label: &str, nodes: &str) -> Result<Str
 }
 
 /// A module as a node.
-fn module_node(alloc: Global, id: &str, label: &str) -> Result<String, AllocError>
+pub(crate) fn module_node(alloc: Global, id: &str, label: &str) -> Result<String, AllocError>
     ensures { IfOk result (λ s. string_bytes s ≡ module_node id.now label.now) }
 {
     let label = graph_text(alloc, label)?;
@@ -99,7 +106,11 @@ fn recorded_arrow(
 }
 
 /// The node of a function, and an arrow to it. Its identifier is its label in quotes, so it is one node, whatever imports it.
-fn function_node(alloc: Global, from: &str, function: &Function<'_>) -> Result<String, AllocError>
+pub(crate) fn function_node(
+    alloc: Global,
+    from: &str,
+    function: &Function<'_>,
+) -> Result<String, AllocError>
     ensures { IfOk result (λ s. string_bytes s
         ≡ function_node from.now (function_value function.now)) }
 {
@@ -124,16 +135,19 @@ pub(crate) fn typed_node(
 }
 
 /// An identifier that is a text in quotes.
-fn text_id(alloc: Global, text: &str) -> Result<String, AllocError>
+pub(crate) fn text_id(alloc: Global, text: &str) -> Result<String, AllocError>
     ensures { IfOk result (λ s. string_bytes s ≡ text_id text.now) }
 {
     let label = graph_text(alloc, text)?;
     format!(in alloc; "\"{label}\"")
 }
 
-/// The graph of an adapter: a cluster with the items that are on paths, an arrow from the main module to each export where
+/// The graph of an adapter: a cluster with the items that are on paths, the steps in the main module to each export where
 /// paths begin, if it imports it, and arrows to the functions that are asked about.
-pub(crate) fn original_graph(alloc: Global, walk: &Walk<'_, '_, '_>) -> Result<String, AllocError>
+pub(crate) fn original_graph(
+    alloc: Global,
+    walk: &Walk<'_, '_, '_, '_>,
+) -> Result<String, AllocError>
     requires { IsWalk walk.now }
     ensures { IfOk result (λ s. IsWalkGraph walk.now (string_bytes s)) }
 {
@@ -147,7 +161,7 @@ pub(crate) fn original_graph(alloc: Global, walk: &Walk<'_, '_, '_>) -> Result<S
 /// The graph with the items that are marked, with this before their identifiers.
 fn marked_graph(
     alloc: Global,
-    walk: &Walk<'_, '_, '_>,
+    walk: &Walk<'_, '_, '_, '_>,
     prefix: &str,
     marks: &[bool],
 ) -> Result<String, AllocError>
@@ -169,7 +183,7 @@ fn marked_graph(
 /// The cluster of an adapter, with the nodes of the items that are marked.
 fn items_cluster(
     alloc: Global,
-    walk: &Walk<'_, '_, '_>,
+    walk: &Walk<'_, '_, '_, '_>,
     nodes: NodeNames<'_>,
     marks: &[bool],
 ) -> Result<String, AllocError>
@@ -190,7 +204,7 @@ fn items_cluster(
 /// For each import of an adapter whether it is asked about.
 fn asked_imports(
     alloc: Global,
-    adapter: &Adapter<'_, '_>,
+    adapter: &Adapter<'_, '_, '_>,
     imports: &[Import<'_>],
 ) -> Result<Vec<bool>, AllocError>
     requires { IsNameableIn adapter.now }
@@ -208,7 +222,7 @@ fn asked_imports(
 /// Whether an import of an adapter is asked about.
 fn is_asked_import(
     alloc: Global,
-    adapter: &Adapter<'_, '_>,
+    adapter: &Adapter<'_, '_, '_>,
     import: &Import<'_>,
 ) -> Result<bool, AllocError>
     requires { IsNameableIn adapter.now }
@@ -220,10 +234,10 @@ fn is_asked_import(
     }
 }
 
-/// The arrows from the main module to the exports that it imports, of those where paths begin.
+/// The steps to the exports that the main module imports, of those where paths begin.
 fn main_arrows(
     alloc: Global,
-    walk: &Walk<'_, '_, '_>,
+    walk: &Walk<'_, '_, '_, '_>,
     prefix: &str,
     marks: &[bool],
 ) -> Result<String, AllocError>
@@ -239,10 +253,10 @@ fn main_arrows(
     Ok(arrows)
 }
 
-/// The arrow from the main module to the export that names the item at an index, if it imports it, and the item is marked.
+/// The steps to the export that names the item at an index, if the main module imports it, and the item is marked.
 fn main_arrow(
     alloc: Global,
-    walk: &Walk<'_, '_, '_>,
+    walk: &Walk<'_, '_, '_, '_>,
     prefix: &str,
     marks: &[bool],
     item_index: usize,
@@ -253,17 +267,59 @@ fn main_arrow(
     ensures { IfOk result (λ s. IsMainArrowOf walk.now prefix.now marks.now item_index
         (string_bytes s)) }
 {
-    let export = walk.chains.exports[item_index];
-    if marks[item_index] && is_wanted(walk, export) {
-        let to = export_id(alloc, prefix, item_index)?;
-        arrow_text(alloc, "  ", "main", &to)
+    let to = export_id(alloc, prefix, item_index)?;
+    marked_arrow(
+        alloc,
+        walk,
+        marks[item_index],
+        walk.chains.exports[item_index],
+        &to,
+    )
+}
+
+/// The steps to an export, and the arrow from there to its node, if the main module imports it, and its item is marked.
+fn marked_arrow(
+    alloc: Global,
+    walk: &Walk<'_, '_, '_, '_>,
+    mark: bool,
+    export: &str,
+    to: &str,
+) -> Result<String, AllocError>
+    requires { IsWalk walk.now }
+    ensures { IfOk result (λ s. IsMarkedArrow walk.now mark export.now to.now (string_bytes s)) }
+{
+    if !mark {
+        return Ok(String::new(alloc));
+    }
+    if is_wanted(walk, export) {
+        export_arrow(alloc, walk.adapter, export, to)
     } else {
         Ok(String::new(alloc))
     }
 }
 
+/// The steps to an export of an adapter that the main module imports, and the arrow from there to its node.
+fn export_arrow(
+    alloc: Global,
+    adapter: &Adapter<'_, '_, '_>,
+    export: &str,
+    to: &str,
+) -> Result<String, AllocError>
+    requires { HasMain adapter.now }
+    ensures { IfOk result (λ s. IsExportArrowOf adapter.now export.now to.now (string_bytes s)) }
+{
+    let steps = step_nodes(alloc, adapter.main, adapter.name, export)?;
+    let arrow = arrow_text(alloc, "  ", &steps.end, to)?;
+    let text = &steps.text;
+    format!(in alloc; "{text}{arrow}")
+}
+
 /// The arrows to the functions that are asked about.
-fn import_arrows(alloc: Global, walk: &Walk<'_, '_, '_>, prefix: &str) -> Result<String, AllocError>
+fn import_arrows(
+    alloc: Global,
+    walk: &Walk<'_, '_, '_, '_>,
+    prefix: &str,
+) -> Result<String, AllocError>
     requires { IsWalk walk.now }
     ensures { IfOk result (λ s. AreImportArrows walk.now prefix.now (string_bytes s)) }
 {
@@ -278,7 +334,7 @@ fn import_arrows(alloc: Global, walk: &Walk<'_, '_, '_>, prefix: &str) -> Result
 /// The arrow to the function that the import at a position is, if it is asked about and reached.
 fn import_arrow(
     alloc: Global,
-    walk: &Walk<'_, '_, '_>,
+    walk: &Walk<'_, '_, '_, '_>,
     prefix: &str,
     position: usize,
 ) -> Result<String, AllocError>

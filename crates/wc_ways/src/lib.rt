@@ -3,9 +3,9 @@
 //! lines, `ways_json` as JSON, and `ways_graph` as a graph in the language of Graphviz.
 //!
 //! It is asked about an interface, a package, something of the world itself, or about all (`asks_about`). A path from the
-//! main module is its import alone. A path through
-//! an adapter is the main module's import of an export of the adapter, if it imports it; the export; the items of the
-//! adapter that lead from it, by the shortest chain (`wc_gc::why_imports`); and the adapter's import.
+//! main module is where it begins there, the items of the shortest path to the import (`wc_paths`), and the import. A path
+//! through an adapter is the same to the main module's import of an export of the adapter, if it imports it; the export; the
+//! items of the adapter that lead from it, by the shortest chain (`wc_gc::why_imports`); and the adapter's import.
 #![tactic(auto)]
 
 mod adapters;
@@ -13,6 +13,10 @@ mod asked;
 mod forms;
 mod graph;
 mod keys;
+mod main_graph;
+mod main_paths;
+mod main_ways;
+mod modules;
 mod originals;
 mod paths;
 mod recorded;

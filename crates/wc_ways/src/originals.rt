@@ -9,39 +9,27 @@ ghost use Rattle.wc_validate.specs.Validate.{module_record};
 ghost use Rattle.wc_world.specs.WorldViews.{world_view};
 ghost use Rattle.wc_validate.specs.Imports.Instances.{instance_view};
 ghost use Rattle.wc_ways.specs.Originals.{asked_in, recorded_at, recorded_in, wanted_of};
-ghost use Rattle.wc_ways.specs.Private.Adapters.{AreChainsFor, IsNameableIn, IsSaidFor, IsWalk, function_value, original_in, required_in};
+ghost use Rattle.wc_ways.specs.Private.Adapters.{AreChainsFor, HasMain, IsNameableIn, IsSaidFor, IsWalk, function_value, original_in, required_in};
 ghost use Rattle.wc_ways.specs.Said.{Says};
 ghost use Rattle.wc_ways.specs.WaysFaults.{search_input};
 ghost use Rattle.wc_ways.specs.Words.{is_wanted};
 
 use crate::asked::{Function, asked_function};
 use crate::forms::Form;
+use crate::modules::Adapter;
 use std::alloc::{AllocError, Global};
 use wc_gc::{GcFault, ImportChains, why_imports};
 use wc_maps::{Map, OrderedMap, Set};
 use wc_names::Import as Recorded;
 use wc_read::laws::modules_unique;
 use wc_read::{FuncType, Import, Module, function_names, read_module};
-use wc_validate::{ImportInstance, ImportMap, ValidatedModule};
-use wc_world::{ComponentWorld, required_exports};
-
-/// An adapter of a component's world that was trimmed, and what is asked about.
-#[derive(Clone, Copy)]
-pub(crate) struct Adapter<'a, 'w> {
-    pub(crate) world: &'a ComponentWorld<'w>,
-    /// The key of an interface, or `all`.
-    pub(crate) key: &'a str,
-    /// Its position among the adapters.
-    pub(crate) index: usize,
-    pub(crate) name: &'a str,
-    /// Its record in the component's world.
-    pub(crate) info: &'a ValidatedModule,
-}
+use wc_validate::{ImportInstance, ImportMap};
+use wc_world::required_exports;
 
 /// An adapter as the encoder has it, with the chains to what it imports.
 #[derive(Clone, Copy)]
-pub(crate) struct Walk<'a, 'w, 'r> {
-    pub(crate) adapter: &'a Adapter<'a, 'w>,
+pub(crate) struct Walk<'a, 'w, 'm, 'r> {
+    pub(crate) adapter: &'a Adapter<'a, 'w, 'm>,
     pub(crate) original: &'a Module<'r>,
     /// The names of its functions.
     pub(crate) names: &'a OrderedMap<u32, &'r str>,
@@ -53,11 +41,12 @@ pub(crate) struct Walk<'a, 'w, 'r> {
 /// Says what leads to imports of an adapter that has these bytes before it is trimmed.
 pub(crate) fn put_in<F: Form>(
     alloc: Global,
-    adapter: &Adapter<'_, '_>,
+    adapter: &Adapter<'_, '_, '_>,
     wasm: &[u8],
     out: &mut F,
 ) -> Result<(), GcFault>
-    requires { IsNameableIn adapter.now }
+    requires nameable { IsNameableIn adapter.now }
+    requires main { HasMain adapter.now }
     ensures said { OnOk result (Says F.shown (IsSaidFor F.saying adapter.now wasm.now)
         (F.printed out.old) (F.printed out.new)) }
     ensures kept { OnOk result (F.before out.new ≡ F.before out.old) }
@@ -74,12 +63,13 @@ pub(crate) fn put_in<F: Form>(
 /// Says what leads to imports of an adapter that has these bytes, and of which these exports are required.
 fn put_for<F: Form>(
     alloc: Global,
-    adapter: &Adapter<'_, '_>,
+    adapter: &Adapter<'_, '_, '_>,
     wasm: &[u8],
     required: &Set<String>,
     out: &mut F,
 ) -> Result<(), GcFault>
     requires nameable { IsNameableIn adapter.now }
+    requires main { HasMain adapter.now }
     requires required { names_of required.now.keys ≡ required_in adapter.now }
     ensures said { OnOk result (Says F.shown (IsSaidFor F.saying adapter.now wasm.now)
         (F.printed out.old) (F.printed out.new)) }
@@ -99,12 +89,13 @@ fn put_for<F: Form>(
 /// Says what leads to imports of an adapter that has these bytes, and in which these are the chains.
 fn put_with<F: Form>(
     alloc: Global,
-    adapter: &Adapter<'_, '_>,
+    adapter: &Adapter<'_, '_, '_>,
     wasm: &[u8],
     chains: &ImportChains<'_>,
     out: &mut F,
 ) -> Result<(), AllocError>
     requires nameable { IsNameableIn adapter.now }
+    requires main { HasMain adapter.now }
     requires chains { AreChainsFor adapter.now wasm.now chains.now }
     ensures said { OnOk result (Says F.shown (IsSaidFor F.saying adapter.now wasm.now)
         (F.printed out.old) (F.printed out.new)) }
@@ -133,7 +124,7 @@ fn put_with<F: Form>(
 /// The function that an import of an adapter is, if it stays, and is one that is asked about.
 pub(crate) fn asked_import<'a>(
     alloc: Global,
-    adapter: &Adapter<'a, '_>,
+    adapter: &Adapter<'a, '_, '_>,
     import: &Import<'a>,
 ) -> Result<Option<Function<'a>>, AllocError>
     requires { IsNameableIn adapter.now }
@@ -172,7 +163,7 @@ fn recorded_in<'a>(instance: &'a ImportInstance, name: &str) -> Option<&'a Recor
 }
 
 /// Whether the main module imports an export of the adapter.
-pub(crate) fn is_wanted(walk: &Walk<'_, '_, '_>, export: &str) -> bool
+pub(crate) fn is_wanted(walk: &Walk<'_, '_, '_, '_>, export: &str) -> bool
     requires { IsWalk walk.now }
     ensures { result ≡ is_wanted (wanted_of (original_in walk.now)) export.now }
 {

@@ -1,18 +1,18 @@
 //! The paths through an adapter.
 
-ghost use Rattle.std.specs.Prelude.{◌≡◌, ◌<◌, IfOk, OnOk, Some, length, map};
+ghost use Rattle.std.specs.Prelude.{◌≡◌, ◌<◌, ◌∷◌, [], IfOk, OnOk, Some, length, map};
 ghost use Rattle.std.specs.List.{slice_get};
 ghost use Rattle.std.specs.Option.{option_map, option_to_list};
 ghost use Rattle.wc_gc.specs.Decoded.{ItemIndex};
 ghost use Rattle.wc_gc.specs.RestrictionLaws.{IsImportItem};
 ghost use Rattle.wc_read.specs.Imports.{import_value};
-ghost use Rattle.wc_why.specs.Paths.{path_view, step_view};
-ghost use Rattle.wc_ways.specs.Originals.{wanted_of};
-ghost use Rattle.wc_ways.specs.Private.Adapters.{IsWalk, function_value, key_in, original_in};
+ghost use Rattle.wc_why.specs.Paths.{exported, path_view, step_view};
+ghost use Rattle.wc_ways.specs.Private.Adapters.{AreStepsBy, HasMain, IsWalk, function_value, key_in, original_in};
 ghost use Rattle.wc_ways.specs.Said.{Says};
-ghost use Rattle.wc_ways.specs.Ways.{AreOriginalPaths, IsItemPath, IsPathAt, adapter_path, first_steps};
+ghost use Rattle.wc_ways.specs.Ways.{AreFirstSteps, AreOriginalPaths, IsAdapterPath, IsItemPath, IsPathAt};
 
 use crate::asked::Function;
+use crate::modules::Adapter;
 use crate::originals::{Walk, asked_import, is_wanted};
 use std::alloc::{AllocError, Global};
 use wc_gc::Chain;
@@ -22,7 +22,7 @@ use wc_why::{Path, PathPrinter, Step, Target, push_items};
 /// Prints the paths to all imports of an adapter that are asked about, in the order of the file.
 pub(crate) fn original_paths<P: PathPrinter>(
     alloc: Global,
-    walk: &Walk<'_, '_, '_>,
+    walk: &Walk<'_, '_, '_, '_>,
     out: &mut P,
 ) -> Result<(), AllocError>
     requires { IsWalk walk.now }
@@ -40,7 +40,7 @@ pub(crate) fn original_paths<P: PathPrinter>(
 /// Prints the path to the import at a position, if it is asked about and reached.
 fn path_at<P: PathPrinter>(
     alloc: Global,
-    walk: &Walk<'_, '_, '_>,
+    walk: &Walk<'_, '_, '_, '_>,
     position: usize,
     out: &mut P,
 ) -> Result<(), AllocError>
@@ -64,7 +64,7 @@ fn path_at<P: PathPrinter>(
 /// The path to the import at a position, which is this function, if it is reached.
 fn item_path<'p>(
     alloc: Global,
-    walk: &'p Walk<'_, '_, '_>,
+    walk: &'p Walk<'_, '_, '_, '_>,
     position: usize,
     import: &'p Import<'_>,
     function: &'p Function<'_>,
@@ -85,7 +85,7 @@ fn item_path<'p>(
 /// The path to an import, which is this function, and whose item is at an index among those that are reached.
 fn reached_path<'p>(
     alloc: Global,
-    walk: &'p Walk<'_, '_, '_>,
+    walk: &'p Walk<'_, '_, '_, '_>,
     index: usize,
     import: &'p Import<'_>,
     function: &'p Function<'_>,
@@ -102,18 +102,18 @@ fn reached_path<'p>(
     Ok(Some(path))
 }
 
-/// The path to an import, which is this function, by a chain: the main module's import of the export that the chain begins
-/// with, if there is one, the export, the items of the chain, and the import.
+/// The path to an import, which is this function, by a chain: the steps to the export that the chain begins with, the items
+/// of the chain, and the import.
 fn chain_path<'p>(
     alloc: Global,
-    walk: &'p Walk<'_, '_, '_>,
+    walk: &'p Walk<'_, '_, '_, '_>,
     import: &'p Import<'_>,
     function: &'p Function<'_>,
     chain: &Chain<'p>,
 ) -> Result<Path<'p>, AllocError>
     requires { IsWalk walk.now }
-    ensures { IfOk result (λ p. path_view p ≡ adapter_path (original_in walk.now)
-        (function_value function.now) chain.now (import_value import.now)) }
+    ensures { IfOk result (λ p. IsAdapterPath (original_in walk.now)
+        (function_value function.now) chain.now (import_value import.now) (path_view p)) }
 {
     let mut steps = first_steps(alloc, walk, chain.export)?;
     push_items(walk.names, &chain.items, &mut steps)?;
@@ -129,31 +129,58 @@ fn chain_path<'p>(
     })
 }
 
-/// The steps to an export of the adapter: the main module's import of it, if there is one, and the export.
+/// The steps to an export of the adapter: if the main module imports it, the steps to its import, and that; and the export.
 fn first_steps<'p>(
     alloc: Global,
-    walk: &'p Walk<'_, '_, '_>,
+    walk: &'p Walk<'_, '_, '_, '_>,
     export: &'p str,
 ) -> Result<Vec<Step<'p>>, AllocError>
     requires { IsWalk walk.now }
-    ensures { IfOk result (λ v. map step_view v.items
-        ≡ first_steps (wanted_of (original_in walk.now)) (original_in walk.now).name export.now) }
+    ensures { IfOk result (λ v. AreFirstSteps (original_in walk.now) export.now
+        (map step_view v.items)) }
 {
-    let adapter = walk.adapter.name;
-    let mut steps = Vec::new(alloc);
-    let last = Step::Export {
-        adapter,
-        name: export,
-    };
-    if !is_wanted(walk, export) {
-        steps.push(last)?;
-        return Ok(steps);
+    if is_wanted(walk, export) {
+        wanted_steps(alloc, walk.adapter, export)
+    } else {
+        export_steps(alloc, walk.adapter.name, export)
     }
+}
+
+/// The steps to an export of an adapter that the main module imports: the steps to its import, that, and the export.
+fn wanted_steps<'p>(
+    alloc: Global,
+    adapter: &'p Adapter<'_, '_, '_>,
+    export: &'p str,
+) -> Result<Vec<Step<'p>>, AllocError>
+    requires { HasMain adapter.now }
+    ensures { IfOk result (λ v. AreStepsBy adapter.now export.now (map step_view v.items)) }
+{
+    let name = adapter.name;
+    let mut steps = adapter.main.steps(alloc, name, export)?;
     steps.push(Step::Import {
         adapter: None,
-        module: adapter,
+        module: name,
         name: export,
     })?;
-    steps.push(last)?;
+    steps.push(Step::Export {
+        adapter: name,
+        name: export,
+    })?;
+    Ok(steps)
+}
+
+/// The step to an export of an adapter that the main module doesn't import.
+fn export_steps<'p>(
+    alloc: Global,
+    adapter: &'p str,
+    export: &'p str,
+) -> Result<Vec<Step<'p>>, AllocError>
+    ensures { IfOk result (λ v. map step_view v.items ≡ exported adapter.now export.now ∷ []) }
+{
+    let mut steps = Vec::new(alloc);
+    steps.push(Step::Export {
+        adapter,
+        name: export,
+    })?;
     Ok(steps)
 }

@@ -1,4 +1,4 @@
-//! The paths to the functions that a module imports, which are their imports alone.
+//! The paths to the functions that a library imports, which are their imports alone.
 
 ghost use Rattle.std.specs.Prelude.{◌≡◌, ◌++◌, All, IfOk, OnOk};
 ghost use Rattle.std.specs.List.{flat_map};

@@ -1,16 +1,18 @@
 //! The paths to the functions that a component imports.
 
-ghost use Rattle.std.specs.Prelude.{◌≡◌, ◌++◌, [], IfErr, IfOk, OnOk, string_bytes};
-ghost use Rattle.std.specs.List.{flat_map};
+ghost use Rattle.std.specs.Prelude.{◌≡◌, [], IfErr, IfOk, OnOk, string_bytes};
 ghost use Rattle.wc_plan.specs.Fault.{AreNameable};
 ghost use Rattle.wc_world.specs.WorldViews.{world_view};
-ghost use Rattle.wc_ways.specs.Said.{IsAllSaid, Says, main_said};
+ghost use Rattle.wc_ways.specs.Private.Adapters.{IsMainOf};
+ghost use Rattle.wc_ways.specs.Said.{IsAllSaid, Says};
 ghost use Rattle.wc_ways.specs.Ways.{IsWaysJson, IsWaysText, or_none};
 ghost use Rattle.wc_ways.specs.WaysFaults.{IsWaysFault};
 ghost use Rattle.wc_ways.specs.Nodes.{IsWaysGraph};
 
 use crate::adapters::put_adapters;
-use crate::forms::{Form, Graph, Module};
+use crate::forms::{Form, Graph};
+use crate::main_paths::MainPaths;
+use crate::modules::MainModule;
 use crate::types::put_types;
 use std::alloc::{AllocError, Global};
 use wc_gc::GcFault;
@@ -28,9 +30,13 @@ use wc_world::ComponentWorld;
 /// after two blanks. INTERFACE is `$root` for what is the world's own; NAME is that of the function, and of another
 /// import the name that it has in its module:
 ///
-/// - of the main module `main imports MODULE NAME` alone;
-/// - of an adapter `main imports ADAPTER EXPORT`, if the main module imports the export where the path begins;
-///   `adapter ADAPTER exports EXPORT`; a line for each item that leads from it to the import, in the adapter as the encoder
+/// - of the main module the lines of the steps to its import, and `main imports MODULE NAME`. The steps are where the path to
+///   it begins: `main exports NAME`, `main start`, `main fills table T` or `main fills memory M`; and a line for each item of
+///   the shortest path to it (`wc_paths::Paths::path`), from its exports and its start function, or, where none leads there,
+///   from its active segments. `main reaches it nowhere` stands for a path that isn't there, and `main is not followed: PART`
+///   where PART can't be read: `body of function N`, `element section`, `data section` or `data count section`;
+/// - of an adapter the same lines to `main imports ADAPTER EXPORT`, if the main module imports the export where the path
+///   begins; `adapter ADAPTER exports EXPORT`; a line for each item that leads from it to the import, in the adapter as the encoder
 ///   has it, by the shortest chain (`wc_gc::why_imports`) of the exports for which it was trimmed; and
 ///   `adapter ADAPTER imports MODULE NAME`;
 /// - of a library `adapter ADAPTER imports MODULE NAME` alone.
@@ -67,9 +73,13 @@ pub fn ways_text(alloc: Global, world: &ComponentWorld<'_>, key: &str) -> Result
 /// the interface that uses them, or null. A step is an object whose first member is `kind`:
 ///
 /// - `import`, with `adapter`, `module` and `name`: that adapter, or library, imports it; null stands for the main module;
-/// - `export`, with `adapter` and `name`: that adapter exports it;
-/// - `item`, with `space` (`type`, `func`, `table`, `memory` or `global`), `index` and `name`: the item of the adapter, as the
-///   encoder has it; the name is that of a function in the name section, or null.
+/// - `export`, with `adapter` and `name`: that adapter exports it; null stands for the main module;
+/// - `start`: the start function of the main module;
+/// - `fills`, with `space` (`table` or `memory`) and `index`: what an active segment of the main module fills;
+/// - `unreached`: nothing in the main module leads to the import;
+/// - `unread`, with `function` or `section`: what can't be read of the main module;
+/// - `item`, with `space` (`type`, `func`, `table`, `memory`, `global`, `elem` or `data`), `index` and `name`: the item of the
+///   main module, or of the adapter, as the encoder has it; the name is that of a function in the name section, or null.
 ///
 /// Where nothing is imported that is asked about, the list is empty. Texts are escaped by the rules of JSON alone.
 ///
@@ -88,14 +98,16 @@ pub fn ways_json(alloc: Global, world: &ComponentWorld<'_>, key: &str) -> Result
     Ok(end_paths(out)?)
 }
 
-/// The paths of `ways_text` as a graph, in the language of Graphviz: the main module, each adapter and each library as a cluster, with
-/// an arrow from the main module to each export where a path begins, if it imports it; in an adapter the items of all paths
+/// The paths of `ways_text` as a graph, in the language of Graphviz: the main module, each adapter and each library as a cluster; in the
+/// main module its steps, with an arrow to each from the one before, and from the last to what it leads to: an import, or the
+/// export of an adapter where a path begins; in an adapter the items of all paths
 /// together, which are a tree, with an arrow to each from the item that first names it, or from the export that does; and
 /// a node for each import that is asked about, with arrows from the items, or modules, that import it. An interface that is
 /// imported for its types alone is a node without arrows. Texts are escaped as in the lines, and then as Graphviz has to
 /// read them between quotes. Where nothing is imported that is asked about, no import is in the graph.
 ///
-/// It takes time and memory linear in the modules: of many long paths it has each item once.
+/// It takes time and memory linear in the modules and in the paths in the main module: of many long paths through an adapter
+/// it has each item once.
 ///
 /// # Errors
 ///
@@ -111,7 +123,7 @@ pub fn ways_graph(alloc: Global, world: &ComponentWorld<'_>, key: &str) -> Resul
     };
     put_all(alloc, world, key, &mut graph)?;
     let text = &graph.text;
-    Ok(format!(in alloc; "digraph wcplan {{\n{text}}}\n")?)
+    Ok(format!(in alloc; "strict digraph wcplan {{\n{text}}}\n")?)
 }
 
 /// The lines; or the line that nothing is imported.
@@ -133,8 +145,7 @@ fn none_text(alloc: Global, key: &str) -> Result<String, AllocError>
     format!(in alloc; "{key}: in the world, not imported\n")
 }
 
-/// Says what leads to imports of the main module, which are its imports alone, and of each adapter; and then what is
-/// imported for its types alone.
+/// Says what leads to imports of the main module and of each adapter, and then what is imported for its types alone.
 fn put_all<F: Form>(
     alloc: Global,
     world: &ComponentWorld<'_>,
@@ -143,37 +154,40 @@ fn put_all<F: Form>(
 ) -> Result<(), GcFault>
     requires { AreNameable (world_view world.now) }
     ensures said { OnOk result (Says F.shown
-        (IsAllSaid F.alone F.saying F.typed (world_view world.now) key.now)
+        (IsAllSaid F.leading F.alone F.saying F.typed (world_view world.now) key.now)
         (F.printed out.old) (F.printed out.new)) }
     ensures kept { OnOk result (F.before out.new ≡ F.before out.old) }
     ensures fault { IfErr result (IsWaysFault (world_view world.now)) }
 {
-    put_main(alloc, world, key, out)?;
-    put_adapters(alloc, world, key, out)?;
+    let main = MainPaths::find(alloc, *world.adapters.hasher(), world.encoder.module())?;
+    put_modules(alloc, world, key, &main, out)
+}
+
+/// Says of the modules what `put_all` says, by the paths in the main module.
+fn put_modules<F: Form>(
+    alloc: Global,
+    world: &ComponentWorld<'_>,
+    key: &str,
+    main: &MainPaths<'_>,
+    out: &mut F,
+) -> Result<(), GcFault>
+    requires nameable { AreNameable (world_view world.now) }
+    requires main { IsMainOf (world_view world.now) main.now }
+    ensures said { OnOk result (Says F.shown
+        (IsAllSaid F.leading F.alone F.saying F.typed (world_view world.now) key.now)
+        (F.printed out.old) (F.printed out.new)) }
+    ensures kept { OnOk result (F.before out.new ≡ F.before out.old) }
+    ensures fault { IfErr result (IsWaysFault (world_view world.now)) }
+{
+    let module = MainModule {
+        world,
+        key,
+        paths: main,
+    };
+    out.put_main(alloc, &module)?;
+    put_adapters(alloc, world, key, main, out)?;
     match put_types(alloc, world, key, out) {
         Ok(()) => Ok(()),
         Err(AllocError) => Err(GcFault::Memory),
     }
-}
-
-/// Says what leads to imports of the main module.
-fn put_main<F: Form>(
-    alloc: Global,
-    world: &ComponentWorld<'_>,
-    key: &str,
-    out: &mut F,
-) -> Result<(), AllocError>
-    requires { AreNameable (world_view world.now) }
-    ensures said { OnOk result (F.printed out.new ≡ F.printed out.old
-        ++ flat_map F.shown (main_said F.alone (world_view world.now) key.now)) }
-    ensures kept { OnOk result (F.before out.new ≡ F.before out.old) }
-{
-    let module = Module {
-        name: "main",
-        id: "main",
-        adapter: None,
-        imports: &world.info.imports,
-    };
-    let metadata = world.encoder.metadata();
-    out.put_alone(alloc, &metadata.resolve, key, module)
 }

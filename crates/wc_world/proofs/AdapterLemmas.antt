@@ -11,6 +11,7 @@ use Rattle.std.proofs.lemmas.List.{map-append}
 use Rattle.std.proofs.lemmas.List.Elements.{All-from_recursion, filter-append, recursion_from_All}
 use Rattle.std.proofs.lemmas.Slice.Eq.{bytes_eq-Decides}
 use Rattle.indexmap.specs.IndexMap.{insert_entry}
+use Rattle.wc_gc.proofs.TwiceReachLemmas.{all_filter}
 use Rattle.wc_read.specs.Types.{FuncTypeValue}
 use Rattle.wc_resolve.specs.Kinds.{ResolveView}
 use Rattle.wc_resolve.proofs.KeyLemmas.{texts_law}
@@ -40,15 +41,6 @@ zip_push R [] [] x y h r = (r, tt)
 zip_push R [] (b ∷ ys) x y h r = absurd h
 zip_push R (a ∷ xs) [] x y h r = absurd h
 zip_push R (a ∷ xs) (b ∷ ys) x y h r = (h.0, zip_push R xs ys x y h.1 r)
-
--- what holds of all holds of those that pass a test
-kept_cond : {X : Type 0} (P : X → Type 0) (b : Bool) (x : X) (xs : List X) → P x → AllByRecursion P xs → AllByRecursion P (cond b (x ∷ xs) xs)
-kept_cond P true x xs p h = (p, h)
-kept_cond P false x xs p h = h
-
-kept_all : {X : Type 0} (P : X → Type 0) (test : X → Bool) (xs : List X) → AllByRecursion P xs → AllByRecursion P (filter test xs)
-kept_all P test [] h = tt
-kept_all P test (x ∷ xs) h = kept_cond P (test x) x (filter test xs) h.0 (kept_all P test xs h.1)
 
 -- one more, which passes the test or does not
 kept_push : {X : Type 0} (test : X → Bool) (xs : List X) (x : X) (b : Bool) → test x ≡ b → filter test (xs ++ x ∷ []) ≡ filter test xs ++ cond b (x ∷ []) []
@@ -89,7 +81,7 @@ module _ (e : EncoderView) (main : ModuleRecord) (x : NamedAdapter) (passed : Li
   adapter_last old new key a needed is put is_adapter others h =
       let differs : AllByRecursion (λ (y : NamedWorldAdapter). y.0 ≢ key.now) (map adapter_entry old) =
       subst (λ n. AllByRecursion (λ (y : NamedWorldAdapter). y.0 ≢ n) (map adapter_entry old)) (sym is)
-      (other_names e main x.0 (filter (is_adapter_needed e main) passed) (map adapter_entry old) (kept_all (HasOtherName x.0) (is_adapter_needed e main) passed (recursion_from_All (HasOtherName x.0) passed others)) h) in
+      (other_names e main x.0 (filter (is_adapter_needed e main) passed) (map adapter_entry old) (all_filter (HasOtherName x.0) (is_adapter_needed e main) passed (recursion_from_All (HasOtherName x.0) passed others)) h) in
       let more : map adapter_entry new ≡ map adapter_entry old ++ adapter_entry (key, a) ∷ [] = ap (map adapter_entry) (put ∙ put_last old (key, a) differs) ∙ map-append adapter_entry old ((key, a) ∷ []) in
       subst (λ z. AreAdaptersAmong e main (passed ++ x ∷ []) z) (sym more)
       (subst (λ z. AllZip (IsAdapterOf e main) z (map adapter_entry old ++ adapter_entry (key, a) ∷ []))

@@ -31,7 +31,7 @@ use Rattle.wc_world.specs.World.{IsAdapterOf, IsTrimmedOrLibrary, IsTrimmedAdapt
 use Rattle.wc_world.specs.declared.fault.WorldFault.{WorldFault}
 use Rattle.wc_world.specs.declared.fault.WorldFault.TheVariants.{Memory, Main, Adapter, Trim, Minimized, PageSize}
 
-same_test : (a b : Bool) (P : Type 0) → IsTrue a ↔ P → IsTrue b ↔ P → a ≡ b
+pub same_test : (a b : Bool) (P : Type 0) → IsTrue a ↔ P → IsTrue b ↔ P → a ≡ b
 same_test true true P p q = refl
 same_test false false P p q = refl
 same_test true false P p q = absurd (let holds : IsTrue false = q.1 (p.0 refl) in let bad : ⊥ = cc holds in bad)

@@ -1,8 +1,7 @@
 -- Faults of adapters, by what refused them.
-use Rattle.std.proofs.Common.{◌≡◌, ◌≢◌, ◌≤◌, ◌⊎◌, ℕ, min, arith, List, [], MatchOption, Option, Some, None, Result, Ok, Err, IfErr, IfOk, String, true, refl, sym, ap, ◌∙◌, subst, inl, inr}
+use Rattle.std.proofs.Common.{◌≡◌, ◌≢◌, ◌≤◌, ◌⊎◌, ℕ, min, arith, List, [], MatchOption, Option, Some, None, Result, Ok, Err, IfOk, String, true, refl, sym, ap, ◌∙◌, subst, inl, inr}
 use Rattle.std.specs.Borrow.{Bor}
 use Rattle.std.specs.Option.{option_copied, option_map, option_map_or}
-use Rattle.std.specs.Result.{IsErrAnd}
 use Rattle.std.specs.declared.alloc.Global.{Global}
 use Rattle.wc_read.specs.declared.types.MemoryType.{MemoryType}
 use Rattle.wc_read.specs.Limits.{page_size_log2_of}
@@ -39,11 +38,7 @@ use Rattle.wc_world.specs.declared.places.ModulePlace.TheVariants as place
 use Rattle.wc_world.proofs.NeededLemmas.{needed_some}
 use Rattle.wc_world.proofs.RefusedLemmas.{named_refusal, placed}
 use Rattle.wc_world.proofs.RestrictedLemmas.{trimmed_for}
-
--- a fault that is passed on
-pub passed_on : {T E : Type 0} (P : E → Type 0) (r : Result T E) (f : E) → IsErrAnd r (λ e. e ≡ f) → P f → IfErr r P
-passed_on P (Ok x) f h p = tt
-passed_on P (Err e) f h p = subst P (sym h) p
+pub use Rattle.wc_validate.proofs.RefusedLemmas.{passed_on}
 
 pub refused_or_memory : (j : ValidationInput) (bytes : List ℕ) (f : ValidateFault) → IsValidateCause j bytes f → (f ≡ validate.Memory) ⊎ IsRefused j bytes f
 refused_or_memory j bytes validate.Memory h = inl refl

@@ -14,7 +14,7 @@ use Rattle.std.specs.Str.{bytes_eq}
 use Rattle.std.specs.String.{string_eq}
 use Rattle.std.proofs.lemmas.List.Folds.{list_any-append}
 use Rattle.std.proofs.lemmas.Slice.Eq.{bytes_eq-Decides}
-use Rattle.std.proofs.Math.Bool.{or-false, or-true}
+use Rattle.std.proofs.Math.Bool.{and-false, and-true, or-false, or-true}
 use Rattle.wc_resolve.specs.declared.ids.InterfaceId.{InterfaceId}
 use Rattle.wc_resolve.specs.Dependencies.{id_of_interface}
 use Rattle.wc_resolve.specs.declared.functions.AbiVariant.{AbiVariant}
@@ -38,13 +38,6 @@ use Rattle.wc_world.proofs.UsedLemmas.{turned}
 pub ids_in : (keys : List TypeId) (id : TypeId) → list_any (λ (k : TypeId). id.0 == k.0) keys ≡ is_in (indices keys) id.0
 ids_in [] id = refl
 ids_in (k ∷ keys) id = ap (λ b. (id.0 == k.0) || b) (ids_in keys id)
-
-pub bytes_turned : (a b : List ℕ) → bytes_eq a b ≡ bytes_eq b a
-bytes_turned a b = two (bytes_eq a b) (bytes_eq b a) refl refl where
-  two : (x y : Bool) → bytes_eq a b ≡ x → bytes_eq b a ≡ y → bytes_eq a b ≡ bytes_eq b a
-  two true y is at = is ∙ sym ((bytes_eq-Decides b a).1 (sym ((bytes_eq-Decides a b).0 is)))
-  two false true is at = (bytes_eq-Decides a b).1 (sym ((bytes_eq-Decides b a).0 at)) ∙ sym at
-  two false false is at = is ∙ sym at
 
 interfaces_turned : (a b : Option InterfaceId) → option_eq (λ (i j : InterfaceId). i.0 == j.0) a b ≡ option_eq nat_eq (option_map id_of_interface b)
     (option_map id_of_interface a)
@@ -172,16 +165,6 @@ pub drop_no_call : (i : ImportView) (t : ℕ) → dropped_resource i ≡ Some t 
 drop_no_call (imported_resource_drop key interface u) t is = refl
 drop_no_call i t is = absurd (let bad : ⊥ = cc is in bad)
 
-both_false : (a b : Bool) → (a && (b && false)) ≡ false
-both_false true true = refl
-both_false true false = refl
-both_false false b = refl
-
-both_kept : (a b : Bool) → (a && (b && true)) ≡ (a && b)
-both_kept true true = refl
-both_kept true false = refl
-both_kept false b = refl
-
 module _ (imports : List ImportView) (i : ImportView) (f : FunctionImportView) (is : function_import i ≡ Some f) where
   -- a function called in another way is none of these
   pub call_other : {S : Type 0} (other : AbiVariant) (names : NamesByInterface S) → same_call other f.abi ≡ false → AreCalled other imports names
@@ -190,13 +173,14 @@ module _ (imports : List ImportView) (i : ImportView) (f : FunctionImportView) (
       let k : Option ℕ = interface_index interface in
       passed_last (is_import_of k name other) imports i (has_called names interface name) (same interface name)
       (import_called k name other i ∙ (ap (is_called k name other) is
-      ∙ (ap (λ b. option_eq nat_eq k (interface_of f) && (bytes_eq name f.name && b)) differ ∙ both_false (option_eq nat_eq k (interface_of f)) (bytes_eq name f.name))))
+      ∙ (ap (λ b. option_eq nat_eq k (interface_of f) && (bytes_eq name f.name && b)) differ
+      ∙ (ap (λ b. option_eq nat_eq k (interface_of f) && b) (and-false (bytes_eq name f.name)) ∙ and-false (option_eq nat_eq k (interface_of f))))))
 
   pub call_own : (abi : AbiVariant) → same_call abi f.abi ≡ true → IsCall abi (interface_of f, f.name) i
   call_own abi own interface name =
       import_called interface name abi i
       ∙ (ap (is_called interface name abi) is ∙ (ap (λ b. option_eq nat_eq interface (interface_of f) && (bytes_eq name f.name && b)) own
-      ∙ both_kept (option_eq nat_eq interface (interface_of f)) (bytes_eq name f.name)))
+      ∙ ap (λ b. option_eq nat_eq interface (interface_of f) && b) (and-true (bytes_eq name f.name))))
 
   pub call_drops : (drops : List TypeId) → ((t : ℕ) → is_in (indices drops) t ≡ list_any (is_drop_of t) imports) → (t : ℕ)
       → is_in (indices drops) t ≡ list_any (is_drop_of t) (imports ++ i ∷ [])

@@ -1,5 +1,5 @@
 -- What the imports and exports of a world name is there, and so are the live types that are found by it.
-use Rattle.std.proofs.Common.{◌≡◌, ◌∙◌, ℕ, zero, suc, ◌<◌, [], ◌∷◌, length, get_or, Option, Some, None, String, All, IfSome, refl, sym, ap, subst, List, inl, inr, arith}
+use Rattle.std.proofs.Common.{◌≡◌, ◌∙◌, ℕ, zero, suc, ◌<◌, [], ◌∷◌, length, get_or, Option, Some, None, String, All, IfSome, refl, sym, ap, subst, List, inl, inr}
 use Rattle.std.specs.List.{Contains, flat_map}
 use Rattle.std.specs.Option.{option_and_then, option_map_or, option_to_list}
 use Rattle.std.specs.Prelude.{slice_get}
@@ -8,18 +8,18 @@ use Rattle.std.proofs.lemmas.List.Elements.{Contains-append_cases, Contains-push
 use Rattle.std.proofs.lemmas.List.Folds.{flat_map-map}
 use Rattle.wc_resolve.specs.Live.{list_union, listing_from, listing_of, listing_rule, with_live}
 use Rattle.wc_resolve.specs.Ranges.{AreIdsInRange, IsFunctionIn, IsItemIn, IsTypeIn, IsWorldIn}
-use Rattle.wc_resolve.specs.Roots.{function_roots, item_roots, type_roots}
+use Rattle.wc_resolve.specs.Roots.{function_roots, item_roots}
 use Rattle.wc_resolve.specs.TypeRules.{repeated, value_by_rule}
-use Rattle.wc_resolve.specs.Views.{InterfaceView, ItemView, KeyView, KindView, TypeView, FunctionView, WorldView, function_item, interface_item, type_item}
-use Rattle.wc_resolve.specs.Kinds.{LeadWithin, ResolveView, children, kind_at}
+use Rattle.wc_resolve.specs.Views.{InterfaceView, ItemView, KeyView, TypeView, FunctionView, WorldView, function_item, interface_item, type_item}
+use Rattle.wc_resolve.specs.Kinds.{LeadWithin, ResolveView, children}
 use Rattle.wc_resolve.specs.declared.functions.AbiVariant.{AbiVariant}
 use Rattle.wc_resolve.specs.declared.functions.Function.{Function}
 use Rattle.wc_resolve.specs.declared.ids.InterfaceId.{InterfaceId}
-use Rattle.wc_resolve.specs.declared.types.WitType.{WitType}
 use Rattle.wc_resolve.specs.declared.worlds.WorldKey.{WorldKey}
 use Rattle.wc_resolve.proofs.AcyclicLemmas.{children_within, ids_of_types}
 use Rattle.wc_resolve.proofs.ListUnionLemmas.{joined_from, with_from}
-use Rattle.wc_resolve.proofs.RootsInLemmas.{AreBelow, below_append, below_joined, below_one, function_in, item_in, type_in}
+use Rattle.wc_resolve.proofs.ResourcesByValueLemmas.{kind_in}
+use Rattle.wc_resolve.proofs.RootsInLemmas.{AreBelow, below_append, below_joined, below_none, below_one, function_in, item_in, outcome_in}
 use Rattle.wc_resolve.proofs.SearchLemmas.{contains_head, contains_none, contains_tail}
 use Rattle.wc_resolve.proofs.WellFormedLemmas.{all_get}
 use Rattle.wc_encoder.specs.Dependencies.{AreItemsIn}
@@ -44,11 +44,6 @@ use Rattle.wc_world.proofs.OwnerLemmas.{repeats_union}
 use Rattle.wc_world.proofs.UsedLemmas.{filter_from}
 use Rattle.wc_resolve.proofs.WellFormedLemmas.{imports_in as world_imports_in, worlds_in}
 use Rattle.wc_world.proofs.UsedWalkLemmas.{entries_in, exports_are, exports_there}
-
-kind_in : (types : List TypeView) (x : ℕ) (k : KindView) → kind_at types x ≡ Some k → x < length types
-kind_in [] x k h = absurd (let bad : ⊥ = cc h in bad)
-kind_in (t ∷ types) zero k h = omega (arith)
-kind_in (t ∷ types) (suc x) k h = let r : x < length types = kind_in types x k h in omega (arith, r)
 
 -- the resource is a type
 pub resource_there : (r : ResolveView) (w : WorldView) (i : ImportView) → IsImportIn r w i → IfSome (import_resource i) (λ t. t < length r.types)
@@ -144,13 +139,6 @@ other_roots r entries (variant.WorldFunc a b c) f g h = absurd (f a b c refl)
 other_roots r entries (variant.InterfaceFunc a b c d) f g h = absurd (g a b c d refl)
 other_roots r entries (variant.ExportedTaskReturn a b c) f g h = absurd (h a b c refl)
 other_roots r entries i f g h = refl
-
-below_none : (n : ℕ) → AreBelow n []
-below_none n x c = absurd (contains_none x c)
-
-outcome_in : (n : ℕ) (o : Option WitType) → IfSome o (IsTypeIn n) → AreBelow n (option_map_or type_roots o [])
-outcome_in n None h = below_none n
-outcome_in n (Some t) h = type_in n t h
 
 payload_in : (r : ResolveView) (ty : PayloadTypeView) → HasPayload r ty → AreBelow (length r.types) (payload_roots ty)
 payload_in r (typed t f) h = below_one (length r.types) t (elim h.1 [ inl is ↦ kind_in r.types t _ is | inr is ↦ kind_in r.types t _ is ])

@@ -26,7 +26,7 @@ use Rattle.wc_names.proofs.MeaningRangeLemmas.{function_names, listed_names}
 use Rattle.wc_names.proofs.RangeLemmas.{resource_is}
 use Rattle.wc_world.specs.Lowering.{AreKeysDistinct, KeyedLowering, Lowerer, called_lowering, drop_key, function_lowerings, interface_lowerings, is_drop_of, is_import_of, item_lowerings, lowered_function, resource_lowerings, resource_name, type_lowerings, lowerings_of_interface}
 use Rattle.wc_world.specs.Views.{LoweringKey, resource_drop}
-use Rattle.wc_world.proofs.UsedWalkLemmas.{worlds_keyed}
+use Rattle.wc_names.proofs.MeaningRangeLemmas.{import_keys_match, worlds_match}
 use Rattle.wc_world.proofs.PairListLemmas.{all_back, all_of_flat, pairs_across, pairs_of_flat, pairs_one, pairs_unviewed}
 
 abbrev Differ : KeyedLowering → KeyedLowering → Type 0
@@ -119,10 +119,6 @@ type_names r v h = h.0
 functions_spelled : (v : InterfaceView) → IsInterfaceSpelled v → All (λ (e : List ℕ × FunctionView). IsFunctionName e.0) v.functions
 unfolding IsInterfaceSpelled
 functions_spelled v h = h.1
-
-imports_match : (r : ResolveView) (w : WorldView) → HasMatchingKeys r w → All (λ (x : KeyView × ItemView). IsMatchingKey r x.0 x.1) w.imports
-unfolding HasMatchingKeys
-imports_match r w h = h.0
 
 imports_spelled : (w : WorldView) → IsWorldSpelled w → All (λ (x : KeyView × ItemView). IsKeySpelled x.0 x.1) w.imports
 unfolding IsWorldSpelled
@@ -220,10 +216,10 @@ items_differ r (plain_key n, x) (plain_key m, y) differ k a b = owns_differ n m 
 pub world_distinct : (l : Lowerer) → IsWellFormed l.resolve → (i : ℕ) (w : WorldView) → slice_get l.resolve.worlds i ≡ Some w → AreNamesDistinct l.resolve w.imports
     → AreKeysDistinct (flat_map (λ (x : KeyView × ItemView). item_lowerings l x.1) w.imports)
 world_distinct l formed i w at names =
-    let keyed : HasMatchingKeys l.resolve w = all_get (HasMatchingKeys l.resolve) l.resolve.worlds i w (worlds_keyed l.resolve formed.keyed) at in
+    let keyed : HasMatchingKeys l.resolve w = all_get (HasMatchingKeys l.resolve) l.resolve.worlds i w (worlds_match l.resolve formed.keyed) at in
     let spelled : IsWorldSpelled w = all_get IsWorldSpelled l.resolve.worlds i w (worlds_spelled l.resolve formed.spelled) at in
     flat_distinct ItemOf (λ (x : KeyView × ItemView). item_lowerings l x.1) w.imports
-    (λ j d small. item_all l (get_or w.imports j d).0 (get_or w.imports j d).1 (imports_match l.resolve w keyed j d small) (imports_spelled w spelled j d small))
+    (λ j d small. item_all l (get_or w.imports j d).0 (get_or w.imports j d).1 (import_keys_match l.resolve w keyed j d small) (imports_spelled w spelled j d small))
     (λ j d small. item_each l (get_or w.imports j d).1)
     (λ j m d less small. items_differ l.resolve (get_or w.imports j d) (get_or w.imports m d) (pairs_unviewed (λ (a b : Option (List ℕ)). a ≢ b) (import_name l.resolve) w.imports names j m d less small))
 

@@ -4,11 +4,12 @@ use Rattle.std.specs.List.{list_any}
 use Rattle.std.specs.Str.{bytes_eq}
 use Rattle.std.specs.String.{string_eq}
 use Rattle.std.specs.declared.alloc.Global.{Global}
+use Rattle.std.proofs.lemmas.Cmp.{nat_list_eq_equiv}
 use Rattle.std.proofs.lemmas.List.{map-append}
 use Rattle.wc_texts.specs.Names.{first_occurrences}
 use Rattle.wc_validate.proofs.InstanceLemmas.{new_module, old_module}
 use Rattle.wc_world.specs.Trimming.{HasNames}
-use Rattle.wc_world.proofs.ImportedItemLemmas.{added_last, bytes_turned}
+use Rattle.wc_world.proofs.ImportedItemLemmas.{added_last}
 
 module _ (old new : List (String Global)) (k : String Global) (m : List ℕ) (passed : List (List ℕ)) (is : string_bytes k ≡ m) (put : new ≡ cond (list_any (string_eq k) old) old (old ++ k ∷ []))
     (updates : (q : String Global) → list_any (string_eq q) new ≡ cond (string_eq k q) true (list_any (string_eq q) old)) (h : HasNames old passed) where
@@ -26,7 +27,7 @@ module _ (old new : List (String Global)) (k : String Global) (m : List ℕ) (pa
     names = known (list_any (string_eq k) old) refl;
     has = λ q.
         added_last (bytes_eq (string_bytes q)) passed m (list_any (string_eq q) new) (list_any (string_eq q) old) (string_eq k q) (updates q) (h.has q)
-        (bytes_turned (string_bytes k) (string_bytes q) ∙ ap (bytes_eq (string_bytes q)) is);
+        (nat_list_eq_equiv.symm (string_bytes k) (string_bytes q) ∙ ap (bytes_eq (string_bytes q)) is);
   }
 
 -- names that are gone through, after others

@@ -26,7 +26,7 @@ use Rattle.wc_world.specs.Live.{IsWithoutRepeats, by_owner, is_owned_by}
 use Rattle.wc_world.specs.Used.{same_interface}
 use Rattle.wc_world.proofs.UsedLemmas.{turned}
 
-equal_itself : (i : ℕ) → (i == i) ≡ true
+pub equal_itself : (i : ℕ) → (i == i) ≡ true
 equal_itself i = elim (eqb_tells i i) [ inl same ↦ same.0 | inr other ↦ absurd (other.1 refl) ]
 
 -- lists without repeats

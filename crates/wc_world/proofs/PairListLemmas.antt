@@ -4,15 +4,12 @@ use Rattle.std.specs.List.{flat_map}
 use Rattle.std.proofs.lemmas.List.Elements.{All-append, All-cons, All-head, All-nil, All-tail}
 use Rattle.std.proofs.lemmas.List.Kept.{AllPairs-cons}
 use Rattle.wc_resolve.proofs.ViewedLemmas.{all_unviewed}
+pub use Rattle.wc_validate.proofs.MissingLemmas.{all_rest as all_back}
 use Rattle.wc_adapters.proofs.PairLemmas.{pairs_head, pairs_none, pairs_tail}
 
 pub all_front : {X : Type 0} (P : X → Type 0) (xs ys : List X) → All P (xs ++ ys) → All P xs
 all_front P [] ys h = All-nil P
 all_front P (x ∷ xs) ys h = All-cons P x xs (All-head P x (xs ++ ys) h) (all_front P xs ys (All-tail P x (xs ++ ys) h))
-
-pub all_back : {X : Type 0} (P : X → Type 0) (xs ys : List X) → All P (xs ++ ys) → All P ys
-all_back P [] ys h = h
-all_back P (x ∷ xs) ys h = all_back P xs ys (All-tail P x (xs ++ ys) h)
 
 pub all_of_flat : {X Y : Type 0} (P : Y → Type 0) (f : X → List Y) (xs : List X) → All (λ x. All P (f x)) xs → All P (flat_map f xs)
 all_of_flat P f [] h = All-nil P

@@ -1,5 +1,5 @@
 -- Names that are required of an adapter, by what is recorded of it before it is trimmed and after.
-use Rattle.std.proofs.Common.{◌≡◌, ◌↔◌, ℕ, List, [], ◌∷◌, ◌++◌, Bool, true, false, cond, not, map, filter, Contains, Result, Ok, Err, IfOk, sym, ap, ◌∙◌, subst, inl, inr}
+use Rattle.std.proofs.Common.{◌≡◌, ◌↔◌, ℕ, List, [], ◌∷◌, ◌++◌, not, map, filter, Contains, Result, Ok, Err, IfOk, sym, ap, ◌∙◌, subst, inl, inr}
 use Rattle.std.specs.Str.{bytes_eq}
 use Rattle.std.proofs.lemmas.List.Elements.{Contains-append_cases, Contains-append_left, Contains-append_right}
 use Rattle.wc_read.specs.Types.{FuncTypeValue}
@@ -9,44 +9,26 @@ use Rattle.wc_texts.specs.Names.{first_occurrences}
 use Rattle.wc_validate.specs.Imports.Map.{required_in}
 use Rattle.wc_validate.specs.Validate.{ModuleRecord}
 use Rattle.wc_validate.proofs.ContainedLemmas.{mapped_there}
+use Rattle.wc_gc.proofs.ChainLemmas.{contains_unmapped}
+use Rattle.wc_gc.proofs.TwiceReachLemmas.{from_filter}
 use Rattle.wc_world.specs.Trimming.{required_names}
 use Rattle.wc_world.specs.Required.{AreSameNames, IsTrimmedFor}
 use Rattle.wc_world.specs.World.{adapter_trim_input}
 use Rattle.wc_world.proofs.RestrictedLemmas.{occurrence_there}
-
--- what passes a test is there
-later_from : {X : Type 0} (y x : X) (ys zs : List X) → (Contains ys x → Contains zs x) → (b : Bool) → Contains (cond b (y ∷ ys) ys) x → Contains (y ∷ zs) x
-later_from y x ys zs rest true h = elim (contains_cons y ys x h) [
-  | inl is ↦ subst (Contains (y ∷ zs)) is (contains_head zs y)
-  | inr later ↦ contains_tail y zs x (rest later)
-]
-later_from y x ys zs rest false h = contains_tail y zs x (rest h)
-
-filtered_from : {X : Type 0} (test : X → Bool) (xs : List X) (x : X) → Contains (filter test xs) x → Contains xs x
-filtered_from test [] x h = h
-filtered_from test (y ∷ xs) x h = later_from y x (filter test xs) xs (filtered_from test xs x) (test y) h
-
--- what a list is mapped to is of something in it
-mapped_from : {X Y : Type 0} (f : X → Y) (xs : List X) (y : Y) → Contains (map f xs) y → (x : X) × Contains xs x × (f x ≡ y)
-mapped_from f [] y h = absurd (contains_none y h)
-mapped_from f (x ∷ xs) y h = elim (contains_cons (f x) (map f xs) y h) [
-  | inl is ↦ (x, contains_head xs x, is)
-  | inr later ↦ (let found = mapped_from f xs y later in (found.0, contains_tail x xs found.0 found.1, found.2))
-]
 
 -- a first occurrence is one
 occurrence_from : (names : List (List ℕ)) (name : List ℕ) → Contains (first_occurrences names) name → Contains names name
 occurrence_from [] name h = absurd (contains_none name h)
 occurrence_from (k ∷ names) name h = elim (contains_cons k (filter (λ z. not (bytes_eq k z)) (first_occurrences names)) name h) [
   | inl is ↦ subst (Contains (k ∷ names)) is (contains_head names k)
-  | inr later ↦ contains_tail k names name (occurrence_from names name (filtered_from (λ z. not (bytes_eq k z)) (first_occurrences names) name later))
+  | inr later ↦ contains_tail k names name (occurrence_from names name (from_filter (λ z. not (bytes_eq k z)) (first_occurrences names) name later))
 ]
 
 -- names of things in one order, and in another
 same_mapped : {X : Type 0} (xs ys : List (List ℕ × X)) → ((x : List ℕ × X) → Contains xs x → Contains ys x) → (name : List ℕ)
     → Contains (map (λ (x : List ℕ × X). x.0) xs) name → Contains (map (λ (x : List ℕ × X). x.0) ys) name
 same_mapped {X} xs ys each name h =
-    let found = mapped_from (λ (x : List ℕ × X). x.0) xs name h in
+    let found = contains_unmapped (λ (x : List ℕ × X). x.0) xs name h in
     subst (Contains (map (λ (x : List ℕ × X). x.0) ys)) found.2 (mapped_there (λ (x : List ℕ × X). x.0) ys found.0 (each found.0 found.1))
 
 same_after : (front xs ys : List (List ℕ)) (name : List ℕ) → (Contains xs name → Contains ys name) → Contains (first_occurrences (front ++ xs)) name → Contains (first_occurrences (front ++ ys)) name

@@ -1,5 +1,5 @@
 -- What trimming leaves of an adapter's imports and exports, as they are recorded.
-use Rattle.std.proofs.Common.{◌≡◌, ◌≢◌, ℕ, Bool, true, false, cond, not, List, [], ◌∷◌, ◌++◌, map, filter, Contains, Option, Some, None, slice_get, refl, sym, ap, subst, ◌∙◌, inl, inr}
+use Rattle.std.proofs.Common.{◌≡◌, ◌≢◌, ℕ, Bool, true, false, not, List, [], ◌∷◌, ◌++◌, map, filter, Contains, Option, Some, None, slice_get, refl, sym, ap, subst, ◌∙◌, inl, inr}
 use Rattle.std.specs.Option.{option_and_then, option_map}
 use Rattle.std.specs.Str.{bytes_eq}
 use Rattle.std.proofs.lemmas.List.Elements.{All-weaker, Contains-append_left, Contains-append_right}
@@ -15,6 +15,7 @@ use Rattle.wc_read.specs.declared.types.ImportType.{ImportType}
 use Rattle.wc_read.specs.declared.types.ImportType.TheVariants.{Func, Table, Memory, Global}
 use Rattle.wc_write.specs.BuiltValues.{written_module}
 use Rattle.wc_write.specs.Values.{AreBytes}
+use Rattle.wc_gc.proofs.ChainLemmas.{in_filter}
 use Rattle.wc_resolve.proofs.SearchLemmas.{contains_cons, contains_head, contains_none, contains_tail}
 use Rattle.wc_encoder.specs.EncoderParts.{EncoderView}
 use Rattle.wc_names.specs.ExportViews.{ExportView}
@@ -163,20 +164,9 @@ module _ (e : EncoderView) (restriction : trimming.TrimmedIsRestriction) (one : 
 
 -- the names that are required of an adapter hold those that are needed
 
-later_there : {A : Type 0} (y x : A) (ys : List A) → Contains ys x → (b : Bool) → Contains (cond b (y ∷ ys) ys) x
-later_there y x ys c true = contains_tail y ys x c
-later_there y x ys c false = c
-
-filtered_there : {A : Type 0} (p : A → Bool) (xs : List A) (x : A) → Contains xs x → p x ≡ true → Contains (filter p xs) x
-filtered_there p [] x c h = absurd (contains_none x c)
-filtered_there p (y ∷ xs) x c h = elim (contains_cons y xs x c) [
-  | inl is ↦ subst (λ b. Contains (cond b (y ∷ filter p xs) (filter p xs)) x) (sym (ap p is ∙ h)) (subst (Contains (y ∷ filter p xs)) is (contains_head (filter p xs) y))
-  | inr later ↦ later_there y x (filter p xs) (filtered_there p xs x later h) (p y)
-]
-
 others_there : (k m : List ℕ) (ks : List (List ℕ)) (b : Bool) → bytes_eq k m ≡ b → Contains ks m → Contains (k ∷ filter (λ z. not (bytes_eq k z)) ks) m
 others_there k m ks true e c = subst (Contains (k ∷ filter (λ z. not (bytes_eq k z)) ks)) (same k m e) (contains_head (filter (λ z. not (bytes_eq k z)) ks) k)
-others_there k m ks false e c = contains_tail k (filter (λ z. not (bytes_eq k z)) ks) m (filtered_there (λ z. not (bytes_eq k z)) ks m c (ap not e))
+others_there k m ks false e c = contains_tail k (filter (λ z. not (bytes_eq k z)) ks) m (in_filter (λ z. not (bytes_eq k z)) ks m c (ap not e))
 
 pub occurrence_there : (ms : List (List ℕ)) (m : List ℕ) → Contains ms m → Contains (first_occurrences ms) m
 occurrence_there [] m c = absurd (contains_none m c)

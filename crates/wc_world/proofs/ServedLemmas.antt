@@ -1,12 +1,11 @@
 -- Functions that are imported are found among the entries for what a world imports.
 use Rattle.std.proofs.Common.{◌≡◌, ◌≢◌, ℕ, zero, suc, List, [], ◌∷◌, ◌++◌, map, refl, sym, ◌∙◌, ap, subst, Bool, true, false, cond, ◌||◌, Option, Some, None}
-use Rattle.std.proofs.Common.{is_some, All, get_or, inl, inr, arith}
-use Rattle.std.specs.Prelude.{◌==◌, Contains, slice_get}
+use Rattle.std.proofs.Common.{is_some, All, get_or, arith}
+use Rattle.std.specs.Prelude.{Contains, slice_get}
 use Rattle.std.specs.List.{filter_map, flat_map, list_any}
 use Rattle.std.specs.Map.{lookup}
 use Rattle.std.specs.Option.{IsSome, option_and_then, option_eq, option_map_or}
 use Rattle.std.specs.Str.{bytes_eq}
-use Rattle.std.proofs.lemmas.Bool.Decides.{eqb_tells}
 use Rattle.std.proofs.lemmas.List.Elements.{All-contains, All-contains_itself, All-head, All-tail}
 use Rattle.std.proofs.lemmas.Slice.Eq.{bytes_eq-Decides}
 use Rattle.std.proofs.Math.Bool.{or-true}
@@ -25,16 +24,12 @@ use Rattle.wc_names.specs.Laws.{IsImportAbi, IsImportIn}
 use Rattle.wc_names.specs.Keys.{key_eq}
 use Rattle.wc_texts.specs.Names.{under_name}
 use Rattle.wc_names.specs.Views.{ImportView, interface_func, world_func}
+use Rattle.wc_validate.proofs.InstanceLemmas.{self as same_bytes}
 use Rattle.wc_world.specs.FunctionsLowered.{IsLoweredIn, abi_eq, is_lowering_key, lowering_at, lowering_in}
 use Rattle.wc_world.specs.Lowering.{Lowerer, all_entries, called_lowering, entries_from, function_lowerings, interface_entry, interface_lowerings, is_import_of}
 use Rattle.wc_world.specs.Lowering.{item_lowerings, lowered_function, own_entry, own_lowerings, same_call, type_lowerings}
 use Rattle.wc_world.specs.Views.{ImportMapView, ImportedView}
-
-same_bytes : (n : List ℕ) → bytes_eq n n ≡ true
-same_bytes n = (bytes_eq-Decides n n).1 refl
-
-same_number : (i : ℕ) → (i == i) ≡ true
-same_number i = elim (eqb_tells i i) [ inl e ↦ e.0 | inr e ↦ absurd (e.1 refl) ]
+use Rattle.wc_world.proofs.OwnerLemmas.{equal_itself}
 
 -- look-ups in lists that are put together
 
@@ -259,7 +254,7 @@ module _ (l : Lowerer) (w : WorldView) (named : AreNamed l.resolve w.imports) (k
       → IsLoweredIn l.resolve (all_entries l w.imports) (interface_func key i name abi)
   interface_lowered key i name abi among (f, small, at, usable, is_name, entry, call) =
       let test : is_import_of (Some i) f.name abi (interface_func key i name abi) ≡ true = rw (
-        same_number i,
+        equal_itself i,
         ap (bytes_eq f.name) (sym is_name)
             ∙ same_bytes f.name,
         same_way abi call,

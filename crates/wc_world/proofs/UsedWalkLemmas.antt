@@ -5,7 +5,7 @@ use Rattle.std.specs.Prelude.{◌==◌, if◌then◌else◌, nat_eq, slice_get}
 use Rattle.std.specs.List.{Contains, cons_option, filter_map}
 use Rattle.std.specs.Option.{IsSome, option_and_then, option_map_or}
 use Rattle.std.proofs.lemmas.Bool.Decides.{eqb_tells}
-use Rattle.std.proofs.lemmas.List.Elements.{Contains-append_left, Contains-append_right, Contains-append_cases, Contains-push, Contains-push_cases}
+use Rattle.std.proofs.lemmas.List.Elements.{All-contains, Contains-append_left, Contains-append_right, Contains-append_cases, Contains-push, Contains-push_cases}
 use Rattle.std.proofs.lemmas.List.Elements.{filter_map-append}
 use Rattle.std.proofs.lemmas.Option.{same_Some}
 use Rattle.wc_resolve.specs.declared.worlds.WorldItem.{WorldItem}
@@ -25,6 +25,7 @@ use Rattle.wc_encoder.specs.EncoderParts.{EncoderView, world_exports}
 use Rattle.wc_adapters.specs.Entries.{Entries}
 use Rattle.wc_adapters.proofs.PairLemmas.{pairs_head, pairs_tail}
 use Rattle.wc_names.specs.Keys.{item_under}
+use Rattle.wc_names.proofs.MeaningRangeLemmas.{worlds_match}
 use Rattle.wc_world.specs.Used.{HasUsedSet, HasUsedSets, IsReady, IsUsedSet, UsedView, is_exported_itself}
 use Rattle.wc_resolve.proofs.WellFormedLemmas.{exports_in, worlds_in}
 use Rattle.wc_world.proofs.UsedLemmas.{filter_from}
@@ -113,9 +114,6 @@ pairs_after : {X : Type 0} (R : X → X → Type 0) (passed rest : List X) (e : 
 pairs_after R [] rest e h = pairs_head R e rest h
 pairs_after R (x ∷ passed) rest e h = pairs_after R passed rest e (pairs_tail R x (passed ++ e ∷ rest) h)
 
-pub all_has : {X : Type 0} (P : X → Type 0) (xs : List X) (x : X) → All P xs → Contains xs x → P x
-all_has P xs x all (k, small, is) = subst P is (all k x small)
-
 option_here : (o : Option ℕ) (is : List ℕ) (i : ℕ) → o ≡ Some i → Contains (cons_option o is) i
 option_here (Some j) is i same = subst (λ z. Contains (z ∷ is) i) (let e : i ≡ j = cc (sym same) in e) (contains_head is i)
 option_here None is i same = absurd (let bad : ⊥ = cc same in bad)
@@ -155,14 +153,14 @@ module _ (r : ResolveView) (exports passed rest : Entries) (k : KeyView) (i : �
       (subst (Contains (direct_dependencies r i)) (sym (subst (λ z. IsMatchingKey r (interface_key d) z) (sym own) match)) depends)
 
   none_after : (item : ItemView) → Contains rest (interface_key d, item) → ⊥
-  none_after item c = all_has (λ later. ¬ DependsOn r (interface_item i external) later.0) rest (interface_key d, item)
+  none_after item c = All-contains (λ later. ¬ DependsOn r (interface_item i external) later.0) rest (interface_key d, item)
       (pairs_after (λ (x later : KeyView × ItemView). ¬ DependsOn r x.1 later.0) passed rest (k, interface_item i external)
       (subst (λ z. AreDependenciesBefore r z) split before)) c depends
 
   set_there : is_exported_itself exports d ≡ true → HasUsedSet r exports sets d
   set_there is =
       let found = entry_found exports d is in
-      let match : IsMatchingKey r (interface_key d) found.0 = all_has (λ e. IsMatchingKey r e.0 e.1) exports (interface_key d, found.0) keyed found.1 in
+      let match : IsMatchingKey r (interface_key d) found.0 = All-contains (λ e. IsMatchingKey r e.0 e.1) exports (interface_key d, found.0) keyed found.1 in
       elim (Contains-append_cases passed ((k, interface_item i external) ∷ rest) (interface_key d, found.0)
       (subst (λ z. Contains z (interface_key d, found.0)) split found.1)) [
         | inl c ↦ found_before found.0 match c
@@ -224,7 +222,7 @@ pub walk_in : (r : ResolveView) (all left rest : List (WorldKey × WorldItem)) (
     → AreItemsIn r (map world_entry all) → UsedWalk r all left sets → IsItemIn r (item_view e.1)
 walk_in r all left rest e sets next within w =
     let split : map world_entry all ≡ w.passed ++ world_entry e ∷ map world_entry rest = w.split ∙ ap (λ z. w.passed ++ map world_entry z) next in
-    all_has (λ x. IsItemIn r x.1) (map world_entry all) (world_entry e) within
+    All-contains (λ x. IsItemIn r x.1) (map world_entry all) (world_entry e) within
     (subst (λ z. Contains z (world_entry e)) (sym split) (Contains-append_right w.passed (world_entry e ∷ map world_entry rest) (world_entry e)
     (contains_head (map world_entry rest) (world_entry e))))
 
@@ -237,16 +235,12 @@ matching : (r : ResolveView) (w : WorldView) → HasMatchingKeys r w → All (λ
 unfolding HasMatchingKeys
 matching r w h = h.1
 
-pub worlds_keyed : (r : ResolveView) → KeysMatch r → All (HasMatchingKeys r) r.worlds
-unfolding KeysMatch
-worlds_keyed r h = h.0
-
 pub exports_there : (r : ResolveView) → AreIdsInRange r → (index : ℕ) (w : WorldView) → slice_get r.worlds index ≡ Some w → AreItemsIn r w.exports
 exports_there r h index w at = entries_in r w.exports (exports_in r w (all_get (IsWorldIn r) r.worlds index w (worlds_in r h) at))
 
 pub exports_keyed : (r : ResolveView) → KeysMatch r → (index : ℕ) (w : WorldView) → slice_get r.worlds index ≡ Some w
     → All (λ e. IsMatchingKey r e.0 e.1) w.exports
-exports_keyed r h index w at = matching r w (all_get (HasMatchingKeys r) r.worlds index w (worlds_keyed r h) at)
+exports_keyed r h index w at = matching r w (all_get (HasMatchingKeys r) r.worlds index w (worlds_match r h) at)
 
 -- what the world of an encoder exports
 pub exports_are : (e : EncoderView) (r : ResolveView) (index : ℕ) (w : WorldView) → r ≡ e.resolve → index ≡ e.world → slice_get r.worlds index ≡ Some w

@@ -3,6 +3,10 @@ mod ReadLemmas
 mod FileNameLemmas
 mod NamesLemmas
 mod WorldsLemmas
+mod ExporterLemmas
+mod SharedKeyLemmas
+mod AdapterFileLemmas
+mod InputLemmas
 mod ProgramLemmas
 mod RunLemmas
 mod NearestLemmas

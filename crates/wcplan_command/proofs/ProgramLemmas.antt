@@ -1,48 +1,40 @@
 -- Why an encoder could not be made of the files of a command.
-use Rattle.std.proofs.Common.{◌≡◌, ◌≢◌, ℕ, ◌+◌, List, [], ◌∷◌, ◌++◌, map, String, Global, Option, Some, None, refl, sym, ◌∙◌, ap, subst, string_bytes, string_eq, length, take, get_or, zero, suc, ◌<◌, Contains, inl, inr, arith}
+use Rattle.std.proofs.Common.{◌≡◌, ℕ, List, [], ◌∷◌, map, Option, sym, ◌∙◌, ap, subst, length, get_or, zero, suc, ◌<◌, Contains, inl, inr, arith}
 use Rattle.std.specs.Borrow.{Bor}
-use Rattle.std.specs.Option.{option_map}
 use Rattle.wc_encoder.specs.EncoderParts.{EncoderView}
 use Rattle.wc_encoder.specs.Fault.{IsEncoderCause}
 use Rattle.wc_encoder.specs.declared.fault.EncoderFault.{EncoderFault}
 use Rattle.wc_encoder.specs.declared.fault.EncoderFault.TheVariants.{Memory as encoder_memory}
 use Rattle.wc_json.specs.Document.{DocumentView}
-use Rattle.wc_resolve.specs.Views.{key_view}
 use Rattle.wc_resolve.specs.Kinds.{ResolveView}
 use Rattle.wc_resolve.specs.WellFormed.{IsWellFormed as IsResolve}
-use Rattle.wc_selection.proofs.ListLemmas.{passed_more}
 use Rattle.wc_selection.specs.KeyNames.{request_keys}
 use Rattle.wc_selection.specs.Keys.{NamedKey, texts_of}
-use Rattle.wc_selection.specs.ModuleKeys.{required_keys}
-use Rattle.wc_selection.specs.Texts.{first_parts, second_parts, text_pair}
+use Rattle.wc_selection.specs.Texts.{second_parts, text_pair}
 use Rattle.wcplan_command.specs.declared.fault.SelectionFault.{SelectionFault}
 use Rattle.wcplan_command.specs.declared.fault.SelectionFault.TheVariants.{Request, UnknownAdapter}
 use Rattle.wc_selection.specs.declared.fault.RequestFault.TheVariants.{UnknownKey}
-use Rattle.std.proofs.lemmas.List.{map-append}
-use Rattle.std.specs.List.{AllPairs, AllZip}
-use Rattle.std.proofs.lemmas.Bool.{cases_Bool}
-use Rattle.std.proofs.lemmas.List.Elements.{All-contains}
-use Rattle.indexmap.specs.IndexMap.{insert_entry}
+use Rattle.std.specs.List.{AllZip}
 use Rattle.wc_dedupe.specs.Dedupe.{IsDedupeCause, IsDedupePlace}
+use Rattle.wc_dedupe.specs.Renaming.{RenameView}
 use Rattle.wc_dedupe.specs.declared.fault.DedupeFault.{DedupeFault}
 use Rattle.wc_read.specs.declared.place.ReadPlace.{ReadPlace}
 use Rattle.wc_texts.specs.declared.refused.Refused.{Refused}
-use Rattle.wc_adapters.specs.Adapters.{AdapterView, adapter_entry, library_view}
-use Rattle.wc_adapters.specs.declared.adapters.Adapter.{Adapter}
-use Rattle.wc_adapters.proofs.PairLemmas.{pairs_head, pairs_tail}
-use Rattle.wc_resolve.proofs.KeyLemmas.{texts_law}
-use Rattle.wc_resolve.proofs.SearchLemmas.{contains_cons, contains_head, contains_none, contains_tail}
-use Rattle.wcplan_command.specs.Fault.{of_encoder}
+use Rattle.wc_resolve.proofs.SearchLemmas.{contains_head, contains_tail}
+use Rattle.wcplan_command.specs.Fault.{of_encoder, of_exporter}
 use Rattle.wcplan_command.specs.Private.Runs.{IsOfMain}
 use Rattle.wcplan_command.specs.ModuleKeys.{AreNamesThere, IsMeant, IsNamesCause, adapter_names, request_of}
 use Rattle.wc_program.specs.Files.{Held}
 use Rattle.wcplan_command.specs.Arguments.{CommandView}
 use Rattle.wcplan_command.specs.AdapterNames.{IsNoAdapter}
+use Rattle.wcplan_command.specs.SharedKeys.{AreUnshared, ExportScope, scope_of}
+use Rattle.wcplan_command.specs.declared.exporter_fault.ExporterFault.{ExporterFault}
+use Rattle.wcplan_command.specs.declared.exporter_fault.ExporterFault.TheVariants.{Memory as exporter_memory}
 use Rattle.wcplan_command.specs.Asked.{IsAskedCause, IsAskedThere, IsUnasked}
 use Rattle.wcplan_command.specs.Listing.{IsListedNear}
-use Rattle.wcplan_command.specs.Program.{AreWorldsIn, HoldsInput, IsAdapterIn, IsAdaptersCause, IsChosen, IsDocumentIn, IsListed, IsListedCause, IsMainCause, IsModulesCause, IsNoExport, IsPartsOf, IsPartsWith, IsPlanCause, IsReadFault, Reads}
+use Rattle.wcplan_command.specs.Program.{AreUnsharedIn, AreWorldsIn, HoldsInput, IsAdaptersCause, IsChosen, IsDocumentIn, IsFileIn, IsListed, IsListedCause, IsMainCause, IsMainIn, IsNoExport, IsPartsCause, IsPartsOf, IsPartsWith, IsPlanCause, IsReadFault, Reads}
 use Rattle.wcplan_command.specs.declared.fault.ProgramFault.{ProgramFault}
-use Rattle.wcplan_command.specs.declared.fault.ProgramFault.TheVariants.{Memory, CannotRead, Selection, NoAdapter, NoExport, NoImport, Dedupe}
+use Rattle.wcplan_command.specs.declared.fault.ProgramFault.TheVariants.{Memory, CannotRead, Selection, NoAdapter, NoExport, NoImport, Dedupe, Exporter}
 
 -- a fault of renaming is the cause of a fault of the main module
 pub main_cause : (before : Option Held) (fails : Reads) (path bytes : List ℕ) (x : Refused DedupeFault ReadPlace) (g : ProgramFault)
@@ -58,57 +50,47 @@ unread_main before fails path Memory h = tt
 unread_main before fails path (CannotRead at p) h = h
 unread_main before fails path f h = absurd h
 
--- a fault of the main module or of adapters is one of modules
-pub main_modules : (c : CommandView) (before : Option Held) (fails : Reads) (f : ProgramFault) → IsMainCause before fails c.main f
-    → IsModulesCause c before fails f
-main_modules c before fails (CannotRead at p) h = (inl h.0, h.1)
-main_modules c before fails f h = h
+-- a fault of the main module, of adapters, or of what they have to export is one of the parts of an encoder
+pub main_parts : (c : CommandView) (before : Option Held) (fails : Reads) (s : ExportScope) (keys : List NamedKey) (f : ProgramFault)
+    → IsMainCause before fails c.main f → IsPartsCause c before fails s keys f
+main_parts c before fails s keys (Exporter f) h = absurd h
+main_parts c before fails s keys (CannotRead at p) h = (inl h.0, h.1)
+main_parts c before fails s keys f h = h
 
-pub adapters_modules : (c : CommandView) (before : Option Held) (fails : Reads) (f : ProgramFault) → IsAdaptersCause c fails f → IsModulesCause c before fails f
-adapters_modules c before fails Memory h = tt
-adapters_modules c before fails (CannotRead at p) h = (inr h.0, h.1)
-adapters_modules c before fails f h = absurd h
+pub adapters_parts : (c : CommandView) (before : Option Held) (fails : Reads) (s : ExportScope) (keys : List NamedKey) (f : ProgramFault)
+    → IsAdaptersCause c fails f → IsPartsCause c before fails s keys f
+adapters_parts c before fails s keys Memory h = tt
+adapters_parts c before fails s keys (CannotRead at p) h = (inr h.0, h.1)
+adapters_parts c before fails s keys f h = absurd h
 
--- adapters that are put into a map under their names, which differ
+pub exporter_parts : (c : CommandView) (before : Option Held) (fails : Reads) (s : ExportScope) (keys : List NamedKey) (main : List ℕ)
+    (renames : List RenameView) (adapters : List (List ℕ × List ℕ)) (f : ExporterFault) → IsMainIn before c.main main renames
+    → AllZip (IsFileIn before) c.adapters adapters → AreUnshared c s main adapters keys f → IsPartsCause c before fails s keys (of_exporter f)
+exporter_parts c before fails s keys main renames adapters exporter_memory read files h = tt
+exporter_parts c before fails s keys main renames adapters f read files h = (
+  (λ e. cc),
+  record { main = main; renames = renames; adapters = adapters; main_read = read; adapters_read = files; unshared = h },
+)
+
+-- a fault of parts, with the world that is chosen
+pub parts_cause : (c : CommandView) (before : Option Held) (fails : Reads) (d : DocumentView) (r : ResolveView) (world : ℕ) (keys : List NamedKey)
+    (f : ProgramFault) → IsChosen c before d world → r ≡ d.parts → keys ≡ request_keys (request_of c) r world
+    → IsPartsCause c before fails (scope_of c r world) keys f → IsPlanCause c before fails f
+parts_cause c before fails d r world keys Memory chosen is keyed h = tt
+parts_cause c before fails d r world keys (CannotRead path p) chosen is keyed h = inr ((d, world, chosen), h)
+parts_cause c before fails d r world keys (Dedupe x) chosen is keyed h = ((d, world, chosen), h)
+parts_cause c before fails d r world keys (Exporter f) chosen is keyed h = (
+  d,
+  world,
+  chosen,
+  h.0,
+  subst (λ q. AreUnsharedIn c before (scope_of c q world) (request_keys (request_of c) q world) f) is
+      (subst (λ k. AreUnsharedIn c before (scope_of c r world) k f) keyed h.1),
+)
+parts_cause c before fails d r world keys f chosen is keyed h = absurd h
 
 abbrev Pairs : Type 0
 Pairs = List (Bor (List ℕ) × Bor (List ℕ))
-
-abbrev NotEqual : List ℕ → List ℕ → Type 0
-NotEqual a b = a ≢ b
-
-same_names : (before : Option Held) (c : CommandView) (keys : List NamedKey) (xs : List (List ℕ × List ℕ)) (ys : List (List ℕ × AdapterView))
-    → AllZip (IsAdapterIn before c keys) xs ys → map (λ (y : List ℕ × AdapterView). y.0) ys ≡ first_parts xs
-same_names before c keys [] [] h = refl
-same_names before c keys [] (y ∷ ys) h = absurd h
-same_names before c keys (x ∷ xs) [] h = absurd h
-same_names before c keys (x ∷ xs) (y ∷ ys) h = (λ i. h.0.name i ∷ same_names before c keys xs ys h.1 i)
-
-name_at : (pairs : Pairs) (k : ℕ) (d : Bor (List ℕ) × Bor (List ℕ)) → k < length pairs → Contains (first_parts (map text_pair pairs)) (get_or pairs k d).0.now
-name_at [] k d lt = absurd (omega arith)
-name_at (y ∷ ys) zero d lt = contains_head (first_parts (map text_pair ys)) y.0.now
-name_at (y ∷ ys) (suc k) d lt = contains_tail y.0.now (first_parts (map text_pair ys)) (get_or ys k d).0.now (name_at ys k d (omega arith))
-
-pub name_fresh : (pairs : Pairs) (k : ℕ) (d : Bor (List ℕ) × Bor (List ℕ)) → k < length pairs → AllPairs NotEqual (first_parts (map text_pair pairs))
-    → Contains (first_parts (map text_pair (take k pairs))) (get_or pairs k d).0.now → ⊥
-name_fresh [] k d lt distinct has = absurd (omega arith)
-name_fresh (y ∷ ys) zero d lt distinct has = contains_none y.0.now has
-name_fresh (y ∷ ys) (suc k) d lt distinct has = elim (contains_cons y.0.now (first_parts (map text_pair (take k ys))) (get_or ys k d).0.now has) [
-  | inl same ↦ All-contains (NotEqual y.0.now) (first_parts (map text_pair ys)) (get_or ys k d).0.now
-      (pairs_head NotEqual y.0.now (first_parts (map text_pair ys)) distinct) (name_at ys k d (omega arith)) same
-  | inr later ↦ name_fresh ys k d (omega arith) (pairs_tail NotEqual y.0.now (first_parts (map text_pair ys)) distinct) later
-]
-
-insert_new : (entries : List (String Global × Adapter)) (name : String Global) (adapter : Adapter)
-    → (Contains (map (λ (y : List ℕ × AdapterView). y.0) (map adapter_entry entries)) (string_bytes name) → ⊥)
-    → insert_entry string_eq entries name adapter ≡ entries ++ (name, adapter) ∷ []
-insert_new [] name adapter fresh = refl
-insert_new (e ∷ es) name adapter fresh = elim (cases_Bool (string_eq name e.0)) [
-  | inl same ↦ absurd (fresh (subst (Contains (map (λ (y : List ℕ × AdapterView). y.0) (map adapter_entry (e ∷ es)))) (sym ((texts_law name e.0).0 same))
-      (contains_head (map (λ (y : List ℕ × AdapterView). y.0) (map adapter_entry es)) (string_bytes e.0))))
-  | inr other ↦ rw other (ap (λ l. e ∷ l) (insert_new es name adapter
-      (λ has. fresh (contains_tail (string_bytes e.0) (map (λ (y : List ℕ × AdapterView). y.0) (map adapter_entry es)) (string_bytes name) has))))
-]
 
 path_at : (pairs : Pairs) (k : ℕ) (d : Bor (List ℕ) × Bor (List ℕ)) → k < length pairs → Contains (second_parts (map text_pair pairs)) (get_or pairs k d).1.now
 path_at [] k d lt = absurd (omega arith)
@@ -125,35 +107,6 @@ path_cause c fails pairs k d lt is (CannotRead path p) h = (
   h.1,
 )
 path_cause c fails pairs k d lt is f h = absurd h
-
-zip_push : {A B : Type 0} (R : A → B → Type 0) (xs : List A) (ys : List B) (x : A) (y : B) → AllZip R xs ys → R x y → AllZip R (xs ++ x ∷ []) (ys ++ y ∷ [])
-zip_push R [] [] x y h r = (r, tt)
-zip_push R [] (b ∷ ys) x y h r = absurd h
-zip_push R (a ∷ xs) [] x y h r = absurd h
-zip_push R (a ∷ xs) (b ∷ ys) x y h r = (h.0, zip_push R xs ys x y h.1 r)
-
--- one more adapter
-pub adapters_more : (before : Option Held) (c : CommandView) (keys : List NamedKey) (pairs : Pairs) (k : ℕ) (d : Bor (List ℕ) × Bor (List ℕ))
-    (entries after : List (String Global × Adapter)) (name : String Global) (adapter : Adapter)
-    → k < length pairs → AllPairs NotEqual (first_parts (map text_pair pairs)) → string_bytes name ≡ (get_or pairs k d).0.now
-    → HoldsInput before (get_or pairs k d).1.now adapter.wasm.items
-    → map key_view adapter.required_exports.keys ≡ required_keys (request_of c) (Some (get_or pairs k d).0.now) keys → adapter.library_info ≡ None
-    → after ≡ insert_entry string_eq entries name adapter
-    → AllZip (IsAdapterIn before c keys) (map text_pair (take k pairs)) (map adapter_entry entries)
-    → AllZip (IsAdapterIn before c keys) (map text_pair (take (k + 1) pairs)) (map adapter_entry after)
-adapters_more before c keys pairs k d entries after name adapter lt distinct named holds required none put alike =
-    let same = same_names before c keys (map text_pair (take k pairs)) (map adapter_entry entries) alike in
-    let fresh : Contains (map (λ (y : List ℕ × AdapterView). y.0) (map adapter_entry entries)) (string_bytes name)
-    → ⊥ = λ has. name_fresh pairs k d lt distinct (subst (Contains (first_parts (map text_pair (take k pairs)))) named
-    (subst (λ (l : List (List ℕ)). Contains l (string_bytes name)) same has)) in
-    let grown = ap (map adapter_entry) (put ∙ insert_new entries name adapter fresh) ∙ map-append adapter_entry entries ((name, adapter) ∷ []) in
-    let here : IsAdapterIn before c keys (text_pair (get_or pairs k d)) (adapter_entry (name, adapter)) =
-    record { name = named; wasm = holds; required = required; library = ap (option_map library_view) none } in
-    let pushed = zip_push (IsAdapterIn before c keys) (map text_pair (take k pairs)) (map adapter_entry entries) (text_pair (get_or pairs k d))
-    (adapter_entry (name, adapter)) alike here in
-    subst (λ ys. AllZip (IsAdapterIn before c keys) (map text_pair (take (k + 1) pairs)) ys) (sym grown)
-    (subst (λ xs. AllZip (IsAdapterIn before c keys) xs (map adapter_entry entries ++ adapter_entry (name, adapter) ∷ []))
-    (sym (passed_more text_pair pairs k d lt)) pushed)
 
 -- causes of faults that come before there is an encoder
 
@@ -197,13 +150,6 @@ listed_cause c keys (UnknownAdapter name) g cause listed = unknown_adapter c key
 listed_cause c keys f Memory cause listed = tt
 listed_cause c keys f (Selection g) cause listed = selection_listed c keys f g cause listed
 listed_cause c keys f g cause listed = absurd listed
-
-pub modules_cause : (c : CommandView) (before : Option Held) (fails : Reads) (d : DocumentView) (world : ℕ) (f : ProgramFault)
-    → IsChosen c before d world → IsModulesCause c before fails f → IsPlanCause c before fails f
-modules_cause c before fails d world Memory chosen h = tt
-modules_cause c before fails d world (CannotRead path p) chosen h = inr ((d, world, chosen), h)
-modules_cause c before fails d world (Dedupe x) chosen h = ((d, world, chosen), h)
-modules_cause c before fails d world f chosen h = absurd h
 
 pub encoder_cause : (c : CommandView) (before : Option Held) (fails : Reads) (e : EncoderView) (f : EncoderFault) → IsPartsOf c before e → IsEncoderCause e f
     → IsPlanCause c before fails (of_encoder f)

@@ -22,7 +22,7 @@ use Rattle.wcplan_command.specs.Private.Runs.{AreWorldsOf, IsExplainedPlace, IsM
 use Rattle.wcplan_command.specs.Program.{AreWorldsIn, HoldsInput, IsDocumentIn, IsDocumentOf, IsPlanCause, IsReadFault, IsTextCause, Reads}
 use Rattle.wcplan_command.specs.declared.explained_part.ExplainedPart.{ExplainedPart}
 use Rattle.wcplan_command.specs.declared.fault.ProgramFault.{ProgramFault}
-use Rattle.wcplan_command.specs.declared.fault.ProgramFault.TheVariants.{Memory, CannotRead, NotText, NotJson, RepeatedMember, Json as json_fault, Selection, NoAdapter, NoWorld, NoExport, NoImport, Resolve, Dedupe, Encoder, World, Plan, Ways, CannotMake, CannotWrite, Output}
+use Rattle.wcplan_command.specs.declared.fault.ProgramFault.TheVariants.{Memory, CannotRead, NotText, NotJson, RepeatedMember, Json as json_fault, Selection, NoAdapter, NoWorld, NoExport, NoImport, Resolve, Dedupe, Exporter, Encoder, World, Plan, Ways, CannotMake, CannotWrite, Output}
 
 -- a file that could not be read, or is no text
 pub unread : (c : CommandView) (before : Option Held) (fails : Reads) (f : ProgramFault) → IsReadFault c.worlds fails f → IsPlanCause c before fails f
@@ -118,6 +118,7 @@ file_cause c before fails text (NoImport key listing nearest) held h = absurd h
 file_cause c before fails text (Resolve x) held (d, world, read, selected, real, cause, about) =
     (d, world, in_file before c.worlds text d held read, selected, real, cause, about)
 file_cause c before fails text (Dedupe x) held h = absurd h
+file_cause c before fails text (Exporter f) held h = absurd h
 file_cause c before fails text (Encoder f) held h = absurd h
 file_cause c before fails text (World x) held h = absurd h
 file_cause c before fails text (Plan x) held h = absurd h

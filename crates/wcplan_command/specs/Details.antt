@@ -21,9 +21,10 @@ use Rattle.wcplan_command.specs.AdapterNames.{given_adapters}
 use Rattle.wcplan_command.specs.Nearest.{near_place}
 use Rattle.wcplan_command.specs.ExplainedPart.{path_text}
 use Rattle.wcplan_command.specs.declared.explained_part.ExplainedPart.{ExplainedPart}
+use Rattle.wcplan_command.specs.ExporterFault.{exporter_lines}
 use Rattle.wcplan_command.specs.declared.explained.Explained.{Explained}
 use Rattle.wcplan_command.specs.declared.fault.ProgramFault.{ProgramFault}
-use Rattle.wcplan_command.specs.declared.fault.ProgramFault.TheVariants.{Dedupe, NoAdapter, NoImport, NotJson, NotText, Resolve, World, Plan}
+use Rattle.wcplan_command.specs.declared.fault.ProgramFault.TheVariants.{Dedupe, Exporter, NoAdapter, NoImport, NotJson, NotText, Resolve, World, Plan}
 
 -- a fault of a component's world is about a place, and of what is named there this is the nearest that is there; and what
 -- adapters there are, where that is said
@@ -132,6 +133,7 @@ fault_lines (NoAdapter name listing nearest) = nearest_line (option_map string_b
 fault_lines (NoImport key listing nearest) = nearest_line (option_map string_bytes nearest)
 fault_lines (Resolve x) = part_lines x.place
 fault_lines (Dedupe x) = read_lines x.place
+fault_lines (Exporter f) = exporter_lines f
 fault_lines (World x) = world_fault_lines x.place
 fault_lines (Plan x) = plan_fault_lines x.place
 fault_lines f = []

@@ -23,10 +23,13 @@ use Rattle.wc_texts.specs.FaultTexts.{carried_text, memory_text}
 use Rattle.wc_world.specs.Fault.{world_fault_text}
 use Rattle.wc_world.specs.declared.fault.WorldFault.{WorldFault}
 use Rattle.wc_world.specs.declared.fault.WorldFault.TheVariants.{PageSize}
+use Rattle.wcplan_command.specs.ExporterFault.{exporter_fault_text}
+use Rattle.wcplan_command.specs.declared.exporter_fault.ExporterFault.{ExporterFault}
+use Rattle.wcplan_command.specs.declared.exporter_fault.ExporterFault.TheVariants.{Memory as exporter_memory}
 use Rattle.wcplan_command.specs.declared.fault.SelectionFault.{SelectionFault}
 use Rattle.wcplan_command.specs.declared.fault.SelectionFault.TheVariants.{Memory as selection_memory, Request, RepeatedAdapter, UnknownAdapter, EmptyDirectory, FileName, MainFile}
 use Rattle.wcplan_command.specs.declared.fault.ProgramFault.{ProgramFault}
-use Rattle.wcplan_command.specs.declared.fault.ProgramFault.TheVariants.{Memory, CannotRead, NotText, NotJson, RepeatedMember, Json, Selection, NoAdapter, NoWorld, NoExport, NoImport, Resolve, Dedupe, Encoder, World, Plan, Ways, CannotMake, CannotWrite, Output}
+use Rattle.wcplan_command.specs.declared.fault.ProgramFault.TheVariants.{Memory, CannotRead, NotText, NotJson, RepeatedMember, Json, Selection, NoAdapter, NoWorld, NoExport, NoImport, Resolve, Dedupe, Exporter, Encoder, World, Plan, Ways, CannotMake, CannotWrite, Output}
 
 abbrev pub of_json : JsonFault → ProgramFault
 of_json json_memory = Memory
@@ -39,6 +42,10 @@ of_request f = Request f
 abbrev pub of_selection : SelectionFault → ProgramFault
 of_selection selection_memory = Memory
 of_selection f = Selection f
+
+abbrev pub of_exporter : ExporterFault → ProgramFault
+of_exporter exporter_memory = Memory
+of_exporter f = Exporter f
 
 abbrev pub of_encoder : EncoderFault → ProgramFault
 of_encoder encoder_memory = Memory
@@ -106,6 +113,7 @@ program_fault_text (NoExport key listing) = escaped (no_export_text key.now (str
 program_fault_text (NoImport key listing nearest) = escaped (no_import_text key.now (string_bytes listing))
 program_fault_text (Resolve x) = carried_text (codes "Resolve") (escaped (resolve_fault_text x.fault))
 program_fault_text (Dedupe x) = carried_text (codes "Main module") (escaped (dedupe_fault_text x.fault))
+program_fault_text (Exporter f) = exporter_fault_text f
 program_fault_text (Encoder f) = carried_text (codes "Encoder") (escaped (encoder_fault_text f))
 program_fault_text (World x) = world_text x.fault
 program_fault_text (Plan x) = carried_text (codes "Plan") (escaped (plan_fault_text x.fault))

@@ -16,8 +16,10 @@ use Rattle.wcplan_command.specs.Details.{fault_lines}
 use Rattle.wcplan_command.specs.Fault.{NeedsText, program_fault_text}
 use Rattle.wcplan_command.specs.declared.explained.Explained.{Explained}
 use Rattle.wcplan_command.specs.declared.explained_part.ExplainedPart.{ExplainedPart}
+use Rattle.wcplan_command.specs.declared.exporter_fault.ExporterFault.{ExporterFault}
+use Rattle.wcplan_command.specs.declared.exporter_fault.ExporterFault.TheVariants.{NoExporter, SeveralExporters}
 use Rattle.wcplan_command.specs.declared.fault.ProgramFault.{ProgramFault}
-use Rattle.wcplan_command.specs.declared.fault.ProgramFault.TheVariants.{Dedupe, NoExport, NoImport, Plan, Resolve, World}
+use Rattle.wcplan_command.specs.declared.fault.ProgramFault.TheVariants.{Dedupe, Exporter, NoExport, NoImport, Plan, Resolve, World}
 
 abbrev pub null_text : List ℕ
 null_text = codes "null"
@@ -50,12 +52,19 @@ abbrev pub read_place : Option ReadPlace → List ℕ
 read_place None = null_text
 read_place (Some p) = text_of (trim_place_json None (Bytes p))
 
+-- the key that it can't be told of which module exports it
+abbrev pub exporter_place : ExporterFault → List ℕ
+exporter_place (NoExporter key lines) = text_of (key_json (string_bytes key))
+exporter_place (SeveralExporters key listing) = text_of (key_json (string_bytes key))
+exporter_place f = null_text
+
 -- what a fault is about; null, where it is about nothing
 abbrev pub fault_place : ProgramFault → List ℕ
 fault_place (Resolve x) = part_place x.place
 fault_place (Dedupe x) = read_place x.place
 fault_place (World x) = world_place x
 fault_place (Plan x) = plan_place x.place
+fault_place (Exporter f) = exporter_place f
 fault_place (NoExport key listing) = text_of (key_json key.now)
 fault_place (NoImport key listing nearest) = text_of (key_json key.now)
 fault_place f = null_text

@@ -3,8 +3,11 @@ pub mod Reading
 pub mod Usage
 pub mod Fault
 pub mod Nearest
+pub mod Exporters
 pub mod ExplainedPart
 pub mod Listing
+pub mod ExporterFault
+pub mod SharedKeys
 pub mod AdapterNames
 pub mod Details
 pub mod FileNames

@@ -23,6 +23,10 @@ use Rattle.wcplan_command.specs.declared.fault.SelectionFault.TheVariants.{Memor
 abbrev pub request_of : CommandView → RequestValue
 request_of c = record { exports = c.exports; adapter_exports = c.adapter_exports }
 
+-- those of the main module, with these of adapters
+abbrev pub request_with : CommandView → List (List ℕ × List ℕ) → RequestValue
+request_with c given = record { exports = c.exports; adapter_exports = given }
+
 -- the name of the task hook: the one that is given, or else one that no export is taken for
 abbrev pub hook_of : CommandView → List ℕ
 hook_of c = unwrap_or c.task_hook no_task_hook

@@ -48,6 +48,7 @@ use Rattle.wc_ways.specs.Nodes.{IsWaysGraph}
 use Rattle.wc_selection.specs.KeyNames.{request_keys}
 use Rattle.wc_selection.specs.Keys.{NamedKey, texts_of}
 use Rattle.wc_selection.specs.ModuleKeys.{required_keys}
+use Rattle.wc_selection.specs.Requests.{RequestValue}
 use Rattle.wc_selection.specs.Texts.{second_parts}
 use Rattle.wcplan_command.specs.AdapterNames.{IsNoAdapter}
 use Rattle.wcplan_command.specs.Asked.{IsAskedThere, IsUnasked}
@@ -60,15 +61,18 @@ use Rattle.wcplan_command.specs.Lines.{lines_text}
 use Rattle.wcplan_command.specs.Listing.{IsListedNear, listing_text}
 use Rattle.wcplan_command.specs.ExplainedPart.{IsPartExplanation}
 use Rattle.wcplan_command.specs.Reading.{AsksMemory, is_standard, read_arguments}
-use Rattle.wcplan_command.specs.ModuleKeys.{AreNamesThere, IsMeant, IsNamesCause, IsNotMeant, IsSelectionCause, adapter_names, hook_of, request_of}
+use Rattle.wcplan_command.specs.ModuleKeys.{AreNamesThere, IsMeant, IsNamesCause, IsNotMeant, IsSelectionCause, adapter_names, hook_of, request_of, request_with}
+use Rattle.wcplan_command.specs.SharedKeys.{AreGiven, AreUnshared, ExportScope, scope_of}
 use Rattle.wc_program.specs.Screen.{Printing, nothing, printed, failed}
 use Rattle.wcplan_command.specs.Usage.{fault_and_usage, fault_line, help_text, no_text, usage_text, version_text}
 use Rattle.wcplan_command.specs.Warnings.{AreWarned, warnings_text}
+use Rattle.wcplan_command.specs.declared.exporter_fault.ExporterFault.{ExporterFault}
+use Rattle.wcplan_command.specs.declared.exporter_fault.ExporterFault.TheVariants.{Memory as exporter_memory}
 use Rattle.wcplan_command.specs.declared.fault.SelectionFault.{SelectionFault}
 use Rattle.wcplan_command.specs.declared.fault.SelectionFault.TheVariants.{Request, UnknownAdapter}
 use Rattle.wc_selection.specs.declared.fault.RequestFault.TheVariants.{UnknownKey}
 use Rattle.wcplan_command.specs.declared.fault.ProgramFault.{ProgramFault}
-use Rattle.wcplan_command.specs.declared.fault.ProgramFault.TheVariants.{Memory, CannotRead, NotText, NotJson, RepeatedMember, Json, Selection, NoAdapter, NoWorld, NoExport, NoImport, Resolve, Dedupe, Encoder, World, Plan, Ways, CannotMake, CannotWrite, Output}
+use Rattle.wcplan_command.specs.declared.fault.ProgramFault.TheVariants.{Memory, CannotRead, NotText, NotJson, RepeatedMember, Json, Selection, NoAdapter, NoWorld, NoExport, NoImport, Resolve, Dedupe, Exporter, Encoder, World, Plan, Ways, CannotMake, CannotWrite, Output}
 
 -- the path of a file that is read: `-` stands for standard input
 abbrev pub input_path : List ℕ → List ℕ
@@ -87,11 +91,11 @@ pub record IsDocumentIn (before : Option Held) (path : List ℕ) (d : DocumentVi
   pub read : HoldsInput before path text
   pub document : IsDocumentOf (document text) d
 
--- an adapter has its name, the bytes of its file, and the keys that it has to export; it is no library
-pub record IsAdapterIn (before : Option Held) (c : CommandView) (keys : List NamedKey) (x : List ℕ × List ℕ) (y : List ℕ × AdapterView) : Type 0 where
+-- an adapter has its name, the bytes of its file, and the keys that a request says; it is no library
+pub record IsAdapterIn (before : Option Held) (q : RequestValue) (keys : List NamedKey) (x : List ℕ × List ℕ) (y : List ℕ × AdapterView) : Type 0 where
   pub name : y.0 ≡ x.0
   pub wasm : HoldsInput before x.1 y.1.wasm
-  pub required : y.1.required_exports ≡ required_keys (request_of c) (Some x.0) keys
+  pub required : y.1.required_exports ≡ required_keys q (Some x.0) keys
   pub library : y.1.library_info ≡ None
 
 -- the worlds in the file of a command, which are well-formed, and the one that it means
@@ -114,16 +118,26 @@ pub record IsMainIn (before : Option Held) (path text : List ℕ) (renames : Lis
   pub read : HoldsInput before path bytes
   pub renamed : IsDeduped bytes text renames
 
--- the adapters of a command, in order
-abbrev pub AreAdaptersIn : Option Held → CommandView → List NamedKey → List (List ℕ × AdapterView) → Type 0
-AreAdaptersIn before c keys adapters = AllZip (IsAdapterIn before c keys) c.adapters adapters
+-- an adapter of a command with the bytes of its file
+abbrev pub IsFileIn : Option Held → List ℕ × List ℕ → List ℕ × List ℕ → Type 0
+IsFileIn before x file = (file.0 ≡ x.0) × HoldsInput before x.1 file.1
 
--- what a command is encoded from besides the world: the main module with the keys that it has to export, the adapters, the
--- flags, and the name of the task hook
+-- the adapters of a command, in order, with the keys that a request says
+abbrev pub AreAdaptersIn : Option Held → CommandView → RequestValue → List NamedKey → List (List ℕ × AdapterView) → Type 0
+AreAdaptersIn before c q keys adapters = AllZip (IsAdapterIn before q keys) c.adapters adapters
+
+-- adapters by their names, with their bytes
+abbrev pub adapter_bytes : List ℕ × AdapterView → List ℕ × List ℕ
+adapter_bytes a = (a.0, a.1.wasm)
+
+-- what a command is encoded from besides the world: the main module with the keys that it has to export, the adapters with
+-- theirs, the flags, and the name of the task hook
 pub record IsPartsWith (c : CommandView) (before : Option Held) (keys : List NamedKey) (e : EncoderView) : Type 0 where
   pub main : IsMainIn before c.main e.module_bytes (renames_in e.module_import_map)
-  pub exports : e.main_module_exports ≡ required_keys (request_of c) None keys
-  pub adapters : AreAdaptersIn before c keys e.adapters
+  pub given : List (List ℕ × List ℕ)
+  pub are_given : AreGiven c (scope_of c e.resolve e.world) e.module_bytes (map adapter_bytes e.adapters) keys given
+  pub exports : e.main_module_exports ≡ required_keys (request_with c given) None keys
+  pub adapters : AreAdaptersIn before c (request_with c given) keys e.adapters
   pub rejects : e.reject_legacy_names ≡ c.reject_legacy_names
   pub grows : e.realloc_via_memory_grow ≡ c.realloc_via_memory_grow
   pub hook : e.task_hook ≡ hook_of c
@@ -288,6 +302,20 @@ IsModulesCause c before fails (CannotRead path p) =
     ((path.now ≡ c.main) ⊎ Contains (second_parts c.adapters) path.now) × IsUnreadable fails path.now p
 IsModulesCause c before fails f = IsMainCause before fails c.main f
 
+-- why it can't be told which module exports a key of a world, of modules that could be read
+pub record AreUnsharedIn (c : CommandView) (before : Option Held) (s : ExportScope) (keys : List NamedKey) (f : ExporterFault) : Type 0 where
+  pub main : List ℕ
+  pub renames : List RenameView
+  pub adapters : List (List ℕ × List ℕ)
+  pub main_read : IsMainIn before c.main main renames
+  pub adapters_read : AllZip (IsFileIn before) c.adapters adapters
+  pub unshared : AreUnshared c s main adapters keys f
+
+-- why there are no parts with the keys of a world
+abbrev pub IsPartsCause : CommandView → Option Held → Reads → ExportScope → List NamedKey → ProgramFault → Type 0
+IsPartsCause c before fails s keys (Exporter f) = (f ≢ exporter_memory) × AreUnsharedIn c before s keys f
+IsPartsCause c before fails s keys f = IsModulesCause c before fails f
+
 -- a world is chosen
 abbrev pub IsAnyChosen : CommandView → Option Held → Type 0
 IsAnyChosen c before = (d : DocumentView) × (world : ℕ) × IsChosen c before d world
@@ -344,6 +372,9 @@ IsPlanCause c before fails (Resolve x) =
     (d : DocumentView) × (world : ℕ) × IsDocumentIn before c.worlds d × IsMeant d c.world world
     × (x.fault ≢ resolve_memory) × IsResolveCause d.parts x.fault × IsPartExplanation d.parts x.fault x.place
 IsPlanCause c before fails (Dedupe x) = IsAnyChosen c before × IsMainCause before fails c.main (Dedupe x)
+IsPlanCause c before fails (Exporter f) =
+    (d : DocumentView) × (world : ℕ) × IsChosen c before d world × (f ≢ exporter_memory)
+    × AreUnsharedIn c before (scope_of c d.parts world) (request_keys (request_of c) d.parts world) f
 IsPlanCause c before fails (Encoder f) = (e : EncoderView) × IsPartsOf c before e × (f ≢ encoder_memory) × IsEncoderCause e f
 IsPlanCause c before fails (World x) =
     (e : EncoderView) × IsEncoderOf c before e × (x.fault ≢ world_memory) × (IsWorldMemory e x.fault ⊎ IsComponentWorldCause e x.fault)

@@ -16,7 +16,7 @@ options_text =
     ++ (codes "  MAIN.wasm                  the main module\n"
     ++ (codes "  --adapt [NAME=]FILE        an adapter, and its module; NAME is else FILE's name up to its first `.`\n"
     ++ (codes "  --export KEY               a key of the world's exports that the main module exports\n"
-    ++ (codes "  --adapter-export NAME=KEY  a key of the world's exports that the adapter exports\n"
+    ++ (codes "  --adapter-export NAME=KEY  a key of the world's exports that the adapter exports; with neither the modules' exports decide\n"
     ++ (codes "  --reject-legacy-names      refuse names of the older scheme\n"
     ++ (codes "  --realloc-via-memory-grow  let adapters grow memory for themselves\n"
     ++ (codes "  --task-hook NAME           the export of MAIN.wasm that is the hook of tasks\n"

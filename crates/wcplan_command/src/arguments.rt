@@ -66,7 +66,7 @@ pub(crate) const OPTIONS: [ProgramOption; 10] = [
         value: Value::Pair,
         repeats: true,
         usage: " [--adapter-export NAME=KEY]...",
-        help: "  --adapter-export NAME=KEY  a key of the world's exports that the adapter exports\n",
+        help: "  --adapter-export NAME=KEY  a key of the world's exports that the adapter exports; with neither the modules' exports decide\n",
     },
     ProgramOption {
         name: "--reject-legacy-names",

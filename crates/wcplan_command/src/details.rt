@@ -25,7 +25,8 @@ impl ProgramFault<'_> {
     /// blanks, and without the last end; the empty text where there are none. For worlds that are not text or not JSON it is what these
     /// look like, if that is known, and what prints JSON of it. For a name of no adapter, and for a key that asks about no
     /// import, it is `is there: NAME`, if one is the same but for its version or for the case of letters. For a main module that can't be
-    /// read it is where its bytes stop to be right, as `byte 57, in the import section`. For worlds that are not well-formed it is
+    /// read it is where its bytes stop to be right, as `byte 57, in the import section`. For a key that no module exports it is what each module lacks,
+    /// as `main lacks "NAME"`. For worlds that are not well-formed it is
     /// `PATH "NAME"` or `PATH`: a world, an interface, a type or a package, by its path in the JSON text and its name, if it
     /// has one. For a component without a world:
     ///
@@ -56,6 +57,7 @@ impl ProgramFault<'_> {
             ProgramFault::NoImport(_, _, nearest) => nearest_line(alloc, nearest),
             ProgramFault::Resolve(refused) => resolve_lines(alloc, &refused.place),
             ProgramFault::Dedupe(refused) => read_lines(alloc, refused.place),
+            ProgramFault::Exporter(fault) => fault.lines(alloc),
             ProgramFault::World(refused) => world_lines(alloc, &refused.place),
             ProgramFault::Plan(refused) => plan_lines(alloc, &refused.place),
             _ => Ok(String::new(alloc)),

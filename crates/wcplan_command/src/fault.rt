@@ -14,6 +14,7 @@ ghost use Rattle.wcplan_command.specs.Fault.{NeedsText, no_adapter_text, no_expo
 
 use crate::explained::Explained;
 use crate::explained_part::ExplainedPart;
+use crate::exporter_fault::ExporterFault;
 use std::alloc::{AllocError, AllocFailed, Global};
 use thiserror::Error;
 use wc_dedupe::DedupeFault;
@@ -161,6 +162,8 @@ pub enum ProgramFault<'a> {
     /// The imports of the main module could not be renamed. It carries why, never `Memory`, and where its bytes stop to be
     /// right.
     Dedupe(Refused<DedupeFault, ReadPlace>),
+    /// It can't be told which module exports a key. It carries why, never `Memory`.
+    Exporter(ExporterFault),
     /// Modules can't be encoded for the world. It carries why, never `Memory`.
     Encoder(EncoderFault),
     /// The component has no world. It carries why, never `Memory` itself, and what this is about, which only a fault of
@@ -205,6 +208,7 @@ impl ProgramFault<'_> {
             ProgramFault::NoImport(key, listing, _) => no_import_text(alloc, key, listing),
             ProgramFault::Resolve(refused) => carried_text(alloc, "Resolve", &refused.fault),
             ProgramFault::Dedupe(refused) => carried_text(alloc, "Main module", &refused.fault),
+            ProgramFault::Exporter(fault) => fault.text(alloc),
             ProgramFault::Encoder(fault) => carried_text(alloc, "Encoder", fault),
             ProgramFault::World(refused) => world_text(alloc, &refused.fault),
             ProgramFault::Plan(refused) => carried_text(alloc, "Plan", &refused.fault),
@@ -241,6 +245,7 @@ impl ProgramFault<'_> {
             | ProgramFault::NoImport(_, _, _)
             | ProgramFault::Resolve(_)
             | ProgramFault::Dedupe(_)
+            | ProgramFault::Exporter(_)
             | ProgramFault::Encoder(_)
             | ProgramFault::World(_)
             | ProgramFault::Plan(_)
@@ -433,6 +438,19 @@ impl<'a> From<RequestFault<'a>> for ProgramFault<'a> {
 
     fn from(e: RequestFault<'a>) -> ProgramFault<'a> {
         ProgramFault::from(SelectionFault::from(e))
+    }
+}
+
+impl From<ExporterFault> for ProgramFault<'_> {
+    ghost use Rattle.wcplan_command.specs.Fault.{of_exporter};
+
+    ghost from_gives = { λ f e. e ≡ of_exporter f };
+
+    fn from(e: ExporterFault) -> Self {
+        match e {
+            ExporterFault::Memory => ProgramFault::Memory,
+            _ => ProgramFault::Exporter(e),
+        }
     }
 }
 

@@ -1,35 +1,48 @@
 //! The inputs of a command: the worlds, the main module and the adapters, from its files.
 
-ghost use Rattle.std.specs.Prelude.{◌≡◌, IfErr, IfOk, OnOk, map};
-ghost use Rattle.wc_dedupe.specs.Dedupe.{renames_in};
+ghost use Rattle.std.specs.Prelude.{◌≡◌, ◌≢◌, ◌<◌, IfErr, IfOk, None, OnOk, length, map};
+ghost use Rattle.std.specs.List.{AllZip};
 ghost use Rattle.wc_adapters.specs.Adapters.{adapter_entry};
+ghost use Rattle.wc_dedupe.specs.Dedupe.{renames_in};
 ghost use Rattle.wc_encoder.specs.EncoderParts.{parts_view};
+ghost use Rattle.wc_resolve.specs.Views.{key_view};
 ghost use Rattle.wc_selection.specs.KeyNames.{request_keys};
 ghost use Rattle.wc_selection.specs.Keys.{AreKeysApart, named_key, texts_of};
-ghost use Rattle.wc_selection.specs.Texts.{AreDistinct};
+ghost use Rattle.wc_selection.specs.ModuleKeys.{required_keys};
+ghost use Rattle.wc_selection.specs.Requests.{request_value};
+ghost use Rattle.wc_selection.specs.Texts.{AreDistinct, first_parts};
 ghost use Rattle.wc_program.specs.Files.{FailsToRead};
 ghost use Rattle.wcplan_command.specs.Arguments.{command_view};
 ghost use Rattle.wcplan_command.specs.Asked.{IsAskedThere};
 ghost use Rattle.wcplan_command.specs.ModuleKeys.{AreNamesThere, adapter_names, request_of};
-ghost use Rattle.wcplan_command.specs.Program.{AreAdaptersIn, AreWorldsIn, IsAdaptersCause, IsEncoderOf, IsListed, IsListedCause, IsMainCause, IsMainIn, IsModulesCause, IsNoExport, IsPartsWith, IsPlanCause};
+ghost use Rattle.wcplan_command.specs.Program.{AreWorldsIn, IsEncoderOf, IsListed, IsListedCause, IsMainCause, IsMainIn, IsNoExport, IsPartsCause, IsPartsWith, IsPlanCause};
+ghost use Rattle.wcplan_command.specs.SharedKeys.{AreUnshared, IsUnsharedAmong};
+ghost use Rattle.wcplan_command.specs.Private.AdapterFiles.{IsAdapterOf};
+ghost use Rattle.wcplan_command.specs.Private.Inputs.{AreRequested, AreSharedModules, scope_in};
 ghost use Rattle.wcplan_command.specs.Private.Runs.{IsOfMain};
+ghost use Rattle.wcplan_command.specs.Private.SharedKeys.{exported_scope, file_bytes};
 
+use crate::adapter_files::{AdapterFile, read_adapters, requested_adapters};
 use crate::adapter_names::no_adapter;
 use crate::arguments::Command;
 use crate::asked::check_asked;
 use crate::documents::{read_file, read_worlds};
+use crate::exporter_fault::ExporterFault;
 use crate::fault::{ProgramFault, SelectionFault};
 use crate::listing::listing;
-use crate::module_keys::{adapter_keys, check_names, command_keys, required_keys, task_hook};
+use crate::module_keys::{
+    adapter_request, check_names, command_keys, key_request, task_hook, text_pairs,
+};
+use crate::shared_keys::{ExportedWorld, is_open, shared_keys};
 use std::alloc::{AllocError, Global};
 use std::borrow::CowSlice;
 use wc_dedupe::DedupeFault;
 use wc_encoder::{Adapter, ComponentEncoder, EncoderParts, Metadata};
-use wc_maps::{Map, Seed};
+use wc_maps::{Map, Seed, Set};
 use wc_program::FileStore;
 use wc_read::ReadPlace;
 use wc_resolve::WorldKey;
-use wc_selection::{Exporter, MainModule, RequestFault};
+use wc_selection::{Exporter, KeyRequest, MainModule, RequestFault, required_keys};
 use wc_texts::Refused;
 
 /// The encoder of a command, from its files.
@@ -130,7 +143,7 @@ fn no_export<'a>(alloc: Global, key: &'a str, keys: &[(WorldKey, String)]) -> Pr
 }
 
 /// The parts of the encoder of a command, with its modules from their files.
-#[tactic(auto, using(crate::proofs::ProgramLemmas::main_modules, crate::proofs::ProgramLemmas::adapters_modules))]
+#[tactic(auto, using(crate::proofs::ProgramLemmas::main_parts, crate::proofs::ProgramLemmas::adapters_parts))]
 fn read_parts<'a, F: FileStore>(
     alloc: Global,
     seed: Seed,
@@ -138,25 +151,31 @@ fn read_parts<'a, F: FileStore>(
     chosen: ChosenWorld,
     files: &F,
 ) -> Result<EncoderParts, ProgramFault<'a>>
+    requires world { chosen.metadata.world.0 < length chosen.metadata.resolve.worlds }
     requires keys { AreKeysApart (map named_key chosen.keys.items) }
     requires names { AreDistinct (adapter_names (command_view command.now)) }
     ensures parts { IfOk result (λ p. IsPartsWith (command_view command.now) (F.held files.now)
         (map named_key chosen.keys.items) (parts_view p)) }
     ensures metadata { IfOk result (λ p. p.metadata ≡ chosen.metadata) }
-    ensures fault { IfErr result (IsModulesCause (command_view command.now) (F.held files.now)
-        (FailsToRead F.read_fails files.now)) }
+    ensures fault { IfErr result (IsPartsCause (command_view command.now) (F.held files.now)
+        (FailsToRead F.read_fails files.now)
+        (scope_in (command_view command.now) chosen)
+        (map named_key chosen.keys.items)) }
 {
-    let ChosenWorld { metadata, keys } = chosen;
     let main = read_main(alloc, command.main, files)?;
-    let adapters = read_adapters(alloc, seed, command, &keys, files)?;
-    let main_module_exports = required_keys(alloc, seed, command, Exporter::Main, &keys)?;
+    let adapters = read_adapters(alloc, command, files)?;
+    let modules = ModuleFiles {
+        main: &main.wasm,
+        adapters,
+    };
+    let requested = requested_modules(alloc, seed, command, &chosen, modules)?;
     let task_hook = task_hook(alloc, command)?;
     Ok(EncoderParts {
         module: main.wasm,
         module_import_map: main.import_map,
-        metadata,
-        main_module_exports,
-        adapters,
+        metadata: chosen.metadata,
+        main_module_exports: requested.main_exports,
+        adapters: requested.adapters,
         reject_legacy_names: command.reject_legacy_names,
         realloc_via_memory_grow: command.realloc_via_memory_grow,
         task_hook,
@@ -192,30 +211,106 @@ fn main_fault<'a>(refused: Refused<DedupeFault, ReadPlace>) -> ProgramFault<'a>
     }
 }
 
-/// The adapters of a command, from their files. `seed`: the seed of the maps that are made.
-fn read_adapters<'a, F: FileStore>(
+/// The keys that the main module has to export, and adapters with theirs.
+#[derive(Drop)]
+struct RequestedModules {
+    main_exports: Set<WorldKey>,
+    adapters: Map<String, Adapter>,
+}
+
+/// The bytes of the main module, and the files of adapters.
+#[derive(Drop)]
+struct ModuleFiles<'m, 'a> {
+    main: &'m [u8],
+    adapters: Vec<AdapterFile<'a>>,
+}
+
+/// The keys that the modules of a command have to export. `seed`: the seed of the maps and sets that are made.
+fn requested_modules(
     alloc: Global,
     seed: Seed,
-    command: &Command<'a>,
-    keys: &[(WorldKey, String)],
-    files: &F,
-) -> Result<Map<String, Adapter>, ProgramFault<'a>>
-    requires keys { AreKeysApart (map named_key keys.now) }
-    requires names { AreDistinct (adapter_names (command_view command.now)) }
-    ensures adapters { IfOk result (λ m. AreAdaptersIn (F.held files.now)
-        (command_view command.now) (map named_key keys.now) (map adapter_entry m.entries)) }
-    ensures fault { IfErr result (IsAdaptersCause (command_view command.now)
-        (FailsToRead F.read_fails files.now)) }
+    command: &Command<'_>,
+    chosen: &ChosenWorld,
+    files: ModuleFiles<'_, '_>,
+) -> Result<RequestedModules, ExporterFault>
+    requires world { chosen.now.metadata.world.0 < length chosen.now.metadata.resolve.worlds }
+    requires keys { AreKeysApart (map named_key chosen.now.keys.items) }
+    requires names { AreDistinct (first_parts (map file_bytes files.adapters.items)) }
+    ensures requested { IfOk result (AreRequested (command_view command.now)
+        (scope_in (command_view command.now) chosen.now) files.entry.main.now
+        (map file_bytes files.entry.adapters.items) (map named_key chosen.now.keys.items)) }
+    ensures fault { IfErr result (AreUnshared (command_view command.now)
+        (scope_in (command_view command.now) chosen.now) files.entry.main.now
+        (map file_bytes files.entry.adapters.items) (map named_key chosen.now.keys.items)) }
 {
-    let given = adapter_keys(alloc, seed, command, keys)?;
-    let mut adapters = Map::with_hasher(alloc, seed);
-    for (name, path) in &command.adapters {
-        let adapter = Adapter {
-            wasm: read_file(path, files)?,
-            required_exports: given.required(alloc, name)?,
-            library_info: None,
-        };
-        adapters.insert(String::from_str(alloc, name)?, adapter)?;
+    let ModuleFiles { main, adapters } = files;
+    if is_open(command) {
+        let world = exported_world(command, chosen);
+        shared_modules(alloc, seed, world, main, adapters)
+    } else {
+        let request = key_request(command);
+        Ok(modules_with(alloc, seed, &request, &chosen.keys, adapters)?)
     }
-    Ok(adapters)
+}
+
+/// The keys that a main module of these bytes, and adapters, have to export, where the command leaves the keys to them.
+/// `seed`: the seed of the maps and sets that are made.
+fn shared_modules<'x>(
+    alloc: Global,
+    seed: Seed,
+    world: ExportedWorld<'x, 'x>,
+    main: &[u8],
+    adapters: Vec<AdapterFile<'_>>,
+) -> Result<RequestedModules, ExporterFault>
+    requires keys { AreKeysApart (map named_key world.keys.now) }
+    requires names { AreDistinct (first_parts (map file_bytes adapters.items)) }
+    ensures shared { IfOk result (AreSharedModules (exported_scope world.entry) main.now
+        (map file_bytes adapters.entry.items) (map named_key world.entry.keys.now)) }
+    ensures fault { IfErr result (λ f. f ≢ ExporterFault.Memory → IsUnsharedAmong
+        (exported_scope world.entry) main.now (map file_bytes adapters.entry.items)
+        (map named_key world.entry.keys.now) f) }
+{
+    let given = shared_keys(alloc, seed, world, main, &adapters)?;
+    let pairs = text_pairs(alloc, &given)?;
+    let request = adapter_request(&pairs);
+    Ok(modules_with(alloc, seed, &request, world.keys, adapters)?)
+}
+
+/// Modules with the keys that a request says that they have to export. `seed`: the seed of the maps and sets that are made.
+fn modules_with(
+    alloc: Global,
+    seed: Seed,
+    request: &KeyRequest<'_, '_>,
+    keys: &[(WorldKey, String)],
+    adapters: Vec<AdapterFile<'_>>,
+) -> Result<RequestedModules, AllocError>
+    requires keys { AreKeysApart (map named_key keys.now) }
+    requires names { AreDistinct (first_parts (map file_bytes adapters.items)) }
+    ensures exports { IfOk result (λ m. map key_view m.main_exports.keys
+        ≡ required_keys (request_value request.now) None (map named_key keys.now)) }
+    ensures adapters { IfOk result (λ m. AllZip (IsAdapterOf (request_value request.now)
+        (map named_key keys.now)) (map file_bytes adapters.entry.items)
+        (map adapter_entry m.adapters.entries)) }
+{
+    let main_exports = required_keys(alloc, seed, request, Exporter::Main, keys)?;
+    let adapters = requested_adapters(alloc, seed, request, keys, adapters)?;
+    Ok(RequestedModules {
+        main_exports,
+        adapters,
+    })
+}
+
+/// The exports of the world of a command, with the keys by which the command gives them.
+fn exported_world<'c>(command: &Command<'_>, chosen: &'c ChosenWorld) -> ExportedWorld<'c, 'c>
+    requires { chosen.now.metadata.world.0 < length chosen.now.metadata.resolve.worlds }
+    ensures scope { exported_scope result ≡ scope_in (command_view command.now) chosen.now }
+    ensures keys { map named_key result.keys.now ≡ map named_key chosen.now.keys.items }
+{
+    let resolve = &chosen.metadata.resolve;
+    ExportedWorld {
+        resolve,
+        exports: &resolve.world(chosen.metadata.world).exports,
+        keys: &chosen.keys,
+        rejects_legacy: command.reject_legacy_names,
+    }
 }

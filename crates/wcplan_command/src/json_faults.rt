@@ -8,10 +8,11 @@ ghost use Rattle.wc_record.specs.Objects.{PutsJson};
 ghost use Rattle.wc_record.specs.Texts.{text_of};
 ghost use Rattle.wcplan_command.specs.Details.{fault_lines};
 ghost use Rattle.wcplan_command.specs.Fault.{NeedsText, program_fault_text};
-ghost use Rattle.wcplan_command.specs.JsonFaults.{IsReportedJson, fault_json, fault_place, members_text, part_place, plan_place, read_place, unplaced, world_place};
+ghost use Rattle.wcplan_command.specs.JsonFaults.{IsReportedJson, exporter_place, fault_json, fault_place, members_text, part_place, plan_place, read_place, unplaced, world_place};
 
 use crate::explained::Explained;
 use crate::explained_part::ExplainedPart;
+use crate::exporter_fault::ExporterFault;
 use crate::fault::ProgramFault;
 use json::Writer;
 use std::alloc::{AllocError, Global};
@@ -42,7 +43,7 @@ const NULL: &[u8] = b"null";
 /// `place`, what it is about. That is as of `wc_record::part_to_json` for worlds that are not well-formed, as of
 /// `trim_place_to_json` for a main module that can't be read, as of `world_place_to_json` or `trim_fault_to_json` for a component
 /// without a world, as of `plan_place_to_json` for one without a
-/// plan, and as of `key_to_json` for a key that no export or import has; else null. Where memory is needed for this, and there is none,
+/// plan, and as of `key_to_json` for a key that no export or import has, or that no module or several export; else null. Where memory is needed for this, and there is none,
 /// it is the object of want of memory. The answer is the status of a failure.
 pub(crate) fn report_json<E: Screen>(alloc: Global, err: &mut E, fault: &ProgramFault<'_>) -> u8
     ensures { IsReportedJson fault.now (Becomes E.ends err.old err.new) result }
@@ -75,6 +76,7 @@ fn fixed_json(fault: &ProgramFault<'_>) -> Option<&'static str>
         | ProgramFault::NoImport(_, _, _)
         | ProgramFault::Resolve(_)
         | ProgramFault::Dedupe(_)
+        | ProgramFault::Exporter(_)
         | ProgramFault::Encoder(_)
         | ProgramFault::World(_)
         | ProgramFault::Plan(_)
@@ -134,9 +136,21 @@ fn place_of(alloc: Global, fault: &ProgramFault<'_>) -> Result<Vec<u8>, AllocErr
         ProgramFault::Dedupe(refused) => read_place(alloc, refused.place),
         ProgramFault::World(refused) => world_place(alloc, refused),
         ProgramFault::Plan(refused) => plan_place(alloc, &refused.place),
+        ProgramFault::Exporter(fault) => exporter_place(alloc, fault),
         ProgramFault::NoExport(key, _) => key_to_json(alloc, key),
         ProgramFault::NoImport(key, _, _) => key_to_json(alloc, key),
         _ => Vec::from_slice(alloc, NULL),
+    }
+}
+
+/// The key that it can't be told of which module exports it, as JSON.
+fn exporter_place(alloc: Global, fault: &ExporterFault) -> Result<Vec<u8>, AllocError>
+    ensures { IfOk result (λ v. v.items ≡ exporter_place fault.now) }
+{
+    match fault {
+        ExporterFault::NoExporter(key, _) => key_to_json(alloc, key),
+        ExporterFault::SeveralExporters(key, _) => key_to_json(alloc, key),
+        ExporterFault::Memory => Vec::from_slice(alloc, NULL),
     }
 }
 

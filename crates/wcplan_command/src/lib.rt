@@ -4,6 +4,7 @@
 //! `Screen`, and `run` is the program over these.
 #![tactic(auto)]
 
+mod adapter_files;
 mod adapter_names;
 mod arguments;
 mod asked;
@@ -11,6 +12,8 @@ mod details;
 mod documents;
 mod explained;
 mod explained_part;
+mod exporter_fault;
+mod exporters;
 mod fault;
 mod file_names;
 mod inputs;
@@ -21,11 +24,13 @@ mod module_keys;
 mod nearest;
 mod outputs;
 mod program;
+mod shared_keys;
 mod usage;
 mod warnings;
 
 pub use arguments::{Command, NoCommand, WrongArgument, parse};
 pub use explained::Explained;
 pub use explained_part::ExplainedPart;
+pub use exporter_fault::ExporterFault;
 pub use fault::{ProgramFault, SelectionFault};
 pub use program::{run, run_command};

@@ -1,28 +1,26 @@
 //! The adapters and the keys of exports that a command names.
 
 ghost use Rattle.std.specs.Prelude.{◌≡◌, ◌<◌, IfErr, IfOk, OnOk, length, map, string_bytes};
-ghost use Rattle.wc_resolve.specs.Views.{key_view};
-ghost use Rattle.wc_selection.specs.AdapterKeys.{AreAdapterKeys};
 ghost use Rattle.wc_selection.specs.KeyNames.{request_keys};
 ghost use Rattle.wc_selection.specs.Keys.{AreKeysApart, named_key, texts_of};
-ghost use Rattle.wc_selection.specs.Requests.{exporter_name, given_keys, request_value};
-ghost use Rattle.wc_selection.specs.ModuleKeys.{AreKeysThere, required_keys};
+ghost use Rattle.wc_selection.specs.Requests.{given_keys, request_value};
+ghost use Rattle.wc_selection.specs.Texts.{text_pair};
+ghost use Rattle.wc_selection.specs.ModuleKeys.{AreKeysThere};
 ghost use Rattle.wcplan_command.specs.Arguments.{command_view};
 ghost use Rattle.wcplan_command.specs.ModuleKeys.{AreNamesThere, IsGivenCause, IsNamesCause, hook_of, request_of};
+ghost use Rattle.wcplan_command.specs.Private.SharedKeys.{adapters_request, own_pair};
 
 use crate::adapter_names::first_parts;
 use crate::arguments::Command;
 use crate::fault::SelectionFault;
 use crate::file_names::file_fault;
 use std::alloc::{AllocError, Global};
-use wc_maps::{Seed, Set};
+use wc_maps::Seed;
 use wc_resolve::{Resolve, WorldId, WorldKey};
-use wc_selection::{
-    AdapterKeys, Exporter, KeyRequest, first_missing, first_repeated, no_task_hook, request_keys,
-};
+use wc_selection::{KeyRequest, first_missing, first_repeated, no_task_hook, request_keys};
 
 /// The keys that a command gives.
-fn key_request<'r, 'a>(command: &'r Command<'a>) -> KeyRequest<'r, 'a>
+pub(crate) fn key_request<'r, 'a>(command: &'r Command<'a>) -> KeyRequest<'r, 'a>
     ensures { request_value result ≡ request_of (command_view command.now) }
 {
     KeyRequest {
@@ -114,45 +112,32 @@ fn check_keys<'a>(
     }
 }
 
-/// The keys that a module of a command has to export, in the order of the world's exports (`wc_selection::required_keys`).
-/// `seed`: the seed of the set.
+/// The texts of some pairs.
 ///
 /// # Errors
 ///
 /// `AllocError`: an allocation failed.
-pub(crate) fn required_keys(
+pub(crate) fn text_pairs(
     alloc: Global,
-    seed: Seed,
-    command: &Command<'_>,
-    exporter: Exporter<'_>,
-    keys: &[(WorldKey, String)],
-) -> Result<Set<WorldKey>, AllocError>
-    requires { AreKeysApart (map named_key keys.now) }
-    ensures { IfOk result (λ set. map key_view set.keys
-        ≡ required_keys (request_of (command_view command.now)) (exporter_name exporter.entry)
-        (map named_key keys.now)) }
+    pairs: &[(String, String)],
+) -> Result<Vec<(&str, &str)>, AllocError>
+    ensures { IfOk result (λ v. map text_pair v.items ≡ map own_pair pairs.now) }
 {
-    let request = key_request(command);
-    wc_selection::required_keys(alloc, seed, &request, exporter, keys)
+    let mut texts = Vec::new(alloc);
+    for (first, second) in pairs {
+        texts.push((first.as_str(), second.as_str()))?;
+    }
+    Ok(texts)
 }
 
-/// The keys that the adapters of a command have to export: of each those of `required_keys`. `seed`: the seed of the maps.
-///
-/// # Errors
-///
-/// `AllocError`: an allocation failed.
-pub(crate) fn adapter_keys<'k, 'a>(
-    alloc: Global,
-    seed: Seed,
-    command: &Command<'a>,
-    keys: &'k [(WorldKey, String)],
-) -> Result<AdapterKeys<'k, 'a>, AllocError>
-    requires { AreKeysApart (map named_key keys.now) }
-    ensures { IfOk result (AreAdapterKeys (request_of (command_view command.now))
-        (map named_key keys.now)) }
+/// The request of these keys of adapters, each after the name of its adapter, which leaves all others to the main module.
+pub(crate) fn adapter_request<'r, 'k>(given: &'r [(&'k str, &'k str)]) -> KeyRequest<'r, 'k>
+    ensures { request_value result ≡ adapters_request (map text_pair given.now) }
 {
-    let request = key_request(command);
-    AdapterKeys::new(alloc, seed, &request, keys)
+    KeyRequest {
+        exports: &[],
+        adapter_exports: given,
+    }
 }
 
 /// The name of the task hook that is handed to the encoder: the one that a command gives, or else one that no export of

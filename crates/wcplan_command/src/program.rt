@@ -150,7 +150,9 @@ fn run_and_report<F: DirectoryStore, O: Screen, E: Screen>(
 }
 
 /// Reads the worlds and the modules of a command, renames the main module's repeated imports, and makes the component's
-/// world with `PlainOptions`. If the command has a directory, it makes this, and writes `main.wasm` there, the main module
+/// world with `PlainOptions`. If the command gives the keys of no module and has adapters, each key of the world's exports has
+/// to be exported by the main module where the names of its exports are those of all functions of the key, or else by the one
+/// adapter of which that is so. If the command has a directory, it makes this, and writes `main.wasm` there, the main module
 /// as it was renamed, and then `NAME.wasm` for each adapter of the component's world, as it was trimmed: each as a whole
 /// (`DirectoryStore::replace`). Every other file stays the same. Then it prints the lines of the plan, as
 /// `wc_plan::write_plan` writes them, but each escaped (`wc_json::escaped`); or with `--json` the record in a line
@@ -173,6 +175,8 @@ fn run_and_report<F: DirectoryStore, O: Screen, E: Screen>(
 /// - `NoImport`: the key that is asked about is that of no import.
 /// - `CannotRead`, `Dedupe`: the main module could not be read, or not renamed.
 /// - `CannotRead`: an adapter could not be read; they are read in order.
+/// - `Exporter`: the command gives the keys of no module and has adapters, and of a key neither the main module nor one adapter
+///   alone has all functions.
 /// - `Encoder`, `World`, `Plan`: there is no encoder, no component's world, or no plan.
 /// - `Ways`: it can't be said why the key is imported.
 /// - `CannotMake`: the directory could not be made.

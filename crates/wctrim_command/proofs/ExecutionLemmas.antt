@@ -1,5 +1,5 @@
 -- What was deduped, and the bytes that were written, along equations.
-use Rattle.std.proofs.Common.{◌≡◌, ◌≢◌, ℕ, List, [], ◌∷◌, String, Global, Option, Some, None, Result, Ok, Err, IfErr, OnOk, refl, subst, rules}
+use Rattle.std.proofs.Common.{◌≡◌, ◌≢◌, ℕ, List, [], ◌∷◌, String, Global, Option, Some, None, Result, Ok, Err, OnOk, refl, subst, rules}
 use Rattle.std.specs.Io.KnownBytes.{Appends}
 use Rattle.wc_dedupe.specs.Renaming.{RenameView}
 use Rattle.wc_gc.specs.LiveItems.{names_of, trim_input_for_names}
@@ -30,7 +30,3 @@ some_exports (x ∷ exports) some = λ e. absurd cc
 pub if_scanned : {T E : Type 0} (r : Result T E) (P Q : Type 0) → (P → Q) → OnOk r P → OnOk r Q
 if_scanned (Ok x) P Q f h = f h
 if_scanned (Err e) P Q f h = tt
-
-pub if_refused : {T E : Type 0} (r : Result T E) (P Q : E → Type 0) → ((e : E) → P e → Q e) → IfErr r P → IfErr r Q
-if_refused (Ok x) P Q f h = tt
-if_refused (Err e) P Q f h = f e h

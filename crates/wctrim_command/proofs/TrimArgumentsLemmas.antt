@@ -1,20 +1,14 @@
 -- The arguments of a trim, read forward, are those of the one trim that they spell.
-use Rattle.std.proofs.Common.{◌≡◌, ◌≢◌, ℕ, Bool, true, false, not, ◌||◌, cond, List, [], ◌∷◌, ◌++◌, codes, Option, Some, None, refl, sym, ◌∙◌, ap, subst, inl}
+use Rattle.std.proofs.Common.{◌≡◌, ℕ, true, not, ◌||◌, cond, List, [], ◌∷◌, ◌++◌, codes, Option, Some, None, refl, sym, ◌∙◌, ap, subst, inl}
 use Rattle.std.proofs.Common.{inr, ◌⊎◌}
-use Rattle.std.proofs.lemmas.Bool.{cases_Bool}
+use Rattle.std.proofs.lemmas.Bool.{cases_Bool, not-true, or_parts}
 use Rattle.std.specs.Option.{option_map}
 use Rattle.std.specs.Str.{bytes_eq}
 use Rattle.std.proofs.lemmas.Slice.Eq.{bytes_eq-Decides}
 use Rattle.std.proofs.lemmas.Option.{same_Some}
+use Rattle.wc_gc.proofs.ExportLemmas.{differ}
 use Rattle.wctrim_command.specs.Command.{IsTrimLine, IsPageOption, AreExports, realloc_arguments}
 use Rattle.wctrim_command.specs.Private.TrimArguments.{realloc_parts, page_of, page_parts, either_realloc, are_exports, checked_parts, parts_after, trim_parts, TrimParts}
-
-bytes_eq-differ : (a b : List ℕ) → a ≢ b → bytes_eq a b ≡ false
-bytes_eq-differ a b unequal =
-    elim (cases_Bool (bytes_eq a b)) [
-      | inl same ↦ absurd (unequal ((bytes_eq-Decides a b).0 same))
-      | inr other ↦ other
-    ]
 
 abbrev PageParts : Type 0
 PageParts = ℕ × List (List ℕ)
@@ -72,15 +66,11 @@ pages_valid (argument ∷ digits ∷ arguments) rest page_size_log2 =
       | inr other ↦ rw other (unpaged (argument ∷ digits ∷ arguments) rest page_size_log2)
     ]
 
-not_or : (a b : Bool) → not (a || b) ≡ true → (a ≡ false) × (b ≡ false)
-not_or true b e = absurd cc
-not_or false true e = absurd cc
-not_or false false e = (refl, refl)
-
 exports_valid : (exports : List (List ℕ)) → are_exports exports ≡ true → AreExports exports
 exports_valid [] e = absurd cc
 exports_valid (first ∷ others) e =
-    let no = not_or (bytes_eq first (codes "--realloc")) (bytes_eq first (codes "--page")) e in (
+    let neither = not-true (bytes_eq first (codes "--realloc") || bytes_eq first (codes "--page")) e in
+    let no = or_parts (bytes_eq first (codes "--realloc")) (bytes_eq first (codes "--page")) neither in (
       λ is. absurd (let same = (bytes_eq-Decides first (codes "--realloc")).1 is in cc),
       λ is. absurd (let same = (bytes_eq-Decides first (codes "--page")).1 is in cc),
     )
@@ -130,17 +120,17 @@ trim_valid arguments realloc page_size_log2 exports h = after_valid arguments (r
 
 exports_complete : (exports : List (List ℕ)) → AreExports exports → are_exports exports ≡ true
 exports_complete [] h = absurd h
-exports_complete (first ∷ others) h = rw (bytes_eq-differ first (codes "--realloc") h.0, bytes_eq-differ first (codes "--page") h.1) refl
+exports_complete (first ∷ others) h = rw (differ first (codes "--realloc") h.0, differ first (codes "--page") h.1) refl
 
 no_realloc : (exports : List (List ℕ)) → AreExports exports → realloc_parts exports ≡ (None, exports)
 no_realloc [] h = absurd h
 no_realloc (first ∷ []) h = refl
-no_realloc (first ∷ second ∷ others) h = rw (bytes_eq-differ first (codes "--realloc") h.0) refl
+no_realloc (first ∷ second ∷ others) h = rw (differ first (codes "--realloc") h.0) refl
 
 no_page : (exports : List (List ℕ)) → AreExports exports → page_parts exports ≡ Some (16, exports)
 no_page [] h = absurd h
 no_page (first ∷ []) h = refl
-no_page (first ∷ second ∷ others) h = rw (bytes_eq-differ first (codes "--page") h.1) refl
+no_page (first ∷ second ∷ others) h = rw (differ first (codes "--page") h.1) refl
 
 realloc_complete : (name : Option (List ℕ)) (arguments : List (List ℕ)) → realloc_parts arguments ≡ (None, arguments)
     → realloc_parts (realloc_arguments name ++ arguments) ≡ (name, arguments)

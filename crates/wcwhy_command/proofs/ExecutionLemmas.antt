@@ -1,5 +1,5 @@
 -- What was printed of an adapter, or why it could not be, as of the bytes that spell it.
-use Rattle.std.proofs.Common.{◌≡◌, ◌+◌, ◌<◌, ℕ, List, [], ◌∷◌, length, map, take, get_or, String, Global, string_bytes, Option, Result, Ok, Err, OnOk, IfErr, sym, ◌∙◌, ap, subst}
+use Rattle.std.proofs.Common.{◌≡◌, ◌+◌, ◌<◌, ℕ, List, [], ◌∷◌, length, map, take, get_or, String, Global, string_bytes, Option, Result, Ok, Err, OnOk, IfErr, sym, ◌∙◌, ap, subst, inl, inr}
 use Rattle.std.proofs.lemmas.List.{map-append, take_more}
 use Rattle.std.specs.Borrow.{Bor}
 use Rattle.indexmap.specs.IndexSet.{insert_key}
@@ -14,29 +14,39 @@ use Rattle.wc_gc.specs.declared.trim_place.TrimPlace.{TrimPlace}
 use Rattle.wc_gc.specs.declared.fault.GcFault.{GcFault}
 use Rattle.wc_gc.specs.declared.fault.GcFault.TheVariants.{Memory as gc_memory}
 use Rattle.wc_program.specs.Screen.{Printing, nothing}
-use Rattle.wcwhy_command.specs.Arguments.{CommandView, text_of}
-use Rattle.wcwhy_command.specs.Fault.{of_source}
-use Rattle.wcwhy_command.specs.Following.{IsRefusal}
+use Rattle.wc_why.specs.Paths.{text_of}
+use Rattle.wcwhy_command.specs.Arguments.{CommandView}
+use Rattle.wcwhy_command.specs.Fault.{IsSourceFault, of_source}
+use Rattle.wc_import_paths.specs.Following.{IsRefusal}
+use Rattle.wcwhy_command.specs.NearExports.{IsNearFor}
 use Rattle.wcwhy_command.specs.Program.{IsSourceOf, HasNoCause, IsGraphOf}
 use Rattle.wcwhy_command.specs.Private.Execution.{ArePrinted, IsSourcePrinted, IsFollowedCause, IsGraphPrintCause, IsSourcePrintCause, IsReasonsCause, PrintsSome}
-use Rattle.wcwhy_command.specs.Private.Followed.{IsSource, followed_view}
-use Rattle.wcwhy_command.specs.declared.followed.Followed.{Followed}
+use Rattle.wc_import_paths.specs.Followed.{IsSource, followed_view}
+use Rattle.wc_import_paths.specs.declared.followed.Followed.{Followed}
 use Rattle.wcwhy_command.specs.declared.fault.WhyFault.{WhyFault}
 use Rattle.wcwhy_command.specs.declared.fault.WhyFault.TheVariants.{Memory, NoImport, Output}
 
 -- a fault of liveness, with each export counted once
-pub adapter_cause : (c : CommandView) (bytes : List ℕ) (names : List (List ℕ)) (out : Printing → Type 0) (f : GcFault) (place : Option TrimPlace)
-    → names ≡ first_occurrences c.exports → out nothing → IsFault (record { bytes = bytes; required = names }) f
-    → IsExplained (record { bytes = bytes; required = names }) f place → IsGraphPrintCause c bytes out (of_source f place)
-adapter_cause c bytes names out gc_memory place same still h at = tt
-adapter_cause c bytes names out f place same still h at = (
+adapter_refused : (c : CommandView) (bytes : List ℕ) (names : List (List ℕ)) (out : Printing → Type 0) (f : GcFault) (place : Option TrimPlace)
+    (near : Option (String Global)) → names ≡ first_occurrences c.exports → out nothing → IsFault (record { bytes = bytes; required = names }) f
+    → IsExplained (record { bytes = bytes; required = names }) f place → IsNearFor bytes f near → IsGraphPrintCause c bytes out (of_source f place near)
+adapter_refused c bytes names out gc_memory place near same still h at is = tt
+adapter_refused c bytes names out f place near same still h at is = (
   (
     (λ e. cc),
     subst (λ (ns : List (List ℕ)). IsFault (record { bytes = bytes; required = ns }) f) same h,
     subst (λ (ns : List (List ℕ)). IsExplained (record { bytes = bytes; required = ns }) f place) same at,
+    is,
   ),
   still,
 )
+
+pub adapter_cause : (c : CommandView) (bytes : List ℕ) (names : List (List ℕ)) (out : Printing → Type 0) (f : GcFault) (place : Option TrimPlace)
+    (fault : WhyFault) → names ≡ first_occurrences c.exports → out nothing → IsFault (record { bytes = bytes; required = names }) f
+    → IsExplained (record { bytes = bytes; required = names }) f place → IsSourceFault bytes f place fault → IsGraphPrintCause c bytes out fault
+adapter_cause c bytes names out f place fault same still h at (inl none) = subst (IsGraphPrintCause c bytes out) (sym none) tt
+adapter_cause c bytes names out f place fault same still h at (inr (near, near_is, is)) =
+    subst (IsGraphPrintCause c bytes out) (sym is) (adapter_refused c bytes names out f place near same still h at near_is)
 
 pub no_cause : (c : CommandView) (bytes : List ℕ) (names : List (List ℕ)) → names ≡ first_occurrences c.exports
     → ((f : GcFault) → ¬ (IsLivenessCause (record { bytes = bytes; required = names }) f)) → HasNoCause c bytes
@@ -60,13 +70,19 @@ module _ (c : CommandView) (bytes : List ℕ) (m : ModuleValue) (spelled : Spell
   some_cause_of (Err f) none h = cause_of none f h
 
 -- a module that can't be followed
-pub refused_cause : (c : CommandView) (bytes : List ℕ) (out : Printing → Type 0) (f : GcFault) (place : Option TrimPlace) → out nothing
-    → IsRefusal c bytes f place → IsSourcePrintCause c bytes out (of_source f place)
-refused_cause c bytes out gc_memory place still h = tt
-refused_cause c bytes out f place still h = (((λ e. cc), h), still)
+refused_with : (c : CommandView) (bytes : List ℕ) (out : Printing → Type 0) (f : GcFault) (place : Option TrimPlace) (near : Option (String Global))
+    → out nothing → IsRefusal bytes c.exports f place → IsNearFor bytes f near → IsSourcePrintCause c bytes out (of_source f place near)
+refused_with c bytes out gc_memory place near still h is = tt
+refused_with c bytes out f place near still h is = (((λ e. cc), h, is), still)
+
+pub refused_cause : (c : CommandView) (bytes : List ℕ) (out : Printing → Type 0) (f : GcFault) (place : Option TrimPlace) (fault : WhyFault)
+    → out nothing → IsRefusal bytes c.exports f place → IsSourceFault bytes f place fault → IsSourcePrintCause c bytes out fault
+refused_cause c bytes out f place fault still h (inl none) = subst (IsSourcePrintCause c bytes out) (sym none) tt
+refused_cause c bytes out f place fault still h (inr (near, near_is, is)) =
+    subst (IsSourcePrintCause c bytes out) (sym is) (refused_with c bytes out f place near still h near_is)
 
 -- what was printed of a module that is followed, or why it could not be
-module _ (c : CommandView) (bytes : List ℕ) (f : Followed) (is : IsSource c bytes f) (out : Printing → Type 0) where
+module _ (c : CommandView) (bytes : List ℕ) (f : Followed) (is : IsSource bytes c.exports f) (out : Printing → Type 0) where
   pub source_of : {T : Type 0} (r : Result T WhyFault) → OnOk r (IsSourcePrinted c f out) → OnOk r (PrintsSome (IsSourceOf c bytes) out)
   source_of (Ok x) (text, known, shows, shown) =
       (text, record { source = followed_view f; followed = is.followed; known = known; named = is.named; is = shows }, shown)

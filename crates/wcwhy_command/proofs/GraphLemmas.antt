@@ -5,8 +5,7 @@ use Rattle.std.specs.Io.KnownBytes.{Appends, Keeps}
 use Rattle.wc_program.specs.Screen.{HandsOn}
 use Rattle.wc_why.specs.Graph.{AreNodes}
 use Rattle.wc_why.specs.Marks.{AreMarks}
-use Rattle.wcwhy_command.specs.Arguments.{PatternView}
-use Rattle.wcwhy_command.specs.Patterns.{is_shown}
+use Rattle.wc_import_paths.specs.Patterns.{PatternView, is_shown}
 use Rattle.wcwhy_command.specs.Private.Reasons.{AreImportNodesOf, AreReasons, IsGraphIn, adapter_in, names_in}
 use Rattle.wcwhy_command.specs.declared.reasons.Reasons.{Reasons}
 

@@ -1,12 +1,8 @@
 mod JoinedLemmas
-mod RootLemmas
 mod ArgumentLemmas
-mod JsonLemmas
-mod FollowedLemmas
 mod ItemLemmas
 mod LineLemmas
 mod ExecutionLemmas
-mod AskedLemmas
 mod RunLemmas
-mod PatternLemmas
+mod NearExportLemmas
 mod GraphLemmas

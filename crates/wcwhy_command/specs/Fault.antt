@@ -1,7 +1,8 @@
 -- The texts of faults.
-use Rattle.std.specs.Prelude.{⊤, ℕ, List, [], ◌++◌, cond, codes, Option, Some, None, string_bytes}
+use Rattle.std.specs.Prelude.{◌≡◌, ◌⊎◌, ⊤, ℕ, List, [], ◌++◌, cond, codes, Option, Some, None, String, string_bytes}
 use Rattle.std.specs.Option.{option_map}
 use Rattle.std.specs.Str.{bytes_eq}
+use Rattle.std.specs.declared.alloc.Global.{Global}
 use Rattle.wc_gc.specs.declared.fault.GcFault.{GcFault}
 use Rattle.wc_gc.specs.declared.fault.GcFault.TheVariants.{Memory as gc_memory}
 use Rattle.wc_gc.specs.Fault.{gc_fault_text}
@@ -12,7 +13,8 @@ use Rattle.wc_read.specs.Imports.{ImportValue}
 use Rattle.wc_texts.specs.FaultTexts.{memory_text}
 use Rattle.wc_program.specs.Files.{problem_text}
 use Rattle.wc_program.specs.declared.files.FileProblem.{FileProblem}
-use Rattle.wcwhy_command.specs.Arguments.{PatternView, pattern_view}
+use Rattle.wc_import_paths.specs.Patterns.{PatternView, pattern_view}
+use Rattle.wcwhy_command.specs.NearExports.{IsNearFor}
 use Rattle.wcwhy_command.specs.Patterns.{near_import, near_pattern}
 use Rattle.wc_why.specs.Texts.{word}
 use Rattle.wcwhy_command.specs.declared.fault.WhyFault.{WhyFault}
@@ -43,16 +45,17 @@ unknown_text p (Some near) = codes "no import " ++ (pattern_text p ++ (codes "\n
 abbrev pub unread_text : List ℕ → FileProblem → List ℕ
 unread_text path p = codes "cannot read " ++ (escaped path ++ problem_text p)
 
--- why a module can't be followed, and under it what it is about
-abbrev pub source_text : GcFault → Option TrimPlace → List ℕ
-source_text f None = escaped (gc_fault_text f)
-source_text f (Some p) = escaped (gc_fault_text f) ++ (codes "\n  " ++ place_text p)
+-- why a module can't be followed, and under it what it is about, or what is there in place of an export
+abbrev pub source_text : GcFault → Option TrimPlace → Option (List ℕ) → List ℕ
+source_text f (Some p) near = escaped (gc_fault_text f) ++ (codes "\n  " ++ place_text p)
+source_text f None (Some near) = escaped (gc_fault_text f) ++ (codes "\n  is there: " ++ near)
+source_text f None None = escaped (gc_fault_text f)
 
 -- the text of a fault
 abbrev pub why_fault_text : WhyFault → List ℕ
 why_fault_text Memory = memory_text
 why_fault_text (CannotRead path p) = unread_text path.now p
-why_fault_text (Source f place) = source_text f place
+why_fault_text (Source f place near) = source_text f place (option_map string_bytes near)
 why_fault_text (NoImport p near) = unknown_text (pattern_view p) (option_map string_bytes near)
 why_fault_text Output = codes "cannot print"
 
@@ -63,6 +66,11 @@ NeedsText Output = ⊥
 NeedsText f = ⊤
 
 -- the fault for it
-abbrev pub of_source : GcFault → Option TrimPlace → WhyFault
-of_source gc_memory place = Memory
-of_source f place = Source f place
+abbrev pub of_source : GcFault → Option TrimPlace → Option (String Global) → WhyFault
+of_source gc_memory place near = Memory
+of_source f place near = Source f place near
+
+-- with what is there in place of an export; there may have been no memory to find it
+abbrev pub IsSourceFault : List ℕ → GcFault → Option TrimPlace → WhyFault → Type 0
+IsSourceFault bytes f place fault =
+    (fault ≡ Memory) ⊎ ((near : Option (String Global)) × IsNearFor bytes f near × (fault ≡ of_source f place near))

@@ -9,9 +9,8 @@ use Rattle.wc_gc.specs.declared.import_chains.ImportChains.{ImportChains}
 use Rattle.wc_why.specs.Graph.{AreNodes, item_id, target_node}
 use Rattle.wc_why.specs.Joined.{AreJoined}
 use Rattle.wc_why.specs.Marks.{AreMarks}
-use Rattle.wcwhy_command.specs.Arguments.{PatternView}
+use Rattle.wc_import_paths.specs.Patterns.{PatternView, is_shown}
 use Rattle.wcwhy_command.specs.Lines.{title}
-use Rattle.wcwhy_command.specs.Patterns.{is_shown}
 
 -- the node of an import, by its position, with the arrow from its item
 abbrev pub import_node : ImportValue → ℕ → ℕ → List ℕ

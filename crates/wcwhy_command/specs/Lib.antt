@@ -3,10 +3,9 @@ pub mod Reading
 pub mod Usage
 pub mod Texts
 pub mod Patterns
-pub mod Roots
-pub mod Following
 pub mod Lines
 pub mod Graph
+pub mod NearExports
 pub mod Fault
 pub mod Program
 pub mod Private

@@ -1,6 +1,4 @@
 -- Words of contracts of private functions. No contract of a public function cites these, directly or through others.
 pub mod Reasons
-pub mod Asked
-pub mod Roots
 pub mod Followed
 pub mod Execution

@@ -21,15 +21,17 @@ use Rattle.wc_program.specs.declared.files.FileProblem.TheVariants.{Memory as re
 use Rattle.wc_program.specs.declared.program.NoArguments.{NoArguments}
 use Rattle.wc_program.specs.declared.program.NoArguments.TheVariants.{Empty, NoMemory, NoText}
 use Rattle.wc_options.specs.Wrong.{Reading, Stop, WrongView, help, version, wrong, wrong_text}
-use Rattle.wcwhy_command.specs.Arguments.{CommandView, PatternView, pattern_view}
+use Rattle.wc_import_paths.specs.Patterns.{PatternView, first_unknown, pattern_view}
+use Rattle.wcwhy_command.specs.Arguments.{CommandView}
 use Rattle.wcwhy_command.specs.Reading.{AsksMemory, read_arguments}
 use Rattle.wcwhy_command.specs.Usage.{usage_text, help_text, version_text, no_text, fault_line, fault_and_usage}
-use Rattle.wcwhy_command.specs.Following.{FollowedView, IsFollowed, IsRefusal}
-use Rattle.wcwhy_command.specs.Lines.{AreLines, IsJson}
+use Rattle.wc_import_paths.specs.Following.{FollowedView, IsFollowed, IsRefusal}
+use Rattle.wc_import_paths.specs.JsonPaths.{IsJson}
+use Rattle.wcwhy_command.specs.Lines.{AreLines}
 use Rattle.wcwhy_command.specs.Graph.{IsGraph}
-use Rattle.wcwhy_command.specs.Patterns.{first_unknown}
+use Rattle.wcwhy_command.specs.NearExports.{IsNearFor}
 use Rattle.wcwhy_command.specs.Fault.{NeedsText, near_text, why_fault_text}
-use Rattle.wcwhy_command.specs.declared.arguments.ImportPattern.{ImportPattern}
+use Rattle.wc_import_paths.specs.declared.patterns.ImportPattern.{ImportPattern}
 use Rattle.wcwhy_command.specs.declared.fault.WhyFault.{WhyFault}
 use Rattle.wcwhy_command.specs.declared.fault.WhyFault.TheVariants.{Memory, CannotRead, Source, NoImport, Output}
 
@@ -51,7 +53,7 @@ IsSourceTextBy false f patterns text = AreLines f patterns text
 -- without it the bytes spell a module that is followed and has some of these imports, and this is printed of it
 pub record IsSourceOf (c : CommandView) (bytes text : List ℕ) : Type 0 where
   pub source : FollowedView
-  pub followed : IsFollowed c bytes source
+  pub followed : IsFollowed bytes c.exports source
   pub known : first_unknown source.code.imports c.imports ≡ None
   pub named : AreFunctionNames bytes source.names
   pub is : IsSourceTextBy c.json source c.imports text
@@ -75,17 +77,17 @@ IsNoImport imports patterns p near =
 
 -- why no graph is printed of the bytes of an adapter
 abbrev pub IsGraphCause : CommandView → List ℕ → WhyFault → Type 0
-IsGraphCause c bytes (Source f place) =
-    (f ≢ gc_memory) × IsFault (trim_input_for_names bytes c.exports) f × IsExplained (trim_input_for_names bytes c.exports) f place
+IsGraphCause c bytes (Source f place near) =
+    (f ≢ gc_memory) × IsFault (trim_input_for_names bytes c.exports) f × IsExplained (trim_input_for_names bytes c.exports) f place × IsNearFor bytes f near
 IsGraphCause c bytes (NoImport p near) =
     HasNoCause c bytes × (m : ModuleValue) × SpellsModule bytes m × IsNoImport m.imports c.imports p near
 IsGraphCause c bytes f = ⊥
 
 -- why nothing else is printed of the bytes of a module
 abbrev pub IsSourceCause : CommandView → List ℕ → WhyFault → Type 0
-IsSourceCause c bytes (Source f place) = (f ≢ gc_memory) × IsRefusal c bytes f place
+IsSourceCause c bytes (Source f place near) = (f ≢ gc_memory) × IsRefusal bytes c.exports f place × IsNearFor bytes f near
 IsSourceCause c bytes (NoImport p near) =
-    (source : FollowedView) × IsFollowed c bytes source × IsNoImport source.code.imports c.imports p near
+    (source : FollowedView) × IsFollowed bytes c.exports source × IsNoImport source.code.imports c.imports p near
 IsSourceCause c bytes f = ⊥
 
 abbrev pub IsCauseBy : Bool → CommandView → List ℕ → WhyFault → Type 0

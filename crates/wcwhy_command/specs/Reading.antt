@@ -1,10 +1,11 @@
 -- What arguments are read as.
-use Rattle.std.specs.Prelude.{◌≡◌, ℕ, true, false, cond, List, [], ◌∷◌, codes, map, Option, Some, None, Ok, Err}
-use Rattle.wc_options.specs.Reading.{TokenView, is_given, pair_of, plain_texts, read, values_of}
+use Rattle.std.specs.Prelude.{◌≡◌, ℕ, true, false, cond, List, [], ◌∷◌, codes, map, None, Ok, Err}
+use Rattle.wc_options.specs.Reading.{TokenView, is_given, plain_texts, read, values_of}
 use Rattle.wc_options.specs.Table.{Table}
 use Rattle.wc_options.specs.Wrong.{Reading, missing, together, wrong}
 use Rattle.wc_options.specs.declared.table.Value.TheVariants.{Nothing, Text}
-use Rattle.wcwhy_command.specs.Arguments.{CommandView, PatternView}
+use Rattle.wc_import_paths.specs.Patterns.{pattern_of}
+use Rattle.wcwhy_command.specs.Arguments.{CommandView}
 
 -- the options: `--import` has a value, which may be any text, and may come several times; `--dot` and `--json` have none
 abbrev pub option_table : Table
@@ -12,14 +13,6 @@ option_table =
     record { name = codes "--import"; value = Text; repeats = true }
     ∷ record { name = codes "--dot"; value = Nothing; repeats = false }
     ∷ record { name = codes "--json"; value = Nothing; repeats = false } ∷ []
-
--- the imports that a value asks for: those of `MODULE`, or of `MODULE=NAME`
-abbrev pub pattern_by : List ℕ → Option (List ℕ × List ℕ) → PatternView
-pattern_by value None = (value, None)
-pattern_by value (Some p) = (p.0, Some p.1)
-
-abbrev pub pattern_of : List ℕ → PatternView
-pattern_of value = pattern_by value (pair_of value)
 
 -- a command by the texts that are no options: the path, and then the exports, one at least where a graph is asked for
 abbrev pub command_with : List TokenView → List ℕ → List (List ℕ) → CommandView

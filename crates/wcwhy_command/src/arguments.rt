@@ -1,13 +1,14 @@
 //! The arguments of the program.
 
-ghost use Rattle.std.specs.Prelude.{◌≡◌, ◌<◌, IfOk, length, map};
+ghost use Rattle.std.specs.Prelude.{◌≡◌, ◌<◌, IfOk, length};
 ghost use Rattle.wc_options.specs.Reading.{lines_of, plain_texts, said_by, texts_in};
 ghost use Rattle.wc_options.specs.Wrong.{IsRead};
-ghost use Rattle.wcwhy_command.specs.Arguments.{command_view, pattern_view, text_of};
-ghost use Rattle.wcwhy_command.specs.Reading.{AsksMemory, command_of, option_table, pattern_of, read_arguments};
+ghost use Rattle.wcwhy_command.specs.Arguments.{command_view};
+ghost use Rattle.wcwhy_command.specs.Reading.{AsksMemory, command_of, option_table, read_arguments};
 
 use std::alloc::{AllocError, Global};
-use wc_options::{ProgramOption, Value, check, is_given, pair, text_count, texts, values};
+use wc_import_paths::{ImportPattern, patterns_of};
+use wc_options::{ProgramOption, Value, check, is_given, text_count, texts, values};
 pub use wc_options::{NoCommand, WrongArgument};
 
 /// A request to the program. Paths and names are any texts.
@@ -23,15 +24,6 @@ pub struct Command<'a> {
     pub json: bool,
     /// The exports at which paths may begin, in order; all, if there are none.
     pub exports: Vec<&'a str>,
-}
-
-/// The imports that an option asks for: those of a module, or those of a module that have a name.
-#[derive(Clone, Copy, Debug, PartialEq, Eq, Hash)]
-pub struct ImportPattern<'a> {
-    /// The name of the module, which has no `=`.
-    pub module: &'a str,
-    /// The name of the import; any, if it is `None`.
-    pub name: Option<&'a str>,
 }
 
 /// The options.
@@ -115,7 +107,7 @@ fn command_of(alloc: Global, arguments: &[String]) -> Result<Command<'_>, AllocE
         ≡ command_of (said_by option_table (texts_in arguments.now))) }
 {
     let words = texts(alloc, options(), arguments)?;
-    let imports = patterns(alloc, &values(alloc, options(), arguments, "--import")?)?;
+    let imports = patterns_of(alloc, &values(alloc, options(), arguments, "--import")?)?;
     let exports = Vec::from_slice(alloc, &words[1..])?;
     Ok(Command {
         source: words[0],
@@ -124,32 +116,4 @@ fn command_of(alloc: Global, arguments: &[String]) -> Result<Command<'_>, AllocE
         json: is_given(options(), arguments, "--json"),
         exports,
     })
-}
-
-/// The imports that the values of an option ask for.
-fn patterns<'a>(alloc: Global, values: &[&'a str]) -> Result<Vec<ImportPattern<'a>>, AllocError>
-    ensures { IfOk result (λ v. map pattern_view v.items
-        ≡ map pattern_of (map text_of values.now)) }
-{
-    let mut found = Vec::new(alloc);
-    for value in values {
-        found.push(pattern(value))?;
-    }
-    Ok(found)
-}
-
-/// The imports that the value of an option asks for.
-fn pattern(value: &str) -> ImportPattern<'_>
-    ensures { pattern_view result ≡ pattern_of value.now }
-{
-    match pair(value) {
-        Some((module, name)) => ImportPattern {
-            module,
-            name: Some(name),
-        },
-        None => ImportPattern {
-            module: value,
-            name: None,
-        },
-    }
 }

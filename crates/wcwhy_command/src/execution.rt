@@ -5,22 +5,23 @@ ghost use Rattle.wc_read.specs.Imports.{import_value};
 ghost use Rattle.wc_gc.specs.LiveItems.{names_of};
 ghost use Rattle.wc_texts.specs.Names.{first_occurrences};
 ghost use Rattle.wc_program.specs.Screen.{Becomes, output_ends};
-ghost use Rattle.wcwhy_command.specs.Arguments.{command_view, text_of};
+ghost use Rattle.wc_why.specs.Paths.{text_of};
+ghost use Rattle.wc_import_paths.specs.Followed.{HasPaths};
+ghost use Rattle.wcwhy_command.specs.Arguments.{command_view};
 ghost use Rattle.wcwhy_command.specs.Program.{IsGraphOf, IsPrintCause, IsPrintedOf, IsSourceOf};
 ghost use Rattle.wcwhy_command.specs.Private.Execution.{ArePrinted, IsFollowedCause, IsGraphPrintCause, IsNoImportFault, IsReasonsCause, IsSourcePrintCause, IsSourcePrinted, PrintsSome};
-ghost use Rattle.wcwhy_command.specs.Private.Followed.{HasPaths, IsSourceText};
+ghost use Rattle.wcwhy_command.specs.Private.Followed.{IsSourceText};
 ghost use Rattle.wcwhy_command.specs.Private.Reasons.{AreReasons, IsGraphIn, IsSearched, PutsSome, adapter_in, names_in, required_in};
 
-use crate::arguments::{Command, ImportPattern};
-use crate::asked::Asked;
-use crate::fault::{PrintFault, WhyFault, near_text};
-use crate::followed::{Followed, follow};
+use crate::arguments::Command;
+use crate::fault::{PrintFault, WhyFault, near_text, source_fault};
 use crate::graph::put_graph;
 use crate::json_paths::put_json;
 use crate::lines::put_lines;
 use crate::reasons::{Found, Reasons};
 use std::alloc::{AllocError, Global};
 use wc_gc::why_imports_explained;
+use wc_import_paths::{Asked, Followed, ImportPattern, follow};
 use wc_maps::{Seed, Set};
 use wc_program::Output;
 use wc_read::laws::modules_unique;
@@ -101,7 +102,7 @@ fn print_required<'a, O: Output>(
             };
             print_found(alloc, command, bytes, &found, out)
         }
-        Err(refused) => Err(WhyFault::from(refused)),
+        Err(refused) => Err(source_fault(alloc, bytes, refused)),
     }
 }
 
@@ -229,9 +230,9 @@ fn print_module<'a, O: Output>(
     ensures fault { IfErr result (IsSourcePrintCause (command_view command.now) bytes.now
         (Becomes (output_ends O.written O.sent O.is_failed) out.old out.new)) }
 {
-    match follow(alloc, seed, command, bytes) {
+    match follow(alloc, seed, bytes, &command.exports) {
         Ok(followed) => print_followed(alloc, seed, command, &followed, out),
-        Err(refusal) => Err(WhyFault::from(refusal)),
+        Err(refusal) => Err(source_fault(alloc, bytes, refusal)),
     }
 }
 

@@ -3,13 +3,14 @@
 ghost use Rattle.std.specs.Prelude.{◌≡◌, IfNone, IfOk, IfSome, map, string_bytes};
 ghost use Rattle.std.specs.Option.{option_map};
 ghost use Rattle.wc_read.specs.Imports.{import_value};
-ghost use Rattle.wcwhy_command.specs.Arguments.{pattern_view};
-ghost use Rattle.wcwhy_command.specs.Fault.{NeedsText, given_word, near_text, pattern_text, source_text, unknown_text, unread_text, why_fault_text};
+ghost use Rattle.wc_import_paths.specs.Patterns.{pattern_view};
+ghost use Rattle.wcwhy_command.specs.Fault.{IsSourceFault, NeedsText, given_word, near_text, of_source, pattern_text, source_text, unknown_text, unread_text, why_fault_text};
 
-use crate::arguments::ImportPattern;
+use crate::near_exports::near_for;
 use crate::patterns::{near_import, near_pattern};
 use std::alloc::{AllocError, Global};
 use wc_gc::{GcFault, TrimPlace};
+use wc_import_paths::ImportPattern;
 use wc_json::escaped;
 use wc_program::{FileProblem, problem_text};
 use wc_read::Import;
@@ -24,8 +25,9 @@ pub enum WhyFault<'a> {
     Memory,
     /// The file of this path could not be read, and why: never `Memory`.
     CannotRead(&'a str, FileProblem),
-    /// The module can't be followed. It carries why not, never `Memory`, and where.
-    Source(GcFault, Option<TrimPlace>),
+    /// The module can't be followed. It carries why not, never `Memory`, and where; and of an export that is not there the
+    /// first that is equal to it but for its version and for the case of letters, as it is in the fault's text.
+    Source(GcFault, Option<TrimPlace>, Option<String>),
     /// An option asks for imports, and the module has none of them. It carries what the option asks for; and of the first
     /// import that it would ask for, if versions and the case of letters did not count, the module, or after an option with
     /// a name the module and the name, as they are in the fault's text.
@@ -47,7 +49,7 @@ impl WhyFault<'_> {
         match self {
             WhyFault::Memory => String::from_str(alloc, OUT_OF_MEMORY),
             WhyFault::CannotRead(path, problem) => unread_text(alloc, path, *problem),
-            WhyFault::Source(fault, place) => source_text(alloc, fault, place),
+            WhyFault::Source(fault, place, near) => source_text(alloc, fault, place, near),
             WhyFault::NoImport(pattern, near) => unknown_text(alloc, pattern, near),
             WhyFault::Output => String::from_str(alloc, UNPRINTED),
         }
@@ -61,7 +63,8 @@ impl WhyFault<'_> {
         match self {
             WhyFault::Memory => Some(OUT_OF_MEMORY),
             WhyFault::Output => Some(UNPRINTED),
-            WhyFault::CannotRead(_, _) | WhyFault::Source(_, _) | WhyFault::NoImport(_, _) => None,
+            WhyFault::CannotRead(_, _) | WhyFault::Source(_, _, _) | WhyFault::NoImport(_, _) =>
+                None,
         }
     }
 }
@@ -79,19 +82,24 @@ fn unread_text(alloc: Global, path: &str, problem: FileProblem) -> Result<String
 }
 
 /// The text of why a module can't be followed, with what a terminal would act on escaped, and under it what it is about,
-/// if it is about a place.
+/// if it is about a place, or else what is there in place of an export, if something is.
 fn source_text(
     alloc: Global,
     fault: &GcFault,
     place: &Option<TrimPlace>,
+    near: &Option<String>,
 ) -> Result<String, AllocError>
-    ensures { IfOk result (λ text. string_bytes text ≡ source_text fault.now place.now) }
+    ensures { IfOk result (λ text. string_bytes text
+        ≡ source_text fault.now place.now (option_map string_bytes near.now)) }
 {
     let text = text_of(alloc, fault)?;
     let text = escaped(alloc, &text)?;
     match place {
         Some(place) => format!(in alloc; "{text}\n  {place}"),
-        None => Ok(text),
+        None => match near {
+            Some(near) => format!(in alloc; "{text}\n  is there: {near}"),
+            None => Ok(text),
+        },
     }
 }
 
@@ -155,17 +163,28 @@ fn given_word(alloc: Global, text: &str) -> Result<String, AllocError>
     word(alloc, text)
 }
 
-impl From<Refused<GcFault, TrimPlace>> for WhyFault<'_> {
-    ghost use Rattle.wcwhy_command.specs.Fault.{of_source};
+/// The fault for the module with these bytes, which can't be followed.
+pub(crate) fn source_fault<'a>(
+    alloc: Global,
+    bytes: &[u8],
+    refused: Refused<GcFault, TrimPlace>,
+) -> WhyFault<'a>
+    ensures { IsSourceFault bytes.now refused.fault refused.place result }
+{
+    match near_for(alloc, bytes, &refused.fault) {
+        Ok(near) => refused_fault(refused, near),
+        Err(AllocError) => WhyFault::Memory,
+    }
+}
 
-    ghost from_gives = { λ r e. e ≡ of_source r.fault r.place };
-
-    fn from(e: Refused<GcFault, TrimPlace>) -> Self {
-        let Refused { fault, place } = e;
-        match fault {
-            GcFault::Memory => WhyFault::Memory,
-            _ => WhyFault::Source(fault, place),
-        }
+/// The fault for a module that can't be followed, with what is there in place of an export.
+fn refused_fault<'a>(refused: Refused<GcFault, TrimPlace>, near: Option<String>) -> WhyFault<'a>
+    ensures { result ≡ of_source refused.fault refused.place near }
+{
+    let Refused { fault, place } = refused;
+    match fault {
+        GcFault::Memory => WhyFault::Memory,
+        _ => WhyFault::Source(fault, place, near),
     }
 }
 

@@ -3,14 +3,14 @@
 ghost use Rattle.std.specs.Prelude.{◌≡◌, ◌<◌, length, map, IfOk, IsErrOf, OnOk, string_bytes, true};
 ghost use Rattle.wc_read.specs.Imports.{import_value};
 ghost use Rattle.wcwhy_command.specs.Graph.{import_node};
-ghost use Rattle.wcwhy_command.specs.Patterns.{is_shown};
+ghost use Rattle.wc_import_paths.specs.Patterns.{is_shown};
 ghost use Rattle.wcwhy_command.specs.Private.Reasons.{AreImportNodesOf, AreReasons, IsGraphIn, IsNodeOf, PutsSome};
 
-use crate::asked::Asked;
 use crate::fault::PrintFault;
 use crate::lines::title;
 use crate::reasons::Reasons;
 use std::alloc::{AllocError, Global};
+use wc_import_paths::Asked;
 use wc_read::Import;
 use wc_texts::Sink;
 use wc_why::{NodeNames, Tree, item_id, item_nodes, marks_of, target_node};

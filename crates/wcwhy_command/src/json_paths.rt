@@ -1,17 +1,13 @@
 //! The paths to imports as JSON.
 
-ghost use Rattle.std.specs.Prelude.{◌≡◌, ◌<◌, length, IfOk, IsErrOf, OnOk, true};
-ghost use Rattle.wcwhy_command.specs.Private.Followed.{HasPaths, IsJsonIn, IsWrittenAt};
+ghost use Rattle.std.specs.Prelude.{◌≡◌, IsErrOf, OnOk, true};
+ghost use Rattle.wc_import_paths.specs.Followed.{HasPaths, IsJsonIn};
 ghost use Rattle.wcwhy_command.specs.Private.Reasons.{PutsSome};
 
-use crate::asked::Asked;
 use crate::fault::PrintFault;
-use crate::followed::Followed;
-use crate::import_paths::reached_path;
-use json::Writer;
-use std::alloc::{AllocError, Global};
+use std::alloc::Global;
+use wc_import_paths::{Asked, Followed, json_text};
 use wc_texts::Sink;
-use wc_why::{PathPrinter, begin_paths, end_paths};
 
 /// Puts the paths to the imports that are asked for, in order, as JSON in a line (`wc_why::begin_paths`). An import to which
 /// no path leads is left out.
@@ -30,41 +26,4 @@ pub(crate) fn put_json<S: Sink>(
     let text = json_text(alloc, asked, followed)?;
     out.put(&text)?;
     Ok(())
-}
-
-/// The text that `put_json` puts.
-fn json_text(
-    alloc: Global,
-    asked: &Asked<'_, '_>,
-    followed: &Followed<'_>,
-) -> Result<Vec<u8>, AllocError>
-    requires { HasPaths followed.now }
-    ensures { IfOk result (λ v. IsJsonIn followed.now asked.now v.items) }
-{
-    let mut out = begin_paths(alloc)?;
-    for position in 0..followed.code.imports.len() {
-        write_import(alloc, asked, followed, position, &mut out)?;
-    }
-    end_paths(out)
-}
-
-/// Writes the path to the import at a position, if it is asked for and a path leads there.
-fn write_import(
-    alloc: Global,
-    asked: &Asked<'_, '_>,
-    followed: &Followed<'_>,
-    position: usize,
-    out: &mut Writer,
-) -> Result<(), AllocError>
-    requires paths { HasPaths followed.now }
-    requires there { position < length followed.now.code.imports.items }
-    ensures { OnOk result (IsWrittenAt followed.now asked.now position out.old out.new) }
-{
-    if !asked.is_shown(&followed.code.imports[position]) {
-        return Ok(());
-    }
-    match reached_path(alloc, followed, position)? {
-        Some(path) => out.path(alloc, &path),
-        None => Ok(()),
-    }
 }

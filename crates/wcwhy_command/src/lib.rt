@@ -7,21 +7,19 @@
 #![tactic(auto)]
 
 mod arguments;
-mod asked;
 mod execution;
 mod fault;
-mod followed;
 mod graph;
-mod import_paths;
 mod json_paths;
 mod lines;
+mod near_exports;
 mod patterns;
 mod program;
 mod reasons;
-mod roots;
 mod texts;
 mod usage;
 
-pub use arguments::{Command, ImportPattern, NoCommand, WrongArgument, parse};
+pub use arguments::{Command, NoCommand, WrongArgument, parse};
 pub use fault::WhyFault;
 pub use program::{run, run_command};
+pub use wc_import_paths::ImportPattern;

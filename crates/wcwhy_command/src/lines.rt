@@ -5,14 +5,13 @@ ghost use Rattle.wc_read.specs.Imports.{import_value};
 ghost use Rattle.wc_why.specs.Lines.{path_lines};
 ghost use Rattle.wc_why.specs.Paths.{path_view};
 ghost use Rattle.wcwhy_command.specs.Lines.{title, unreached_text};
-ghost use Rattle.wcwhy_command.specs.Private.Followed.{AreLinesIn, HasPaths, IsLineIn};
+ghost use Rattle.wc_import_paths.specs.Followed.{HasPaths};
+ghost use Rattle.wcwhy_command.specs.Private.Followed.{AreLinesIn, IsLineIn};
 ghost use Rattle.wcwhy_command.specs.Private.Reasons.{PutsSome};
 
-use crate::asked::Asked;
 use crate::fault::PrintFault;
-use crate::followed::Followed;
-use crate::import_paths::reached_path;
 use std::alloc::{AllocError, Global};
+use wc_import_paths::{Asked, Followed, reached_path};
 use wc_read::Import;
 use wc_texts::Sink;
 use wc_why::{Path, push_path, two_words};

@@ -2,17 +2,9 @@
 
 ghost use Rattle.std.specs.Prelude.{◌≡◌};
 ghost use Rattle.std.specs.Str.{str_eq_ignore_ascii_case};
-ghost use Rattle.wcwhy_command.specs.Texts.{is_alike, unversioned_text};
+ghost use Rattle.wcwhy_command.specs.Texts.{is_alike};
 
-/// The name of a module without its version: what is before the first `@`.
-pub(crate) fn unversioned(name: &str) -> &str
-    ensures { result.now ≡ unversioned_text name.now }
-{
-    match name.split_once('@') {
-        Some((front, _version)) => front,
-        None => name,
-    }
-}
+use wc_import_paths::unversioned;
 
 /// Whether names are the same but for their versions and for the case of ASCII letters.
 pub(crate) fn is_alike(name: &str, other: &str) -> bool
@@ -22,7 +14,7 @@ pub(crate) fn is_alike(name: &str, other: &str) -> bool
 }
 
 /// Whether texts are the same but for the case of ASCII letters.
-fn same_letters(left: &str, right: &str) -> bool
+pub(crate) fn same_letters(left: &str, right: &str) -> bool
     ensures { result ≡ str_eq_ignore_ascii_case left.now right.now }
 {
     left.eq_ignore_ascii_case(right)

@@ -6,7 +6,7 @@ use crate::heap::counts::{add, fail_after, fail_once_after, has_failed, held, ma
 use crate::{
     Adapter, ComponentEncoder, ComponentWorld, ExportKind, FuncType, ImportOptions, Instance, Item,
     LibraryInfo, MainOrAdapter, ModuleImportMap, OrderedMap, Plan, RequiredOptions, Resolved,
-    World, gc, scan, validate_adapter_module, validate_module,
+    World, gc, paths, scan, validate_adapter_module, validate_module,
 };
 use std::alloc::{GlobalAlloc, Layout, System};
 use std::borrow::Cow;
@@ -106,6 +106,12 @@ const CYCLE: &str = r#"{
 
 /// Imports `hello` of `my:demo/host` twice, and `b` of `old`.
 const MAIN: &[u8] = b"\0asm\x01\0\0\0\x01\x08\x02\x60\x01\x7f\0\x60\0\0\x02\x33\x03\x0cmy:demo/host\x05hello\0\0\x0cmy:demo/host\x05hello\0\0\x03old\x01b\0\x01";
+
+/// Imports `hello` of `my:demo/host`, and `b` of `old`.
+const CALLER: &[u8] = b"\0asm\x01\0\0\0\x01\x08\x02\x60\x01\x7f\0\x60\0\0\x02\x1e\x02\x0cmy:demo/host\x05hello\0\0\x03old\x01b\0\x01";
+
+/// Imports `hello` of `my:demo/host`, which `b` calls.
+const CALLED: &[u8] = b"\0asm\x01\0\0\0\x01\x08\x02\x60\x01\x7f\0\x60\0\0\x02\x16\x01\x0cmy:demo/host\x05hello\0\0\x03\x02\x01\x01\x07\x05\x01\x01b\0\x01\x0a\x08\x01\x06\0\x41\0\x10\0\x0b";
 
 /// Imports `b` of `old`.
 const LIBRARY: &[u8] = b"\0asm\x01\0\0\0\x01\x04\x01\x60\0\0\x02\x09\x01\x03old\x01b\0\0";
@@ -246,6 +252,9 @@ fn chains() {
     assert!(failures(|| gc::why(STARTED, ["a"])) > 5);
     assert!(failures(|| scan(IMPORTS)) > 10);
     assert!(failures(|| scan(&IMPORTS[..9])) > 0);
+    assert!(failures(|| paths(IMPORTS, &["b"], &["env"])) > 20);
+    assert!(failures(|| paths(IMPORTS, &["b", "x"], &[])) > 5);
+    assert!(failures(|| paths(&IMPORTS[..9], &[], &[])) > 0);
 }
 
 #[test]
@@ -254,6 +263,34 @@ fn worlds() {
     assert!(failures(|| ComponentWorld::new(&encoder)) > 200);
     assert!(failures(|| Plan::new(&encoder)) > 200);
     assert!(failures(|| ComponentWorld::with_plan(&encoder)) > 200);
+}
+
+/// The paths to imports of a main module and of an adapter.
+#[test]
+fn ways() {
+    let mut encoder = ComponentEncoder::new(WORLDS, World::Name("demo"), CALLER);
+    encoder.adapters.push(Adapter::new("old", CALLED));
+    let world = ComponentWorld::new(&encoder).expect("a world");
+    let ways = world.ways(&encoder).expect("paths");
+    let texts = |number| {
+        let steps = ways.steps(number).expect("a path");
+        steps.iter().map(ToString::to_string).collect::<Vec<_>>()
+    };
+    assert_eq!(texts(0), ["main imports my:demo/host hello"]);
+    let path = [
+        "main imports old b",
+        "adapter old exports b",
+        "func 1",
+        "func 0",
+        "adapter old imports my:demo/host hello",
+    ];
+    assert_eq!(texts(1), path);
+    assert!(texts(2).is_empty() && ways.imports().len() == 2);
+    assert!(failures(|| world.ways(&encoder).map(|ways| ways.imports().len())) > 20);
+    assert!(failures(|| ways.steps(1)) > 5);
+    // an encoder without the adapter
+    encoder.adapters.clear();
+    assert_eq!(world.ways(&encoder).err(), Some(Error::OtherVersion));
 }
 
 /// The types of built-ins, and a table with slots of all kinds that these have.

@@ -9,11 +9,18 @@ pub(crate) const HEADER: &[u8] = b"\0asm\x01\0\0\0";
 /// The id of the import section.
 const IMPORTS: u8 = 2;
 
+/// The first byte.
+fn byte(rest: &mut &[u8]) -> Option<u8> {
+    let (byte, others) = rest.split_first()?;
+    *rest = others;
+    Some(*byte)
+}
+
 /// A number as LEB128, the low seven bits first.
 pub(crate) fn number(rest: &mut &[u8]) -> Option<usize> {
     let mut number = 0;
     for shift in (0..usize::BITS).step_by(7) {
-        let byte = *rest.split_off_first()?;
+        let byte = byte(rest)?;
         number |= usize::from(byte & 127) << shift;
         if byte < 128 {
             return Some(number);
@@ -23,21 +30,23 @@ pub(crate) fn number(rest: &mut &[u8]) -> Option<usize> {
 }
 
 /// The bytes of a name, or of the content of a section.
-fn sized<'a>(rest: &mut &'a [u8]) -> Option<&'a [u8]> {
+pub(crate) fn sized<'a>(rest: &mut &'a [u8]) -> Option<&'a [u8]> {
     let length = number(rest)?;
-    rest.split_off(..length)
+    let (bytes, others) = rest.split_at_checked(length)?;
+    *rest = others;
+    Some(bytes)
 }
 
 /// A type of values: a byte, or one that says that a reference is meant, and to what.
 fn skip_type(rest: &mut &[u8]) -> Option<()> {
-    match *rest.split_off_first()? {
+    match byte(rest)? {
         0x63 | 0x64 => number(rest).map(drop),
         _ => Some(()),
     }
 }
 
 fn skip_limits(rest: &mut &[u8]) -> Option<()> {
-    let flags = *rest.split_off_first()?;
+    let flags = byte(rest)?;
     number(rest)?;
     // a maximum, and the exponent of a page's bytes
     for flag in [1, 8] {
@@ -60,7 +69,7 @@ pub(crate) fn import_section(module: &[u8]) -> Option<ImportSection<'_>> {
     let mut rest = module.strip_prefix(HEADER)?;
     loop {
         let start = module.len() - rest.len();
-        let id = *rest.split_off_first()?;
+        let id = byte(&mut rest)?;
         let content = sized(&mut rest)?;
         if id == IMPORTS {
             let end = module.len() - rest.len();
@@ -87,7 +96,7 @@ pub(crate) fn imports(content: &[u8]) -> impl Iterator<Item = Option<ImportEntry
     (0..count).map(move |_| {
         let (module, name) = (sized(&mut rest)?, sized(&mut rest)?);
         let whole = rest;
-        match *rest.split_off_first()? {
+        match byte(&mut rest)? {
             0 => {
                 number(&mut rest)?;
             }
@@ -98,10 +107,10 @@ pub(crate) fn imports(content: &[u8]) -> impl Iterator<Item = Option<ImportEntry
             2 => skip_limits(&mut rest)?,
             3 => {
                 skip_type(&mut rest)?;
-                rest.split_off_first()?;
+                byte(&mut rest)?;
             }
             4 => {
-                rest.split_off_first()?;
+                byte(&mut rest)?;
                 number(&mut rest)?;
             }
             _ => return None,

@@ -230,7 +230,9 @@ impl error::Error for GcFault {}
 #[cfg(test)]
 mod tests {
     use super::{DedupeFault, GcFault, ReadFault};
-    use crate::ffi::fault_text::{DEDUPE_CALL, SCAN_CALL, TRIM_CALL, WHY_CALL, fault_text};
+    use crate::ffi::fault_text::{
+        DEDUPE_CALL, PATHS_CALL, SCAN_CALL, TRIM_CALL, WHY_CALL, fault_text,
+    };
 
     /// How many numbers are those of a fault, each of one of its own.
     fn count<T: PartialEq>(fault: impl Fn(u32) -> Option<T>) -> usize {
@@ -260,10 +262,11 @@ mod tests {
             let text = fault.map(|it| it.to_string().trim_end_matches(" ``").to_owned());
             assert_eq!(fault_text(TRIM_CALL, number), text, "{number}");
             assert_eq!(fault_text(WHY_CALL, number), text, "{number}");
+            assert_eq!(fault_text(PATHS_CALL, number), text, "{number}");
             let fault = ReadFault::from_number(number).ok();
             let text = fault.map(|it| it.to_string());
             assert_eq!(fault_text(SCAN_CALL, number), text, "{number}");
-            assert_eq!(fault_text(SCAN_CALL + 1, number), None);
+            assert_eq!(fault_text(PATHS_CALL + 1, number), None);
         }
     }
 }

@@ -41,13 +41,13 @@ const NO_SUCH_FAULT: u32 = 6;
 
 /// The form of the calls, of messages and of answers that this crate knows: the archive's own number has to be this one. Its
 /// symbols have it too, so that another version of this crate, over another form, can be part of the same program.
-const ABI: u32 = 8;
+const ABI: u32 = 9;
 
 unsafe extern "C" {
-    #[link_name = "nuigatre8_abi"]
+    #[link_name = "nuigatre9_abi"]
     safe fn nuigatre_abi() -> u32;
 
-    #[link_name = "nuigatre8_dedupe"]
+    #[link_name = "nuigatre9_dedupe"]
     fn nuigatre_dedupe(
         wasm: *const u8,
         wasm_length: usize,
@@ -55,7 +55,7 @@ unsafe extern "C" {
         out_length: usize,
     ) -> Answer;
 
-    #[link_name = "nuigatre8_trim"]
+    #[link_name = "nuigatre9_trim"]
     fn nuigatre_trim(
         seed0: u64,
         seed1: u64,
@@ -71,7 +71,7 @@ unsafe extern "C" {
         out_length: usize,
     ) -> Answer;
 
-    #[link_name = "nuigatre8_why"]
+    #[link_name = "nuigatre9_why"]
     fn nuigatre_why(
         seed0: u64,
         seed1: u64,
@@ -83,7 +83,7 @@ unsafe extern "C" {
         out_length: usize,
     ) -> Answer;
 
-    #[link_name = "nuigatre8_world"]
+    #[link_name = "nuigatre9_world"]
     fn nuigatre_world(
         seed0: u64,
         seed1: u64,
@@ -95,7 +95,7 @@ unsafe extern "C" {
         out_length: usize,
     ) -> Answer;
 
-    #[link_name = "nuigatre8_plan"]
+    #[link_name = "nuigatre9_plan"]
     fn nuigatre_plan(
         seed0: u64,
         seed1: u64,
@@ -107,7 +107,7 @@ unsafe extern "C" {
         out_length: usize,
     ) -> Answer;
 
-    #[link_name = "nuigatre8_planned_world"]
+    #[link_name = "nuigatre9_planned_world"]
     fn nuigatre_planned_world(
         seed0: u64,
         seed1: u64,
@@ -120,7 +120,7 @@ unsafe extern "C" {
     ) -> Answer;
 
     #[cfg(test)]
-    #[link_name = "nuigatre8_validate"]
+    #[link_name = "nuigatre9_validate"]
     fn nuigatre_validate(
         seed0: u64,
         seed1: u64,
@@ -135,7 +135,7 @@ unsafe extern "C" {
         out_length: usize,
     ) -> Answer;
 
-    #[link_name = "nuigatre8_validated_module"]
+    #[link_name = "nuigatre9_validated_module"]
     fn nuigatre_validated_module(
         seed0: u64,
         seed1: u64,
@@ -152,7 +152,7 @@ unsafe extern "C" {
         out_length: usize,
     ) -> Answer;
 
-    #[link_name = "nuigatre8_scan"]
+    #[link_name = "nuigatre9_scan"]
     fn nuigatre_scan(
         wasm: *const u8,
         wasm_length: usize,
@@ -160,8 +160,22 @@ unsafe extern "C" {
         out_length: usize,
     ) -> Answer;
 
+    #[link_name = "nuigatre9_paths"]
+    fn nuigatre_paths(
+        seed0: u64,
+        seed1: u64,
+        wasm: *const u8,
+        wasm_length: usize,
+        exports: *const Slice<'_>,
+        exports_length: usize,
+        imports: *const Slice<'_>,
+        imports_length: usize,
+        out: *mut u8,
+        out_length: usize,
+    ) -> Answer;
+
     #[cfg(test)]
-    #[link_name = "nuigatre8_fault_text"]
+    #[link_name = "nuigatre9_fault_text"]
     fn nuigatre_fault_text(call: u32, number: u32, out: *mut u8, out_length: usize) -> Answer;
 }
 
@@ -174,15 +188,34 @@ pub(crate) fn is_proved() -> bool {
         // SAFETY: it reads the entry of a symbol in a table of the program, which the linker fills.
         unsafe {
             std::arch::asm!(
-                ".weak nuigatre8_unproved",
-                "mov {}, qword ptr [rip + nuigatre8_unproved@GOTPCREL]",
+                ".weak nuigatre9_unproved",
+                "mov {}, qword ptr [rip + nuigatre9_unproved@GOTPCREL]",
                 out(reg) address,
                 options(pure, readonly, nostack, preserves_flags),
             );
         }
         address == 0
     }
-    #[cfg(not(all(target_os = "linux", target_arch = "x86_64")))]
+    #[cfg(all(target_os = "linux", target_arch = "aarch64"))]
+    {
+        let address: usize;
+        // SAFETY: as above.
+        unsafe {
+            std::arch::asm!(
+                ".weak nuigatre{form}_unproved",
+                "adrp {0}, :got:nuigatre{form}_unproved",
+                "ldr {0}, [{0}, :got_lo12:nuigatre{form}_unproved]",
+                out(reg) address,
+                form = const ABI,
+                options(pure, readonly, nostack, preserves_flags),
+            );
+        }
+        address == 0
+    }
+    #[cfg(not(all(
+        target_os = "linux",
+        any(target_arch = "x86_64", target_arch = "aarch64")
+    )))]
     false
 }
 
@@ -303,6 +336,33 @@ pub(crate) fn scan(wasm: &[u8], room: usize) -> Result<Answered, Error> {
     answered(room, |out| {
         // SAFETY: as above.
         unsafe { nuigatre_scan(wasm.as_ptr(), wasm.len(), start(out), out.len()) }
+    })
+}
+
+/// The paths to the imports of a module that these texts ask for, from these of its exports. The answer is JSON.
+pub(crate) fn paths(
+    wasm: &[u8],
+    exports: &[Slice<'_>],
+    imports: &[Slice<'_>],
+    room: usize,
+) -> Result<Answered, Error> {
+    let (seed0, seed1) = seed();
+    answered(room, |out| {
+        // SAFETY: as above. The slices of `exports` and `imports` are borrowed for the call.
+        unsafe {
+            nuigatre_paths(
+                seed0,
+                seed1,
+                wasm.as_ptr(),
+                wasm.len(),
+                exports.as_ptr(),
+                exports.len(),
+                imports.as_ptr(),
+                imports.len(),
+                start(out),
+                out.len(),
+            )
+        }
     })
 }
 
@@ -508,6 +568,7 @@ pub(crate) mod fault_text {
     pub(crate) const TRIM_CALL: u32 = 1;
     pub(crate) const WHY_CALL: u32 = 2;
     pub(crate) const SCAN_CALL: u32 = 3;
+    pub(crate) const PATHS_CALL: u32 = 4;
 
     /// The text of the fault that this call answers by this number; `None` where it has none.
     pub(crate) fn fault_text(call: u32, number: u32) -> Option<String> {

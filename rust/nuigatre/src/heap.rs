@@ -5,31 +5,52 @@
 //! block too.
 
 #![cfg_attr(
-    not(all(target_os = "linux", target_arch = "x86_64")),
+    not(all(
+        target_os = "linux",
+        any(target_arch = "x86_64", target_arch = "aarch64")
+    )),
     allow(dead_code)
 )]
 
 use std::ffi::c_void;
 use std::ptr;
 
+/// The instruction that goes on somewhere else.
+#[cfg(all(target_os = "linux", target_arch = "x86_64"))]
+macro_rules! jump {
+    () => {
+        "jmp"
+    };
+}
+
+#[cfg(all(target_os = "linux", target_arch = "aarch64"))]
+macro_rules! jump {
+    () => {
+        "b"
+    };
+}
+
 // The names that the archive calls. They are hidden: a shared library that this crate is part of does not export them, as
 // it would functions that are `no_mangle`, so each calls its own. They are weak: of two versions of this crate in one program
 // one has the heap of both, which is the C library's.
-#[cfg(all(target_os = "linux", target_arch = "x86_64"))]
+#[cfg(all(
+    target_os = "linux",
+    any(target_arch = "x86_64", target_arch = "aarch64")
+))]
 std::arch::global_asm!(
     ".pushsection .text.rattle_heap, \"ax\", @progbits",
     ".weak rattle_alloc",
     ".hidden rattle_alloc",
     ".type rattle_alloc, @function",
-    "rattle_alloc: jmp {alloc}",
+    concat!("rattle_alloc: ", jump!(), " {alloc}"),
     ".weak rattle_realloc",
     ".hidden rattle_realloc",
     ".type rattle_realloc, @function",
-    "rattle_realloc: jmp {realloc}",
+    concat!("rattle_realloc: ", jump!(), " {realloc}"),
     ".weak rattle_dealloc",
     ".hidden rattle_dealloc",
     ".type rattle_dealloc, @function",
-    "rattle_dealloc: jmp {dealloc}",
+    concat!("rattle_dealloc: ", jump!(), " {dealloc}"),
     ".popsection",
     alloc = sym alloc,
     realloc = sym reallocate,

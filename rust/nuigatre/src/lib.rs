@@ -2,9 +2,11 @@
 //! ([`ModuleImportMap`]), adapters trimmed to what is used of them ([`gc::run`]), and all of that for the world of a
 //! component and its plan ([`ComponentWorld`], [`Plan`]), by resolved worlds as JSON, which may be read once for many
 //! components ([`Resolved`]). One module may be validated alone ([`validate_module`], [`validate_adapter_module`]), and an
-//! adapter asked why it imports what it does ([`gc::why`]). Any module's imports and exports are listed by [`scan`](fn@scan). The shim that a component needs is listed too
+//! adapter asked why it imports what it does ([`gc::why`]). Any module's imports and exports are listed by [`scan`](fn@scan),
+//! and why it imports them is answered by [`paths`](fn@paths). The shim that a component needs is listed too
 //! ([`ComponentWorld::table`]). The names are those of the Rust crate `wit-component`, and so is what they do. An error says
 //! what it is about ([`Error::place`]), which is its source.
+//! A component is asked why it imports what it does by [`ComponentWorld::ways`].
 //!
 //! The work is done by `libnuigatre.a`, whose functions are proved: each ends on all bytes, and answers what its
 //! contract says. This crate is the way there, and is tested: a heap, the calls, and the reading of their answers. It
@@ -13,9 +15,9 @@
 //!
 //! No call ends the process or panics: where an allocation fails, the library's or this crate's, the answer is
 //! [`Error::Memory`]. (A library that was compiled without its proof stops the process where it is wrong. The seed is of
-//! `RandomState`, which panics where the system gives no random bytes.) A thread that calls [`gc::run`] or
-//! [`ModuleImportMap::new`] needs the smallest stack that there is, 16 KB; for the other calls it needs one of 256 KB,
-//! whatever the input.
+//! `RandomState`, which panics where the system gives no random bytes.) A thread that calls [`ModuleImportMap::new`],
+//! [`gc::run`], [`gc::why`] or [`scan`](fn@scan) needs a stack of 32 KB; for the other calls it needs one of 256 KB, whatever
+//! the input. That is more than twice what any of them was measured to take.
 //!
 //! ```
 //! use nuigatre::{ModuleImportMap, gc};
@@ -60,6 +62,7 @@ mod module_import_map;
 mod ordered_map;
 mod ordered_set;
 mod originals;
+mod paths;
 mod place;
 mod plan;
 mod read;
@@ -71,6 +74,7 @@ mod scan;
 mod shapes;
 mod table;
 mod validation;
+mod ways;
 mod wit_types;
 mod world;
 mod world_error;
@@ -107,6 +111,7 @@ pub use imports::{Import, ImportInstance, ImportMap, PayloadInfo, PayloadType};
 pub use module_import_map::{ModuleImportMap, Rename};
 pub use ordered_map::{Iter, Keys, Lookup, OrderedMap};
 pub use ordered_set::OrderedSet;
+pub use paths::{ImportPath, PathItem, PathRoot, paths};
 pub use place::{Place, Subject, TypeDifference};
 pub use plan::{Plan, Use, UsedImport};
 pub use refused::Refused;
@@ -115,6 +120,7 @@ pub use resolved::{Resolved, Worlds};
 pub use scan::{ItemType, Scan, ScannedExport, ScannedImport, scan};
 pub use table::{Filler, Slot, Table};
 pub use validation::{validate_adapter_module, validate_module};
+pub use ways::{WayStep, Ways, WorldImport};
 pub use wit_types::Type;
 pub use world::{ComponentWorld, ImportedInterface, Lowering, ValidatedModule, WorldAdapter};
 pub use world_error::{

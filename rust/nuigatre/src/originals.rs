@@ -4,6 +4,7 @@ use crate::binary::{Bytes, import_section, imports};
 use crate::memory::OutOfMemory;
 use crate::module_import_map::ModuleImportMap;
 use std::borrow::Cow;
+use std::str;
 
 /// A main module with the original names of its imports, and what that changes of the places of its bytes.
 pub(crate) struct Original<'a> {

@@ -8,6 +8,7 @@ use crate::gc::{ItemIndex, Space};
 use crate::json::Value;
 use crate::ordered_map::OrderedMap;
 use crate::read::{Read, Unread, map, member};
+use std::str;
 
 /// The type of an item of a module.
 #[derive(Clone, Debug, PartialEq, Eq, Hash)]

@@ -16,6 +16,7 @@ use crate::world::ValidatedModule;
 use crate::world_error::{WorldError, WorldFault, world_error};
 use std::borrow::Borrow;
 use std::collections::HashSet;
+use std::str;
 
 /// Validates these bytes as the main module of an encoder: by their imports and exports they can be part of the component.
 /// The encoder's own module is not looked at, nor are its adapters, but for their names and their keys.

@@ -17,6 +17,7 @@ use crate::plan::Plan;
 use crate::read::{Read, Unread, list, map, member, optional_member, set};
 use crate::required_options::RequiredOptions;
 use crate::world_error::world_error;
+use std::str;
 
 /// The imports and exports of a core module.
 #[derive(Clone, Debug, Default, PartialEq, Eq)]

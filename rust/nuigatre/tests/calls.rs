@@ -1,6 +1,8 @@
 //! Each call with arguments that are all different, and the answers that no row has.
 
-use nuigatre::{DedupeFault, Error, GcFault, ItemType, ModuleImportMap, ReadFault, gc, scan};
+use nuigatre::{
+    DedupeFault, Error, GcFault, ImportPath, ItemType, ModuleImportMap, ReadFault, gc, paths, scan,
+};
 use std::borrow::Cow;
 use std::collections::BTreeSet;
 use std::error::Error as _;
@@ -96,6 +98,55 @@ fn scans() {
     assert!(matches!(error, Error::Read(it) if *it.fault() == ReadFault::Truncated));
 }
 
+/// Imports `f` of `a:b/c@1.0.0`, which the function 2 calls. Its name is `telemetry`, and it stands in a table; the function 1
+/// is the export `run`, and does nothing.
+const TABLE: &[u8] = b"\0asm\x01\0\0\0\x01\x04\x01\x60\0\0\x02\x11\x01\x0ba:b/c@1.0.0\x01f\0\0\x03\x03\x02\0\0\x04\x04\x01\x70\0\x04\x07\x07\x01\x03run\0\x01\x09\x07\x01\0\x41\x01\x0b\x01\x02\x0a\x09\x02\x02\0\x0b\x04\0\x10\0\x0b\0\x13\x04name\x01\x0c\x01\x02\x09telemetry";
+
+/// Imports `f` of `env`, which the start function calls, 1.
+const STARTED: &[u8] = b"\0asm\x01\0\0\0\x01\x04\x01\x60\0\0\x02\x09\x01\x03env\x01f\0\0\x03\x02\x01\0\x08\x01\x01\x0a\x06\x01\x04\0\x10\0\x0b";
+
+/// A data segment, whose offset is an imported global.
+const DATA: &[u8] = b"\0asm\x01\0\0\0\x02\x0a\x01\x03env\x01g\x03\x7f\0\x05\x03\x01\0\x01\x0b\x07\x01\0\x23\0\x0b\x01a";
+
+/// The lines of paths.
+fn lines(paths: &[ImportPath]) -> Vec<String> {
+    let mut lines = Vec::new();
+    for path in paths {
+        lines.push(format!("{} {}", path.module, path.name));
+        lines.push(path.root.to_string());
+        lines.extend(path.items.iter().map(ToString::to_string));
+    }
+    lines
+}
+
+/// Paths from each kind of root, with names, and imports that are asked for.
+#[test]
+fn paths_to_imports() {
+    let all = |wasm| lines(&paths(wasm, &[], &[]).expect("paths"));
+    let through_table = [
+        "a:b/c@1.0.0 f",
+        "fills table 0",
+        "elem 0",
+        "func 2 telemetry",
+        "func 0",
+    ];
+    assert_eq!(all(TABLE), through_table);
+    assert_eq!(all(STARTED), ["env f", "start", "func 1", "func 0"]);
+    assert_eq!(all(DATA), ["env g", "fills memory 0", "data 0", "global 0"]);
+    let chain = ["env f", "export b", "func 3", "func 2", "func 0"];
+    assert_eq!(all(IMPORTS), chain);
+    let asked = |imports: &[&str]| paths(TABLE, &["run"], imports).map(|it| it.len());
+    assert_eq!(asked(&["a:b/c"]), Ok(1));
+    assert_eq!(asked(&["a:b/c@1.0.0=f", "other"]), Ok(1));
+    assert_eq!(asked(&["a:b/c=g"]), Ok(0));
+    assert_eq!(asked(&["other"]), Ok(0));
+    let fault = paths(TABLE, &["run", "x"], &[]).expect_err("x");
+    assert_eq!(trim_fault(&fault), &GcFault::MissingExport("x".to_owned()));
+    let error = paths(&TABLE[..12], &[], &[]).expect_err("its end is missing");
+    assert_eq!(error.to_string(), "Trim: Read: Truncated");
+    assert_eq!(error.place().expect("a byte").to_string(), "byte 12");
+}
+
 /// Names of any collection of texts.
 #[test]
 fn collections_of_names() {
@@ -187,7 +238,7 @@ fn which_library() {
         return;
     };
     let library = fs::read(Path::new(&folder).join("libnuigatre.a")).expect("the library");
-    let symbol = b"nuigatre8_unproved";
+    let symbol = b"nuigatre9_unproved";
     let is_unproved = library.windows(symbol.len()).any(|at| at == symbol);
     assert_eq!(nuigatre::is_proved(), !is_unproved);
 }

@@ -1,10 +1,13 @@
-//! The rows of renaming and of trimming, through the crate. Their answers are those of the libraries' own functions.
+//! The rows of renaming, of trimming and of paths to imports, through the crate. Their answers are those of the libraries' own
+//! functions, and those of the program `wcplan`.
 
 mod common;
 
 use common::{Row, answered_bytes, bytes_of, rows_of};
-use nuigatre::{Error, ModuleImportMap, gc};
+use nuigatre::{Adapter, ComponentEncoder, ComponentWorld, Error, ModuleImportMap, World, gc};
 use std::borrow::Cow;
+use std::collections::HashMap;
+use std::str;
 
 /// The files with calls of trimming.
 const TRIMMING: [&str; 3] = ["trim.rows", "no-trace.rows", "hostile.rows"];
@@ -147,4 +150,143 @@ fn printed_faults() {
         count += 1;
     }
     assert!(count >= 2, "{count}");
+}
+
+/// The files of a row, by their paths.
+fn files_of(row: &Row) -> HashMap<&str, Vec<u8>> {
+    let mut files = HashMap::new();
+    let heads = row.input.iter().enumerate().filter_map(|(at, line)| {
+        let (kind, path) = line.split_once(' ')?;
+        matches!(kind, "text" | "file").then_some((at, kind == "text", path))
+    });
+    let heads: Vec<_> = heads.collect();
+    for (number, (at, is_text, path)) in heads.iter().enumerate() {
+        let end = heads.get(number + 1).map_or(row.input.len(), |it| it.0);
+        let lines = &row.input[at + 1..end];
+        let bytes = if *is_text {
+            lines.join("\n").into_bytes()
+        } else {
+            bytes_of(lines)
+        };
+        files.insert(*path, bytes);
+    }
+    files
+}
+
+/// Paths as lines, each with its import, without what is before the import or the export at which it begins here.
+type Paths = Vec<Vec<String>>;
+
+/// What the crate says of a command of `wcplan`.
+fn paths_of(row: &Row) -> Paths {
+    let files = files_of(row);
+    let file = |path: &str| &files[path][..];
+    let (mut places, mut adapters, mut exports) = (Vec::new(), Vec::new(), Vec::new());
+    let mut arguments = row.arguments.iter().map(String::as_str);
+    while let Some(argument) = arguments.next() {
+        let mut pair = || arguments.next().and_then(|it| it.split_once('='));
+        match argument {
+            "--adapt" => adapters.extend(pair()),
+            "--adapter-export" => exports.extend(pair()),
+            "--why" => drop(arguments.next()),
+            argument => places.push(argument),
+        }
+    }
+    let worlds = str::from_utf8(file(places[0])).expect("a text");
+    let (world, main) = match places[1..] {
+        [world, main] => (World::Name(world), main),
+        _ => (World::Index(0), places[1]),
+    };
+    let mut encoder = ComponentEncoder::new(worlds, world, file(main));
+    for (name, path) in adapters {
+        let mut adapter = Adapter::new(name, file(path));
+        let keys = exports.iter().filter(|it| it.0 == name).map(|it| it.1);
+        adapter.required_exports.extend(keys);
+        encoder.adapters.push(adapter);
+    }
+    let world = ComponentWorld::new(&encoder).expect("a world");
+    let ways = world.ways(&encoder).expect("paths");
+    let imports = ways.imports().iter().enumerate().map(|(number, import)| {
+        let interface = import.interface.unwrap_or("$root");
+        let steps = ways.steps(number).expect("a path");
+        let head = format!("{interface} {}", import.function);
+        let steps = steps.iter().map(|step| format!("  {step}"));
+        std::iter::once(head).chain(steps).collect()
+    });
+    imports.collect()
+}
+
+/// The paths that the program prints.
+fn printed(row: &Row) -> Paths {
+    let mut paths = Paths::new();
+    let lines = row
+        .answer
+        .iter()
+        .filter_map(|it| it.strip_prefix("printed "));
+    for line in lines {
+        match paths.last_mut() {
+            Some(path) if line.starts_with("  ") => path.push(line.to_owned()),
+            _ => paths.push(vec![line.to_owned()]),
+        }
+    }
+    // an interface that is imported for its types alone has no path
+    paths.retain(|path| path.len() > 1);
+    let begins =
+        |line: &String| line.starts_with("  main imports ") || line.starts_with("  adapter ");
+    for path in &mut paths {
+        let at = path.iter().position(begins).expect("an import");
+        path.drain(1..at);
+    }
+    paths
+}
+
+#[test]
+fn rows_of_paths() {
+    let mut count = 0;
+    for row in rows_of("wcplan.rows") {
+        let has = |word: &str| row.arguments.iter().any(|it| it == word);
+        let is_done = row.answer.iter().any(|line| line == "status 0");
+        if row.call != "wcplan" || !has("--why") || has("--json") || has("--dot") || !is_done {
+            continue;
+        }
+        let (wanted, mut found) = (printed(&row), paths_of(&row).into_iter());
+        if has("all") {
+            assert!(found.clone().eq(wanted.iter().cloned()), "{}", row.name);
+        }
+        for path in &wanted {
+            assert!(found.any(|it| it == *path), "{}: {path:?}", row.name);
+        }
+        count += wanted.len();
+    }
+    assert!(count > 20, "{count}");
+}
+
+/// As the program's lines: the names of an adapter, of its exports, and of its functions, with blanks and quotes.
+#[test]
+fn the_paths_through_an_export_with_a_quote() {
+    let rows = rows_of("wcplan.rows");
+    let row = rows
+        .iter()
+        .find(|row| row.name == "the_ways_through_an_export_with_a_quote")
+        .expect("the row");
+    let row = Row {
+        arguments: row
+            .arguments
+            .iter()
+            .filter(|it| *it != "--json")
+            .cloned()
+            .collect(),
+        name: row.name.clone(),
+        call: row.call.clone(),
+        input: row.input.clone(),
+        answer: Vec::new(),
+    };
+    let wanted = [
+        "$root f",
+        "  main imports old a\\u{20}\"b",
+        "  adapter old exports a\\u{20}\"b",
+        "  func 1",
+        "  func 0",
+        "  adapter old imports $root f",
+    ];
+    assert_eq!(paths_of(&row), [wanted]);
 }

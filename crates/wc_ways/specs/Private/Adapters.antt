@@ -1,5 +1,5 @@
 -- An adapter in which paths are looked for, as the code has it, and what is said of it.
-use Rattle.std.specs.Prelude.{◌≡◌, ℕ, Bool, List, Some, is_some, string_bytes}
+use Rattle.std.specs.Prelude.{◌≡◌, ℕ, Bool, List, [], ◌∷◌, ◌++◌, Some, None, is_some, string_bytes}
 use Rattle.wc_read.specs.Imports.{ImportValue}
 use Rattle.wc_read.specs.Modules.{module_value}
 use Rattle.wc_read.specs.Names.{name_entries}
@@ -10,15 +10,19 @@ use Rattle.wc_world.specs.Views.{ComponentWorldView, WorldAdapterView}
 use Rattle.wc_world.specs.WorldViews.{required_view, world_view}
 use Rattle.wc_plan.specs.Planner.{AreModuleNameable}
 use Rattle.wc_why.specs.Lines.{importer_text}
+use Rattle.wc_why.specs.Paths.{StepView, exported, imported}
 use Rattle.wc_ways.specs.Asked.{FunctionName}
+use Rattle.wc_ways.specs.Main.{AreMainSteps}
 use Rattle.wc_ways.specs.Originals.{Original, asked_in, original_of, required_exports, required_of, wanted_of}
 use Rattle.wc_ways.specs.Said.{IsSaidIn, IsSaidOf, IsSaidOfTrimmed, SayingAlone, SayingAt, library_said as library_in}
 use Rattle.wc_ways.specs.WaysFaults.{search_input}
 use Rattle.wc_ways.specs.Words.{adapter_id}
+use Rattle.wc_ways.specs.Private.MainPaths.{AreMainPaths}
 use Rattle.wc_ways.specs.declared.asked.Function.{Function}
+use Rattle.wc_ways.specs.declared.main_paths.MainPaths.{MainPaths}
 use Rattle.wc_ways.specs.Private.Users.{AreUsers}
 use Rattle.wc_ways.specs.Users.{uses}
-use Rattle.wc_ways.specs.declared.originals.Adapter.{Adapter}
+use Rattle.wc_ways.specs.declared.modules.Adapter.{Adapter}
 use Rattle.wc_ways.specs.declared.originals.Walk.{Walk}
 use Rattle.wc_ways.specs.declared.types.AskedTypes.{AskedTypes}
 
@@ -26,9 +30,17 @@ use Rattle.wc_ways.specs.declared.types.AskedTypes.{AskedTypes}
 abbrev pub function_value : Function → FunctionName
 function_value f = (string_bytes f.interface, f.name.now)
 
+-- the paths in the main module of a component's world
+abbrev pub IsMainOf : ComponentWorldView → MainPaths → Type 0
+IsMainOf w p = AreMainPaths w.encoder.module_bytes p
+
 -- the component's world that an adapter is in
 abbrev pub world_in : Adapter → ComponentWorldView
 world_in g = world_view g.world.now
+
+-- the paths are those in the main module
+abbrev pub HasMain : Adapter → Type 0
+HasMain g = IsMainOf (world_in g) g.main.now
 
 -- what is imported can be named
 abbrev pub IsNameableIn : Adapter → Type 0
@@ -55,6 +67,13 @@ pub record IsWalk (g : Walk) : Type 0 where
   pub chains : AreImportChains (required_of (original_in g)) (original_in g).value g.chains.now
   pub wanted : required_view g.wanted.now ≡ wanted_of (original_in g)
   pub nameable : IsNameableIn g.adapter.now
+  pub main : HasMain g.adapter.now
+
+-- the steps to an export that the main module imports: those to its import, that, and the export
+abbrev pub AreStepsBy : Adapter → List ℕ → List StepView → Type 0
+AreStepsBy g export first =
+    (steps : List StepView) × AreMainSteps (world_in g).encoder.module_bytes g.name.now export steps
+    × (first ≡ steps ++ imported None g.name.now export ∷ exported g.name.now export ∷ [])
 
 -- what is said of it
 

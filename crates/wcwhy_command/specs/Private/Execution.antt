@@ -7,14 +7,15 @@ use Rattle.wc_read.specs.Names.{GlobalNameValue}
 use Rattle.wc_program.specs.Screen.{Printing, nothing, printed, failed}
 use Rattle.wc_options.specs.Wrong.{help, version, wrong, wrong_view}
 use Rattle.wc_texts.specs.Names.{first_occurrences}
-use Rattle.wcwhy_command.specs.Arguments.{CommandView, pattern_view}
+use Rattle.wc_import_paths.specs.Patterns.{first_unknown, pattern_view}
+use Rattle.wcwhy_command.specs.Arguments.{CommandView}
 use Rattle.wcwhy_command.specs.Graph.{IsGraph}
-use Rattle.wcwhy_command.specs.Patterns.{first_unknown}
 use Rattle.wcwhy_command.specs.Fault.{near_text}
 use Rattle.wcwhy_command.specs.Program.{EndsWithoutMemory, IsGraphCause, IsNoImport, IsSourceCause, StopEnds}
-use Rattle.wcwhy_command.specs.Private.Followed.{IsSourceText, followed_view}
-use Rattle.wcwhy_command.specs.declared.followed.Followed.{Followed}
-use Rattle.wcwhy_command.specs.declared.arguments.ImportPattern.{ImportPattern}
+use Rattle.wc_import_paths.specs.Followed.{followed_view}
+use Rattle.wcwhy_command.specs.Private.Followed.{IsSourceText}
+use Rattle.wc_import_paths.specs.declared.followed.Followed.{Followed}
+use Rattle.wc_import_paths.specs.declared.patterns.ImportPattern.{ImportPattern}
 use Rattle.wc_options.specs.declared.wrong.NoCommand.{NoCommand}
 use Rattle.wc_options.specs.declared.wrong.NoCommand.TheVariants.{Memory, Help, Version, Wrong}
 use Rattle.wcwhy_command.specs.declared.fault.WhyFault.{WhyFault}

@@ -6,7 +6,8 @@ use Rattle.wc_read.specs.Modules.{ModuleValue, module_value}
 use Rattle.wc_read.specs.Names.{GlobalNameValue, name_entries}
 use Rattle.wc_gc.specs.LiveItems.{names_of, trim_input}
 use Rattle.wc_gc.specs.LiveChains.{AreImportChains, AreWhyImports}
-use Rattle.wcwhy_command.specs.Arguments.{CommandView, PatternView}
+use Rattle.wc_import_paths.specs.Patterns.{PatternView}
+use Rattle.wcwhy_command.specs.Arguments.{CommandView}
 use Rattle.wcwhy_command.specs.Graph.{IsGraph, IsImportNode}
 use Rattle.wc_why.specs.Joined.{AreJoined}
 use Rattle.wcwhy_command.specs.Program.{HasNoCause}

@@ -1,11 +1,13 @@
 //! The code of docs/FROM-WIT-COMPONENT.md, over a small stand-in of the crates that an encoder is made of.
 
+mod as_there;
 mod replacement;
 mod wit_component;
 mod wit_parser;
 
 use nuigatre::{
-    Adapter, AdapterModuleDidNotExport, ComponentEncoder, ComponentWorld, InterfaceId, WorldKey,
+    AbiVariant, Adapter, AdapterModuleDidNotExport, ComponentEncoder, ComponentWorld, InterfaceId,
+    RequiredOptions, TypeId, WorldKey,
 };
 use replacement::{
     Ids, alone, asked_key, component_world, is_of_exports, lacking, live_types, lowered, resolved,
@@ -155,6 +157,76 @@ fn an_export_that_is_missing() {
     );
     let other = ComponentWorld::new(&ComponentEncoder::new("{}", 0, b"")).expect_err("no worlds");
     assert_eq!(lacking(&other), None);
+}
+
+#[test]
+fn what_is_as_there() {
+    let encoder = encoder(OLD);
+    let worlds = resolved(&encoder.metadata.resolve).expect("worlds");
+    let world = component_world(&encoder, &worlds).expect("a world");
+    let mut parts = ComponentEncoder::new(&worlds, "app", MAIN);
+    let mut old = Adapter::new("old", OLD);
+    old.required_exports.push("a:b/more");
+    parts.adapters.push(old);
+
+    let (names, wholes) = as_there::instances(&world.info);
+    let imports = [("a:b/host", "hello"), ("a:b/host", "say"), ("old", "f")];
+    assert_eq!((&names[..], wholes), (&imports[..], vec![]));
+    let mut imports = world.info.imports.imports();
+    assert!(imports.all(|it| as_there::type_of(it.2).is_none()));
+    let exports = as_there::exports(&world.info.exports);
+    let exports: Vec<_> = exports
+        .iter()
+        .map(|it| (it.0, as_there::lifted(it.1)))
+        .collect();
+    let lifted = Some(AbiVariant::GuestExport);
+    assert_eq!(exports, [("a:b/run#go", lifted), ("memory", None)]);
+    let options: Vec<_> = world.import_map[&Some("a:b/host")]
+        .lowerings
+        .values()
+        .map(as_there::options)
+        .collect();
+    let of_text = RequiredOptions::MEMORY | RequiredOptions::STRING_ENCODING;
+    assert_eq!(options, [RequiredOptions::empty(), of_text]);
+    let lifted = as_there::lifted_options(&world, &parts).expect("options");
+    assert_eq!(
+        lifted,
+        [("a:b/run#go".to_owned(), RequiredOptions::empty())]
+    );
+
+    let (position, adapter, is_first, is_last) = as_there::adapter(&world, "old").expect("it");
+    assert_eq!((position, is_first, is_last), (0, true, true));
+    let [host, run, more] = [0, 1, 2].map(InterfaceId);
+    assert_eq!(as_there::uses(&world, host, TypeId(0), run), (true, false));
+    assert_eq!(as_there::uses(&world, more, TypeId(0), run), (false, true));
+
+    let required = world.info.imports.required_from_adapter("old");
+    let required = required
+        .iter()
+        .map(|(name, ty)| (name.clone(), ty.clone()))
+        .collect();
+    let (wasm, info) =
+        as_there::trimmed(&parts, OLD, &required, &["a:b/more"], None).expect("an adapter");
+    assert_eq!((&wasm, &info), (&adapter.wasm, &adapter.info));
+    let required = world.required_exports("old").expect("the adapter");
+    assert_eq!(required.collect::<Vec<_>>(), ["f", "a:b/more#stop"]);
+
+    let functions = as_there::imported_functions(MAIN).expect("a module");
+    let functions: Vec<_> = functions
+        .iter()
+        .map(|it| (&*it.1, it.2.to_string()))
+        .collect();
+    let wanted = [
+        ("hello", "(i32) -> ()"),
+        ("say", "(i32, i32) -> ()"),
+        ("f", "() -> ()"),
+    ];
+    assert_eq!(functions, wanted.map(|(name, ty)| (name, ty.to_owned())));
+    let explained = as_there::explained(&world, &parts).expect("paths");
+    let path = |name: &str| vec![format!("main imports a:b/host {name}")];
+    let wanted = ["hello", "say"].map(|name| (name.to_owned(), path(name)));
+    assert_eq!(explained, wanted);
+    assert_eq!(as_there::owned(world.adapters), [("old".to_owned(), wasm)]);
 }
 
 /// The blocks of code of the page are in the code that is compiled here, as they are.

@@ -1,8 +1,9 @@
 use Rattle.std.proofs.Common.{◌≡◌, ◌<◌, Bool, true, false, not, length, refl, sym, ap, ◌∙◌, arith, below_more}
+use Rattle.std.proofs.lemmas.List.{get_or_default}
 use Rattle.wc_read.specs.declared.types.ValType.TheVariants.{I32 as i32_type}
 use Rattle.wc_resolve.specs.declared.flat.WasmType.TheVariants.{I32}
 use Rattle.wc_names.specs.Imports.{val_type}
-use Rattle.wc_validate.proofs.ListLemmas.{any_default, same_by_index}
+use Rattle.wc_validate.proofs.ListLemmas.{same_by_index}
 use Rattle.wc_validate.proofs.SignatureLemmas.{vals_law}
 use Rattle.wc_validate.proofs.signatures.are_val_types.Goals as goal
 
@@ -16,8 +17,8 @@ loop-index-preserved c =
     let in_types : c.loop-index.index < length c.args.types.now = omega arith in
     let same = (vals_law c.val_type.result _).0 (not_false _ (sym c.if-ne.false ∙ c.ne.ensures)) in
     below_more _ _ c.loop-index.invariant
-    (λ d e. any_default c.args.types.now c.loop-index.index d i32_type in_types
-    ∙ (sym same ∙ (c.val_type.ensures ∙ ap val_type (any_default c.args.core.now c.loop-index.index I32 e in_core))))
+    (λ d e. get_or_default c.args.types.now c.loop-index.index d i32_type in_types
+    ∙ (sym same ∙ (c.val_type.ensures ∙ ap val_type (get_or_default c.args.core.now c.loop-index.index I32 e in_core))))
 
 pub returns : goal.returns
 returns c =

@@ -26,7 +26,7 @@ loop-name-init g c =
     record {
       said = said_start g.F.Form.shown (IsSaidAt g.F.Form.alone g.F.Form.saying w c.args.key.now) w.adapters (g.F.Form.printed c.args.out.now) _ (is ∙ all) fits;
       kept = refl;
-      nameable = subst (All (IsNamed w)) (sym (is ∙ all)) (of_adapters (IsNameable w.encoder.resolve) w c.requires);
+      nameable = subst (All (IsNamed w)) (sym (is ∙ all)) (of_adapters (IsNameable w.encoder.resolve) w c.requires.nameable);
     }
 
 pub overflow_add-index : goal.overflow_add-index

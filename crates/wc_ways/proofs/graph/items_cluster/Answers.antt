@@ -1,9 +1,8 @@
 use Rattle.std.proofs.Common.{◌≡◌, ◌∙◌, Some, String, Global, refl, rules, string_bytes}
 use Rattle.std.proofs.lemmas.Result.{IfOk-weaker}
 use Rattle.wc_why.specs.Lines.{importer_text}
-use Rattle.wc_ways.specs.Nodes.{cluster_text}
 use Rattle.wc_ways.specs.Private.Graph.{IsItemsCluster}
-use Rattle.wc_ways.specs.Words.{adapter_id}
+use Rattle.wc_ways.specs.Words.{adapter_id, cluster_text}
 use Rattle.wc_ways.proofs.graph.items_cluster.Goals as goal
 
 pub returns : goal.returns

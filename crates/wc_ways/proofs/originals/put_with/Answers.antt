@@ -12,6 +12,7 @@ put_walk-requires g c = record {
       c.args.chains.now c.in-Ok.ensures.found c.requires.chains;
   wanted = c.in_ok-wanted.ensures;
   nameable = c.requires.nameable;
+  main = c.requires.main;
 }
 
 pub returns-clause-said : goal.returns-clause-said

@@ -1,14 +1,6 @@
-use Rattle.std.proofs.Common.{refl}
-use Rattle.wc_world.specs.WorldViews.{world_view}
-use Rattle.wc_ways.specs.Said.{AreAllSaid, IsAllSaid, main_said}
-use Rattle.wc_ways.specs.Types.{types_said}
-use Rattle.wc_ways.proofs.WalkLemmas.{says_between}
+use Rattle.std.proofs.Common.{subst}
+use Rattle.wc_ways.specs.Private.MainPaths.{AreMainPaths}
 use Rattle.wc_ways.proofs.ways.put_all.Goals as goal
 
-pub returns-in-Ok-clause-said : goal.returns-in-Ok-clause-said
-returns-in-Ok-clause-said g c =
-    let w = world_view c.args.world.now in
-    let key = c.args.key.now in
-    says_between g.F.Form.shown (AreAllSaid g.F.Form.alone g.F.Form.saying w key) (IsAllSaid g.F.Form.alone g.F.Form.saying g.F.Form.typed w key)
-    (main_said g.F.Form.alone w key) (types_said g.F.Form.typed w key) _ _ _ _ c.in_ok-put_main.ensures.said c.in_ok-put_adapters.ensures.said c.in-Ok.ensures.said
-    (λ parts are. (parts, are, refl))
+pub put_modules-requires-clause-main : goal.put_modules-requires-clause-main
+put_modules-requires-clause-main g c = subst (λ b. AreMainPaths b c.in_ok-main.main) c.«module».ensures c.in_ok-main.ensures

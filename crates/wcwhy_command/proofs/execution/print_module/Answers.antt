@@ -1,5 +1,8 @@
 use Rattle.wc_program.specs.Screen.{Becomes, output_ends}
-use Rattle.std.proofs.Common.{refl}
+use Rattle.std.proofs.Common.{map, refl, subst}
+use Rattle.wc_import_paths.specs.Followed.{IsSource}
+use Rattle.wc_import_paths.specs.Following.{IsRefusal}
+use Rattle.wc_why.specs.Paths.{text_of}
 use Rattle.wcwhy_command.specs.Arguments.{command_view}
 use Rattle.wcwhy_command.proofs.ExecutionLemmas.{refused_cause, some_source_cause, source_of}
 use Rattle.wcwhy_command.proofs.execution.print_module.Goals as goal
@@ -10,14 +13,18 @@ print_followed-requires g c = c.in-Ok.ensures.source.has_paths
 pub returns-in-Ok-clause-done : goal.returns-in-Ok-clause-done
 returns-in-Ok-clause-done g c =
     let out = Becomes (output_ends g.O.Sink.written g.O.Output.sent g.O.Sink.is_failed) c.args.out.now c.print_followed.new.out in
-    source_of (command_view c.args.command.now) c.args.bytes.now c.in-Ok.followed c.in-Ok.ensures.source out c.print_followed.result c.print_followed.ensures.done
+    let source = subst (λ es. IsSource c.args.bytes.now (map text_of es) c.in-Ok.followed) c.deref.ensures.value c.in-Ok.ensures.source in
+    source_of (command_view c.args.command.now) c.args.bytes.now c.in-Ok.followed source out c.print_followed.result c.print_followed.ensures.done
 
 pub returns-in-Ok-clause-fault : goal.returns-in-Ok-clause-fault
 returns-in-Ok-clause-fault g c =
     let out = Becomes (output_ends g.O.Sink.written g.O.Output.sent g.O.Sink.is_failed) c.args.out.now c.print_followed.new.out in
-    some_source_cause (command_view c.args.command.now) c.args.bytes.now c.in-Ok.followed c.in-Ok.ensures.source out c.print_followed.result c.print_followed.ensures.fault
+    let source = subst (λ es. IsSource c.args.bytes.now (map text_of es) c.in-Ok.followed) c.deref.ensures.value c.in-Ok.ensures.source in
+    some_source_cause (command_view c.args.command.now) c.args.bytes.now c.in-Ok.followed source out c.print_followed.result c.print_followed.ensures.fault
 
 pub returns-in-Err-clause-fault : goal.returns-in-Err-clause-fault
 returns-in-Err-clause-fault g c =
     let out = Becomes (output_ends g.O.Sink.written g.O.Output.sent g.O.Sink.is_failed) c.args.out.now c.args.out.now in
-    rw c.from.ensures (refused_cause (command_view c.args.command.now) c.args.bytes.now out c.in-Err.refusal.fault c.in-Err.refusal.place refl c.in-Err.ensures.refused)
+    let r = c.in-Err.refusal in
+    let refused = subst (λ es. IsRefusal c.args.bytes.now (map text_of es) r.fault r.place) c.deref.ensures.value c.in-Err.ensures.refused in
+    refused_cause (command_view c.args.command.now) c.args.bytes.now out r.fault r.place c.source_fault.result refl refused c.source_fault.ensures

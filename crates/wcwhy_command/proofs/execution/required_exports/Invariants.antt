@@ -1,7 +1,7 @@
 use Rattle.std.proofs.Common.{◌≡◌, map, take}
 use Rattle.wc_gc.specs.LiveItems.{names_of}
 use Rattle.wc_texts.specs.Names.{first_occurrences}
-use Rattle.wcwhy_command.specs.Arguments.{text_of}
+use Rattle.wc_why.specs.Paths.{text_of}
 use Rattle.wcwhy_command.proofs.execution.required_exports.Given as goal
 
 abbrev pub invariant-loop-export : goal.invariant-loop-export

@@ -2,7 +2,7 @@ use Rattle.std.proofs.Common.{◌∙◌, ap, map, rules, subst, sym}
 use Rattle.wc_read.specs.Imports.{import_value}
 use Rattle.wc_why.specs.Marks.{AreMarks}
 use Rattle.wc_why.proofs.ItemLemmas.{inside_of}
-use Rattle.wcwhy_command.specs.Patterns.{is_shown}
+use Rattle.wc_import_paths.specs.Patterns.{is_shown}
 use Rattle.wcwhy_command.specs.Private.Reasons.{adapter_in, required_in}
 use Rattle.wcwhy_command.proofs.GraphLemmas.{graph_made}
 use Rattle.wcwhy_command.proofs.graph.graph.Goals as goal

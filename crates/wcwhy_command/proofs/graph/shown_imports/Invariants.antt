@@ -1,6 +1,6 @@
 use Rattle.std.proofs.Common.{◌≡◌, map, take}
 use Rattle.wc_read.specs.Imports.{import_value}
-use Rattle.wcwhy_command.specs.Patterns.{is_shown}
+use Rattle.wc_import_paths.specs.Patterns.{is_shown}
 use Rattle.wcwhy_command.proofs.graph.shown_imports.Given as goal
 
 abbrev pub invariant-loop-import : goal.invariant-loop-import

@@ -2,8 +2,8 @@ use Rattle.std.proofs.Common.{◌∙◌, ap, subst, sym}
 use Rattle.std.specs.Option.{option_map}
 use Rattle.wc_read.specs.Imports.{import_value}
 use Rattle.wc_why.specs.Paths.{path_view}
-use Rattle.wcwhy_command.specs.Private.Followed.{IsPathIn}
-use Rattle.wcwhy_command.proofs.ItemLemmas.{followed_import}
+use Rattle.wc_import_paths.specs.Followed.{IsPathIn}
+use Rattle.wc_import_paths.proofs.ItemLemmas.{followed_import}
 use Rattle.wcwhy_command.proofs.LineLemmas.{reached_lines, unreached_lines}
 use Rattle.wcwhy_command.proofs.lines.import_text.Goals as goal
 

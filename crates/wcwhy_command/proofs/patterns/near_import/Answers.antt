@@ -1,8 +1,8 @@
 use Rattle.std.proofs.Common.{◌∙◌, sym}
 use Rattle.wc_read.specs.Imports.{import_value}
-use Rattle.wcwhy_command.specs.Arguments.{pattern_view}
+use Rattle.wc_import_paths.specs.Patterns.{pattern_view}
 use Rattle.wcwhy_command.specs.Patterns.{is_near}
-use Rattle.wcwhy_command.proofs.PatternLemmas.{found_here, none_more}
+use Rattle.wc_import_paths.proofs.SearchLemmas.{found_here, none_more}
 use Rattle.wcwhy_command.proofs.patterns.near_import.Goals as goal
 
 pub returns-then-is_near : goal.returns-then-is_near

@@ -1,6 +1,6 @@
 use Rattle.std.proofs.Common.{◌≡◌, None, map, take}
 use Rattle.wc_read.specs.Imports.{import_value}
-use Rattle.wcwhy_command.specs.Arguments.{pattern_view}
+use Rattle.wc_import_paths.specs.Patterns.{pattern_view}
 use Rattle.wcwhy_command.specs.Patterns.{near_import}
 use Rattle.wcwhy_command.proofs.patterns.near_import.Given as goal
 

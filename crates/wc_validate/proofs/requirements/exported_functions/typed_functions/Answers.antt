@@ -1,9 +1,9 @@
 use Rattle.std.proofs.Common.{◌<◌}
+use Rattle.std.proofs.lemmas.List.{get_or_default}
 use Rattle.wc_read.specs.Exports.{ExportValue, export_value}
 use Rattle.wc_read.specs.Modules.{count_of, module_value}
 use Rattle.wc_resolve.proofs.ViewedLemmas.{all_unviewed}
 use Rattle.wc_validate.proofs.ExportedFunctionLemmas.{index_none, typed_next}
-use Rattle.wc_validate.proofs.ListLemmas.{any_default}
 use Rattle.wc_validate.proofs.requirements.exported_functions.typed_functions.Goals as goal
 
 pub loop-export-init : goal.loop-export-init
@@ -17,5 +17,5 @@ exported_type-ty-requires-clause-item c =
 pub loop-export-preserved : goal.loop-export-preserved
 loop-export-preserved c =
     typed_next (module_value c.args.module.now) c.args.exports.now c.loop-export.export-index _ _ _ c.loop-export-test.true
-    (any_default c.args.exports.now c.loop-export.export-index _ _ c.loop-export-test.true) c.exported_type-ty.ensures
+    (get_or_default c.args.exports.now c.loop-export.export-index _ _ c.loop-export-test.true) c.exported_type-ty.ensures
     (c.in_ok-add_typed.ensures _ c.loop-export.invariant)

@@ -1,0 +1,143 @@
+"""Chromium and Firefox without a window, which open an address and evaluate expressions there.
+
+Chromium is asked over a pipe, in the protocol of its developer tools; Firefox over a port of this machine, by Marionette.
+"""
+import json
+import os
+import shutil
+import socket
+import subprocess
+import time
+
+SECONDS = 300
+
+
+class Failed(Exception):
+    """A browser does not do what it is asked."""
+
+
+class Chromium:
+    """A chromium of a fresh profile, in a folder."""
+
+    name, programs = "chromium", ("chromium", "chromium-browser", "google-chrome")
+
+    def __init__(self, program, folder):
+        (given, self.to), (self.answers, taken) = os.pipe(), os.pipe()
+        words = [program, "--headless", "--no-sandbox", "--disable-gpu", "--remote-debugging-pipe", "--user-data-dir=" + folder, "about:blank"]
+        # the pipe has the numbers 3 and 4 there
+        lines = 'exec 3<&%d 4>&%d; exec "$@"' % (given, taken)
+        how = {"stdout": subprocess.DEVNULL, "stderr": subprocess.DEVNULL, "pass_fds": (given, taken)}
+        self.process = subprocess.Popen(["bash", "-c", lines, "bash", *words], **how)
+        os.close(given)
+        os.close(taken)
+        self.rest, self.count, self.session = b"", 0, None
+        target = next(it for it in self.call("Target.getTargets")["targetInfos"] if it["type"] == "page")["targetId"]
+        self.session = self.call("Target.attachToTarget", targetId=target, flatten=True)["sessionId"]
+
+    def call(self, method, **parameters):
+        self.count += 1
+        message = {"id": self.count, "method": method, "params": parameters, **({"sessionId": self.session} if self.session else {})}
+        os.write(self.to, json.dumps(message).encode() + b"\0")
+        while True:
+            while b"\0" not in self.rest:
+                chunk = os.read(self.answers, 1 << 16)
+                if not chunk:
+                    raise Failed("chromium has ended")
+                self.rest += chunk
+            text, _, self.rest = self.rest.partition(b"\0")
+            answer = json.loads(text)
+            if answer.get("id") == self.count:
+                if "error" in answer:
+                    raise Failed(answer["error"]["message"])
+                return answer["result"]
+
+    def open(self, address):
+        self.call("Page.navigate", url=address)
+
+    def ask(self, expression):
+        """The value of an expression, which is JSON."""
+        answer = self.call("Runtime.evaluate", expression=expression, returnByValue=True)
+        if "exceptionDetails" in answer:
+            raise Failed(json.dumps(answer["exceptionDetails"])[:500])
+        return answer["result"].get("value")
+
+    def close(self):
+        self.process.kill()
+        self.process.wait()
+        os.close(self.to)
+        os.close(self.answers)
+
+
+class Firefox:
+    """A firefox of a fresh profile, in a folder."""
+
+    name, programs = "firefox", ("firefox-esr", "firefox")
+
+    def __init__(self, program, folder):
+        with socket.socket() as free:
+            free.bind(("127.0.0.1", 0))
+            port = free.getsockname()[1]
+        with open(os.path.join(folder, "user.js"), "w", encoding="utf-8") as file:
+            file.write('user_pref("marionette.port", %d);\n' % port)
+        words = [program, "--headless", "--no-remote", "--marionette", "--profile", folder]
+        self.process = subprocess.Popen(words, stdout=subprocess.DEVNULL, stderr=subprocess.DEVNULL)
+        self.count, self.rest, self.socket = 0, b"", self.connected(port)
+        # it says first who it is
+        self.message()
+        self.call("WebDriver:NewSession")
+
+    def connected(self, port):
+        end = time.monotonic() + SECONDS
+        while time.monotonic() < end and self.process.poll() is None:
+            try:
+                return socket.create_connection(("127.0.0.1", port), timeout=SECONDS)
+            except OSError:
+                time.sleep(0.2)
+        raise Failed("firefox does not answer")
+
+    def message(self):
+        while True:
+            length, found, rest = self.rest.partition(b":")
+            if found and len(rest) >= int(length):
+                self.rest = rest[int(length):]
+                return json.loads(rest[:int(length)])
+            chunk = self.socket.recv(1 << 16)
+            if not chunk:
+                raise Failed("firefox has ended")
+            self.rest += chunk
+
+    def call(self, method, **parameters):
+        self.count += 1
+        text = json.dumps([0, self.count, method, parameters]).encode()
+        self.socket.sendall(b"%d:%s" % (len(text), text))
+        _, _, fault, result = self.message()
+        if fault:
+            raise Failed(fault["message"])
+        return result
+
+    def open(self, address):
+        self.call("WebDriver:Navigate", url=address)
+
+    def ask(self, expression):
+        """The value of an expression, which is JSON."""
+        return self.call("WebDriver:ExecuteScript", script="return " + expression, args=[])["value"]
+
+    def close(self):
+        self.socket.close()
+        self.process.kill()
+        self.process.wait()
+
+
+def program_of(browser):
+    """The program of a browser; None where there is none."""
+    return next(filter(None, map(shutil.which, browser.programs)), None)
+
+
+def waited(browser, expression):
+    """Waits until an expression is true."""
+    end = time.monotonic() + SECONDS
+    while time.monotonic() < end:
+        if browser.ask(expression):
+            return
+        time.sleep(0.1)
+    raise Failed("not after %d seconds: %s" % (SECONDS, expression))

@@ -1,0 +1,77 @@
+-- The paths to imports, written one after another.
+use Rattle.std.proofs.Common.{◌≡◌, ℕ, ◌+◌, List, [], ◌∷◌, ◌++◌, codes, Global, Result, Ok, Err, OnOk, IfOk, refl, sym, ◌∙◌, ap, subst, append_assoc, append-nil}
+use Rattle.std.proofs.lemmas.List.Concat.{flat_map-append}
+use Rattle.std.specs.List.{flat_map}
+use Rattle.std.specs.declared.vec.Vec.{Vec}
+use Rattle.json.specs.Lex.{tokens}
+use Rattle.json.specs.Print.{print}
+use Rattle.json.specs.Token.{Token}
+use Rattle.json.specs.Tree.{json_tokens}
+use Rattle.json.specs.Written.{Written}
+use Rattle.wc_read.specs.Modules.{module_value}
+use Rattle.std.specs.Prelude.{length}
+use Rattle.wc_why.specs.Joined.{AreJoined}
+use Rattle.wc_why.specs.JsonPaths.{begun_tokens, ended_tokens, path_json, paths_json}
+use Rattle.wc_why.specs.Paths.{PathView}
+use Rattle.wc_why.proofs.JoinedLemmas.{none_joined, one_joined}
+use Rattle.wc_why.proofs.TokenLemmas.{paths_tokens}
+use Rattle.wc_import_paths.specs.JsonPaths.{IsWayAt}
+use Rattle.wc_import_paths.specs.Patterns.{PatternView}
+use Rattle.wc_import_paths.specs.Followed.{IsJsonIn, followed_view}
+use Rattle.wc_import_paths.specs.Private.Followed.{IsWrittenAt}
+use Rattle.wc_import_paths.specs.declared.followed.Followed.{Followed}
+
+abbrev pub tokens_all : List PathView → List Token
+tokens_all paths = flat_map (λ p. json_tokens (path_json p)) paths
+
+module _ (f : Followed) (patterns : List PatternView) where
+  -- the paths to imports below n were written
+  pub record AreWritten (n : ℕ) (w : Written) : Type 0 where
+    pub paths : List PathView
+    pub are : AreJoined n (IsWayAt (followed_view f) patterns) paths
+    pub before : w.before ≡ []
+    pub tokens : w.tokens ≡ begun_tokens ++ tokens_all paths
+
+  pub none_written : (w : Written) → w.tokens ≡ begun_tokens → w.before ≡ [] → AreWritten 0 w
+  none_written w begun none = record {
+    paths = [];
+    are = none_joined (IsWayAt (followed_view f) patterns);
+    before = none;
+    tokens = begun ∙ sym (append-nil begun_tokens);
+  }
+
+  pub one_written : (n : ℕ) (old new : Written) → AreWritten n old → IsWrittenAt f patterns n old new → AreWritten (n + 1) new
+  one_written n old new w (paths, way, before, more) = record {
+    paths = w.paths ++ paths;
+    are = one_joined n (IsWayAt (followed_view f) patterns) w.paths paths w.are way;
+    before = before ∙ w.before;
+    tokens = more ∙ (ap (λ z. z ++ tokens_all paths) w.tokens
+        ∙ (append_assoc begun_tokens (tokens_all w.paths) (tokens_all paths)
+        ∙ ap (λ z. begun_tokens ++ z) (sym (flat_map-append (λ p. json_tokens (path_json p)) w.paths paths))));
+  }
+
+  pub all_written : (w : Written) (text : List ℕ) → AreWritten (length (module_value f.code).imports) w
+      → text ≡ w.before ++ (print (ended_tokens w.tokens) ++ codes "\n") → tokens (print (ended_tokens w.tokens)) ≡ ended_tokens w.tokens → IsJsonIn f patterns text
+  all_written w text a is back =
+      let all : ended_tokens w.tokens ≡ json_tokens (paths_json a.paths) = ap ended_tokens a.tokens ∙ paths_tokens a.paths in
+      record {
+        paths = a.paths;
+        are = a.are;
+        is = is ∙ (ap (λ z. z ++ (print (ended_tokens w.tokens) ++ codes "\n")) a.before ∙ ap (λ z. print z ++ codes "\n") all);
+        back = ap (λ z. tokens (print z)) (sym all) ∙ (back ∙ all);
+      }
+
+  pub json_ended : {E : Type 0} (r : Result (Vec ℕ Global) E) (w : Written) (n : ℕ) → n ≡ length (module_value f.code).imports → AreWritten n w
+      → IfOk r (λ v. v.items ≡ w.before ++ (print (ended_tokens w.tokens) ++ codes "\n"))
+      → IfOk r (λ v. tokens (print (ended_tokens w.tokens)) ≡ ended_tokens w.tokens) → IfOk r (λ v. IsJsonIn f patterns v.items)
+  json_ended (Ok v) w n all a is back = all_written w v.items (subst (λ k. AreWritten k w) all a) is back
+  json_ended (Err e) w n all a is back = tt
+
+  -- one import
+  pub nothing_written : (n : ℕ) (w : Written) → IsWayAt (followed_view f) patterns n [] → IsWrittenAt f patterns n w w
+  nothing_written n w way = ([], way, refl, sym (append-nil w.tokens))
+
+  pub path_written : {E : Type 0} (n : ℕ) (old new : Written) (p : PathView) (r : Result (Unit {0}) E) → IsWayAt (followed_view f) patterns n (p ∷ [])
+      → OnOk r (new.tokens ≡ old.tokens ++ json_tokens (path_json p)) → OnOk r (new.before ≡ old.before) → OnOk r (IsWrittenAt f patterns n old new)
+  path_written n old new p (Ok u) way put kept = (p ∷ [], way, kept, put ∙ ap (λ z. old.tokens ++ z) (sym (append-nil (json_tokens (path_json p)))))
+  path_written n old new p (Err e) way put kept = tt

@@ -1,0 +1,12 @@
+use Rattle.std.proofs.Common.{◌≡◌, None, map, take}
+use Rattle.wc_read.specs.Exports.{export_value}
+use Rattle.wc_gc.specs.Exports.{export_entries, missing_name}
+use Rattle.wc_why.specs.Paths.{text_of}
+use Rattle.wc_import_paths.specs.Roots.{exports_named}
+use Rattle.wc_import_paths.proofs.roots.exports_named.Given as goal
+
+abbrev pub invariant-loop-name : goal.invariant-loop-name
+invariant-loop-name l = record {
+  found : map export_value l.found.items ≡ exports_named (export_entries l.named.entries) (map text_of (take l.name-index l.names));
+  there : missing_name (export_entries l.named.entries) (map text_of (take l.name-index l.names)) ≡ None;
+}

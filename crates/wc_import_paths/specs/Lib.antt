@@ -1,0 +1,6 @@
+pub mod Patterns
+pub mod Roots
+pub mod Following
+pub mod JsonPaths
+pub mod Followed
+pub mod Private

@@ -1,0 +1,75 @@
+-- Why a module can't be followed, step by step, and what is written of one that is followed.
+use Rattle.std.specs.Prelude.{◌≡◌, ⊤, ℕ, List, ◌++◌, MatchOption, Option, Some, None, string_bytes}
+use Rattle.std.specs.List.{flat_map}
+use Rattle.std.specs.Option.{option_map}
+use Rattle.json.specs.Tree.{json_tokens}
+use Rattle.json.specs.Written.{Written}
+use Rattle.wc_read.specs.Exports.{ExportValue}
+use Rattle.wc_read.specs.Imports.{ImportValue}
+use Rattle.wc_read.specs.Modules.{ModuleValue}
+use Rattle.wc_read.specs.Place.{IsPlaceIn}
+use Rattle.wc_read.specs.declared.fault.ReadFault.{ReadFault}
+use Rattle.wc_read.specs.declared.place.ReadPlace.{ReadPlace}
+use Rattle.wc_gc.specs.Exports.{missing_name}
+use Rattle.wc_gc.specs.Fault.{of_read}
+use Rattle.wc_gc.specs.LiveItems.{IsUnread}
+use Rattle.wc_gc.specs.declared.fault.GcFault.{GcFault}
+use Rattle.wc_gc.specs.declared.fault.GcFault.TheVariants.{Memory, Read, MissingExport, LiveBody}
+use Rattle.wc_gc.specs.declared.trim_place.TrimPlace.{TrimPlace}
+use Rattle.wc_gc.specs.declared.trim_place.TrimPlace.TheVariants.{Bytes, Section}
+use Rattle.wc_segments.specs.Segments.{IsRefused}
+use Rattle.wc_segments.specs.declared.segments.SegmentSection.{SegmentSection}
+use Rattle.wc_paths.specs.Items.{GraphValue}
+use Rattle.wc_paths.specs.PathRoots.{IsPathRoot, RootView}
+use Rattle.wc_paths.specs.Paths.{IsPathFault}
+use Rattle.wc_paths.specs.declared.items.PathItem.{PathItem}
+use Rattle.wc_paths.specs.declared.paths.Path.{Path}
+use Rattle.wc_paths.specs.declared.paths.PathFault.TheVariants.{LiveBody as live_body}
+use Rattle.wc_why.specs.JsonPaths.{path_json}
+use Rattle.wc_why.specs.Paths.{PathView}
+use Rattle.wc_import_paths.specs.Followed.{followed_view}
+use Rattle.wc_import_paths.specs.Following.{body_place, section_id}
+use Rattle.wc_import_paths.specs.JsonPaths.{IsWayAt, import_path}
+use Rattle.wc_import_paths.specs.Patterns.{PatternView}
+use Rattle.wc_import_paths.specs.declared.followed.Followed.{Followed}
+
+-- refusals of each step
+
+abbrev pub IsUnreadRefusal : ReadFault → Option ReadPlace → GcFault → Option TrimPlace → Type 0
+IsUnreadRefusal f place fault at = (fault ≡ of_read f) × (at ≡ option_map (λ p. Bytes p) place)
+
+abbrev pub IsReadRefusal : List ℕ → GcFault → Option TrimPlace → Type 0
+IsReadRefusal bytes Memory place = ⊤
+IsReadRefusal bytes (Read f) place = IsUnread bytes f × (p : ReadPlace) × IsPlaceIn bytes p × (place ≡ Some (Bytes p))
+IsReadRefusal bytes f place = ⊥
+
+abbrev pub IsUnreadSegments : ReadFault → Option SegmentSection → GcFault → Option TrimPlace → Type 0
+IsUnreadSegments f place fault at = MatchOption place (fault ≡ Memory) (λ section. (fault ≡ Read f) × (at ≡ Some (Section (section_id section))))
+
+abbrev pub IsSegmentsRefusal : ModuleValue → List ℕ → GcFault → Option TrimPlace → Type 0
+IsSegmentsRefusal m bytes Memory place = ⊤
+IsSegmentsRefusal m bytes (Read f) place =
+    (section : SegmentSection) × IsRefused m bytes f (Some section) × (place ≡ Some (Section (section_id section)))
+IsSegmentsRefusal m bytes f place = ⊥
+
+abbrev pub IsExportRefusal : List ExportValue → List (List ℕ) → GcFault → Option TrimPlace → Type 0
+IsExportRefusal exports names Memory place = ⊤
+IsExportRefusal exports names (MissingExport name) place = (missing_name exports names ≡ Some (string_bytes name)) × (place ≡ None)
+IsExportRefusal exports names f place = ⊥
+
+abbrev pub IsPathsRefusal : GraphValue → List PathItem → List PathItem → GcFault → Option TrimPlace → Type 0
+IsPathsRefusal g first second Memory place = ⊤
+IsPathsRefusal g first second LiveBody place = (n : ℕ) × IsPathFault g first second (live_body n) × (place ≡ body_place n)
+IsPathsRefusal g first second f place = ⊥
+
+-- the paths to the import at a position were written
+abbrev pub IsWrittenAt : Followed → List PatternView → ℕ → Written → Written → Type 0
+IsWrittenAt f patterns position old new =
+    (paths : List PathView) × IsWayAt (followed_view f) patterns position paths
+    × (new.before ≡ old.before) × (new.tokens ≡ old.tokens ++ flat_map (λ p. json_tokens (path_json p)) paths)
+
+-- the path by which a path in the module is shown
+abbrev pub IsShownPath : Followed → ImportValue → Path → PathView → Type 0
+IsShownPath f i p shown =
+    (root : RootView) × IsPathRoot (followed_view f).exports (followed_view f).segments p.is_second p.items.items root
+    × (shown ≡ import_path (followed_view f).names i root p.items.items)

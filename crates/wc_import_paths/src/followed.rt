@@ -1,0 +1,243 @@
+//! A module that is followed: what it has, and the paths in it.
+
+ghost use Rattle.std.specs.Prelude.{◌≡◌, ◌≢◌, AllPairs, IfErr, IfOk, IsOk, None, map};
+ghost use Rattle.std.specs.Option.{option_map};
+ghost use Rattle.wc_read.specs.Exports.{export_value};
+ghost use Rattle.wc_read.specs.Modules.{SpellsModule, module_value};
+ghost use Rattle.wc_read.specs.Names.{name_entries};
+ghost use Rattle.wc_read.specs.Reading.Names.{AreFunctionNames};
+ghost use Rattle.wc_gc.specs.Exports.{missing_name};
+ghost use Rattle.wc_gc.specs.declared.trim_place.TrimPlace.TheVariants.{Bytes};
+ghost use Rattle.wc_segments.specs.Segments.{SpellsSegments, segments_value};
+ghost use Rattle.wc_paths.specs.Paths.{AreClosed, ArePaths, IsReachedInAny, graph_in};
+ghost use Rattle.wc_paths.specs.Roots.{roots_of, second_roots};
+ghost use Rattle.wc_why.specs.Paths.{text_of};
+ghost use Rattle.wc_import_paths.specs.Following.{IsRefusal, body_place, section_id};
+ghost use Rattle.wc_import_paths.specs.Roots.{exports_for};
+ghost use Rattle.wc_import_paths.specs.Followed.{IsSource};
+ghost use Rattle.wc_import_paths.specs.Private.Followed.{IsExportRefusal, IsPathsRefusal, IsReadRefusal, IsSegmentsRefusal, IsUnreadRefusal, IsUnreadSegments};
+
+use crate::roots::exports_for;
+use std::alloc::{AllocError, Global};
+use wc_gc::{GcFault, TrimPlace};
+use wc_maps::{OrderedMap, Seed};
+use wc_paths::{PathFault, PathItem, PathRoots, Paths, import_items, roots_of, second_roots};
+use wc_read::codes::{DATA_COUNT_ID, DATA_ID, ELEMENT_ID};
+use wc_read::{Export, Module, ReadFault, ReadPlace, function_names, read_module_explained};
+use wc_segments::{SegmentSection, Segments, read_segments};
+use wc_texts::Refused;
+
+/// A module, its segments, and the paths in it.
+#[derive(Drop)]
+pub struct Followed<'r> {
+    /// The module.
+    pub code: Module<'r>,
+    /// Its segments.
+    pub segments: Segments<'r>,
+    /// The exports at which paths may begin, in order.
+    pub roots: PathRoots<'r>,
+    /// The paths from these, the start function and the active segments.
+    pub paths: Paths,
+    /// For each import its item.
+    pub items: Vec<PathItem>,
+    /// The names of functions.
+    pub names: OrderedMap<u32, &'r str>,
+}
+
+/// Why a module can't be followed, and where: `Read` of bytes that are no module, or of a section of segments that can't be
+/// read; `MissingExport`; `LiveBody` of a function; or `Memory`.
+pub type Refusal = Refused<GcFault, TrimPlace>;
+
+/// Reads the module with these bytes, and finds the paths in it: from its exports of these names, in their order, or from
+/// all in the order of the module, where there are none, and from the start function; and only where none of these leads to
+/// an item, from the active segments (`wc_paths`). `seed`: the seed of the map that is made.
+///
+/// It takes time and memory linear in the module and in the names.
+///
+/// # Errors
+///
+/// Of several causes the first in this order is named; `Memory` may come in place of any.
+///
+/// - `Read`: the bytes are no module, with the byte at which they stop to be one; or a section of segments can't be read,
+///   with this section.
+/// - `MissingExport`: a name is not exported; the first such, without a place.
+/// - `LiveBody`: the body of a function that a path reaches is no code, or names what is not there. Its place is this
+///   function.
+/// - `Memory`: an allocation failed.
+pub fn follow<'r>(
+    alloc: Global,
+    seed: Seed,
+    bytes: &'r [u8],
+    export_names: &[&str],
+) -> Result<Followed<'r>, Refusal>
+    ensures source { IfOk result (IsSource bytes.now (map text_of export_names.now)) }
+    ensures refused { IfErr result (λ r.
+        IsRefusal bytes.now (map text_of export_names.now) r.fault r.place) }
+{
+    let code = read(alloc, bytes)?;
+    let segments = segments_of(alloc, bytes, &code)?;
+    let exports = asked_exports(alloc, seed, export_names, &code)?;
+    let paths = paths_from(alloc, &code, &segments, &exports)?;
+    let roots = PathRoots::new(alloc, &paths, exports)?;
+    let items = import_items(alloc, &code.imports)?;
+    let names = names_of(alloc, bytes)?;
+    Ok(Followed {
+        code,
+        segments,
+        roots,
+        paths,
+        items,
+        names,
+    })
+}
+
+/// Reads a module.
+fn read(alloc: Global, bytes: &[u8]) -> Result<Module<'_>, Refusal>
+    ensures found { IfOk result (λ m. SpellsModule bytes.now (module_value m)) }
+    ensures refused { IfErr result (λ r. IsReadRefusal bytes.now r.fault r.place) }
+{
+    match read_module_explained(alloc, bytes) {
+        Ok(code) => Ok(code),
+        Err(refused) => Err(unread(refused)),
+    }
+}
+
+/// The refusal of bytes that are no module.
+fn unread(refused: Refused<ReadFault, ReadPlace>) -> Refusal
+    ensures { IsUnreadRefusal refused.fault refused.place result.fault result.place }
+{
+    Refused {
+        fault: GcFault::from(refused.fault),
+        place: bytes_place(refused.place),
+    }
+}
+
+/// The place of a byte.
+fn bytes_place(place: Option<ReadPlace>) -> Option<TrimPlace>
+    ensures { result ≡ option_map (λ p. Bytes p) place }
+{
+    match place {
+        Some(place) => Some(TrimPlace::Bytes(place)),
+        None => None,
+    }
+}
+
+/// Reads the segments of a module.
+fn segments_of<'r>(
+    alloc: Global,
+    bytes: &'r [u8],
+    code: &Module<'_>,
+) -> Result<Segments<'r>, Refusal>
+    ensures found { IfOk result
+        (λ s. SpellsSegments (module_value code.now) bytes.now (segments_value s)) }
+    ensures refused { IfErr result (λ r.
+        IsSegmentsRefusal (module_value code.now) bytes.now r.fault r.place) }
+{
+    match read_segments(alloc, bytes, code) {
+        Ok(segments) => Ok(segments),
+        Err(refused) => Err(unread_segments(refused)),
+    }
+}
+
+/// The refusal of segments that can't be read.
+fn unread_segments(refused: Refused<ReadFault, SegmentSection>) -> Refusal
+    ensures { IsUnreadSegments refused.fault refused.place result.fault result.place }
+{
+    match refused.place {
+        Some(section) => Refused {
+            fault: GcFault::Read(refused.fault),
+            place: Some(TrimPlace::Section {
+                id: section_id(section),
+            }),
+        },
+        // The bytes are those of a module: an allocation failed.
+        None => Refused::without_place(GcFault::Memory),
+    }
+}
+
+/// The id of a section of segments.
+fn section_id(section: SegmentSection) -> u8
+    ensures { result ≡ section_id section }
+{
+    match section {
+        SegmentSection::Elements => ELEMENT_ID,
+        SegmentSection::DataCount => DATA_COUNT_ID,
+        SegmentSection::Data => DATA_ID,
+    }
+}
+
+/// The exports at which paths may begin.
+fn asked_exports<'r>(
+    alloc: Global,
+    seed: Seed,
+    names: &[&str],
+    code: &Module<'r>,
+) -> Result<Vec<Export<'r>>, Refusal>
+    requires { AllPairs (λ x y. x ≢ y) (map (λ e. e.name) (module_value code.now).exports) }
+    ensures found { IfOk result (λ v. map export_value v.items
+        ≡ exports_for (map text_of names.now) (module_value code.now).exports) }
+    ensures there { IsOk result → missing_name (module_value code.now).exports
+        (map text_of names.now) ≡ None }
+    ensures refused { IfErr result (λ r. IsExportRefusal (module_value code.now).exports
+        (map text_of names.now) r.fault r.place) }
+{
+    match exports_for(alloc, seed, names, &code.exports) {
+        Ok(exports) => Ok(exports),
+        Err(fault) => Err(Refused::without_place(fault)),
+    }
+}
+
+/// The paths from these exports, the start function and the active segments.
+fn paths_from(
+    alloc: Global,
+    code: &Module<'_>,
+    segments: &Segments<'_>,
+    exports: &[Export<'_>],
+) -> Result<Paths, Refusal>
+    ensures paths { IfOk result (ArePaths (graph_in code.now segments.now)
+        (roots_of (map export_value exports.now) code.now.start)
+        (second_roots (segments_value segments.now))) }
+    ensures closed { IsOk result → AreClosed (graph_in code.now segments.now)
+        (IsReachedInAny (graph_in code.now segments.now)
+        (roots_of (map export_value exports.now) code.now.start)
+        (second_roots (segments_value segments.now))) }
+    ensures refused { IfErr result (λ r. IsPathsRefusal (graph_in code.now segments.now)
+        (roots_of (map export_value exports.now) code.now.start)
+        (second_roots (segments_value segments.now)) r.fault r.place) }
+{
+    let first = roots_of(alloc, exports, code.start)?;
+    let second = second_roots(alloc, segments)?;
+    match Paths::find(alloc, code, segments, &first, &second) {
+        Ok(paths) => Ok(paths),
+        Err(PathFault::Memory) => Err(Refused::without_place(GcFault::Memory)),
+        Err(PathFault::LiveBody(function)) => Err(Refused {
+            fault: GcFault::LiveBody,
+            place: body_place(function),
+        }),
+    }
+}
+
+/// The place of the body of a function.
+fn body_place(function: usize) -> Option<TrimPlace>
+    ensures { result ≡ body_place function }
+{
+    match u32::try_from(function) {
+        Ok(function) => Some(TrimPlace::Body {
+            function,
+            operator: None,
+        }),
+        Err(_) => None,
+    }
+}
+
+/// The names of the functions of a module with these bytes.
+fn names_of(alloc: Global, bytes: &[u8]) -> Result<OrderedMap<u32, &str>, Refusal>
+    ensures found { IfOk result (λ m. AreFunctionNames bytes.now (name_entries m)) }
+    ensures refused { IfErr result (λ r. r.fault ≡ GcFault.Memory) }
+{
+    match function_names(alloc, bytes) {
+        Ok(names) => Ok(names),
+        // The bytes are those of a module: there is no fault but that memory runs out.
+        Err(_) => Err(Refused::without_place(GcFault::Memory)),
+    }
+}

@@ -1,0 +1,118 @@
+//! The paths to imports as JSON.
+
+ghost use Rattle.std.specs.Prelude.{◌<◌, length, map, IfErr, IfOk, OnOk};
+ghost use Rattle.wc_why.specs.Paths.{text_of};
+ghost use Rattle.wc_import_paths.specs.Following.{IsRefusal};
+ghost use Rattle.wc_import_paths.specs.JsonPaths.{IsPathsText};
+ghost use Rattle.wc_import_paths.specs.Patterns.{pattern_view};
+ghost use Rattle.wc_import_paths.specs.Followed.{HasPaths, IsJsonIn};
+ghost use Rattle.wc_import_paths.specs.Private.Followed.{IsWrittenAt};
+
+use crate::asked::Asked;
+use crate::followed::{Followed, Refusal, follow};
+use crate::import_paths::reached_path;
+use crate::patterns::ImportPattern;
+use json::Writer;
+use std::alloc::{AllocError, Global};
+use wc_gc::GcFault;
+use wc_maps::Seed;
+use wc_texts::Refused;
+use wc_why::{PathPrinter, begin_paths, end_paths};
+
+/// The paths to those imports of the module with these bytes that `imports` ask for, or to all, where there are none, as
+/// JSON in a line (`wc_why::begin_paths`). Of each import, in the order of the module, it is the one path to its item
+/// (`wc_paths`): where it begins, and its items, functions with the names that the module gives them. An import to which no
+/// path leads is left out; so is what the module does not import.
+///
+/// Paths begin at its exports of the names `exports`, in their order, or at all, where there are none, in the order of the
+/// module, and then at the start function; only where none of these leads to an import, they begin at an active segment.
+///
+/// `seed`: the seed of the maps that are made. It takes time and memory linear in the module, in what is asked for, and in
+/// the text.
+///
+/// # Errors
+///
+/// Of several causes the first in this order is named; `Memory` may come in place of any.
+///
+/// - `Read`: the bytes are no module, with the byte at which they stop to be one; or a section of segments can't be read,
+///   with this section.
+/// - `MissingExport`: a name of `exports` is not exported; the first such, without a place.
+/// - `LiveBody`: the body of a function that a path reaches is no code, or names what is not there. Its place is this
+///   function.
+/// - `Memory`: an allocation failed.
+pub fn paths_to_json(
+    alloc: Global,
+    seed: Seed,
+    bytes: &[u8],
+    exports: &[&str],
+    imports: &[ImportPattern<'_>],
+) -> Result<Vec<u8>, Refusal>
+    ensures text { IfOk result (λ v. IsPathsText bytes.now (map text_of exports.now)
+        (map pattern_view imports.now) v.items) }
+    ensures refused { IfErr result (λ r.
+        IsRefusal bytes.now (map text_of exports.now) r.fault r.place) }
+{
+    match follow(alloc, seed, bytes, exports) {
+        Ok(followed) => match asked_text(alloc, seed, imports, &followed) {
+            Ok(text) => Ok(text),
+            Err(AllocError) => Err(Refused::without_place(GcFault::Memory)),
+        },
+        Err(refusal) => Err(refusal),
+    }
+}
+
+/// The paths to the imports that patterns ask for.
+fn asked_text(
+    alloc: Global,
+    seed: Seed,
+    patterns: &[ImportPattern<'_>],
+    followed: &Followed<'_>,
+) -> Result<Vec<u8>, AllocError>
+    requires { HasPaths followed.now }
+    ensures { IfOk result (λ v. IsJsonIn followed.now (map pattern_view patterns.now) v.items) }
+{
+    let asked = Asked::new(alloc, seed, patterns)?;
+    json_text(alloc, &asked, followed)
+}
+
+/// The paths to the imports that are asked for, in order, as JSON in a line (`wc_why::begin_paths`). An import to which no
+/// path leads is left out.
+///
+/// # Errors
+///
+/// `AllocError`: an allocation failed.
+pub fn json_text(
+    alloc: Global,
+    asked: &Asked<'_, '_>,
+    followed: &Followed<'_>,
+) -> Result<Vec<u8>, AllocError>
+    requires { HasPaths followed.now }
+    ensures { IfOk result (λ v. IsJsonIn followed.now asked.now v.items) }
+{
+    let mut out = begin_paths(alloc)?;
+    for position in 0..followed.code.imports.len() {
+        write_import(alloc, asked, followed, position, &mut out)?;
+    }
+    end_paths(out)
+}
+
+/// Writes the path to the import at a position, if it is asked for and a path leads there.
+fn write_import(
+    alloc: Global,
+    asked: &Asked<'_, '_>,
+    followed: &Followed<'_>,
+    position: usize,
+    out: &mut Writer,
+) -> Result<(), AllocError>
+    requires paths { HasPaths followed.now }
+    requires there { position < length followed.now.code.imports.items }
+    ensures { OnOk result (IsWrittenAt followed.now asked.now position out.old out.new) }
+{
+    if !asked.is_shown(&followed.code.imports[position]) {
+        return Ok(());
+    }
+    match reached_path(alloc, followed, position)? {
+        Some(path) => out.path(alloc, &path),
+        None => Ok(()),
+    }
+}

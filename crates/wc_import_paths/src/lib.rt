@@ -1,0 +1,19 @@
+//! Why a module imports something: the paths to its imports, from its bytes to JSON.
+//!
+//! `follow` reads a module with its segments, and finds the paths in it (`wc_paths`). `reached_path` makes the path to one import
+//! (`wc_why::Path`), and `json_text` writes those to the imports that are asked for. `ImportPattern` says which these are;
+//! `patterns_of` makes patterns of texts, and `Asked` makes them ready to be looked up. `paths_to_json` does all of it.
+#![tactic(auto)]
+
+mod asked;
+mod followed;
+mod import_paths;
+mod json_paths;
+mod patterns;
+mod roots;
+
+pub use asked::Asked;
+pub use followed::{Followed, Refusal, follow};
+pub use import_paths::reached_path;
+pub use json_paths::{json_text, paths_to_json};
+pub use patterns::{ImportPattern, patterns_of, unversioned};

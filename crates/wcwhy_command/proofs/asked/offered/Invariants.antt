@@ -1,7 +1,0 @@
-use Rattle.std.proofs.Common.{map, take}
-use Rattle.wc_read.specs.Imports.{import_value}
-use Rattle.wcwhy_command.specs.Private.Asked.{HasOffered}
-use Rattle.wcwhy_command.proofs.asked.offered.Given as goal
-
-abbrev pub invariant-loop-import : goal.invariant-loop-import
-invariant-loop-import l = HasOffered l.set.keys (map import_value (take l.import-index l.imports))

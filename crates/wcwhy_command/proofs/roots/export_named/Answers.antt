@@ -1,9 +1,0 @@
-use Rattle.std.proofs.Common.{Some, None, refl}
-use Rattle.wcwhy_command.proofs.RootLemmas.{looked_up}
-use Rattle.wcwhy_command.proofs.roots.export_named.Goals as goal
-
-pub returns-in-Some : goal.returns-in-Some
-returns-in-Some c = looked_up _ c.args.name.now c.args.named.now.entries (λ k. refl) c.requires (Some c.in-Some.export.now) c.in-Some.ensures.value
-
-pub returns-in-None : goal.returns-in-None
-returns-in-None c = looked_up _ c.args.name.now c.args.named.now.entries (λ k. refl) c.requires None c.in-None.ensures.value
