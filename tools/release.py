@@ -145,7 +145,8 @@ ASKED = "--realloc", "cabi_realloc", "size_of"
 def try_programs(archive, folder, empty, own):
     """Runs the programs of an archive, and shows their man pages."""
     for path in sorted(folder.glob("bin/*")):
-        run(path, "--help", cwd=empty, env=own)
+        if path.name != "wctrim":  # whose arguments are commands alone
+            run(path, "--version", cwd=empty, env=own)
         run("man", "--warnings", "-l", folder / f"share/man/man1/{path.name}.1", cwd=empty, env={**own, "MANPAGER": "cat"})
     if (folder / "bin/wctrim").exists():
         run(folder / "bin/wctrim", "trim", "adapter.wasm", "by-program.wasm", *ASKED, cwd=empty, env=own)
