@@ -10,6 +10,8 @@ equation of a view turns a variant, or a struct, into a value of `specs/`. Compa
 - no two right sides of one view can be the same value: where they differ in a constructor, or in a constant, they can't;
 - a record made of a struct cites each field that the struct has in the sources.
 
+Not seen is a view that makes two variants change places, or what a function does to a part that it is given whole.
+
 A view applied to a part is one to one where its own equations are; so are texts by their bytes, lists and maps item by
 item. What a view leaves out has to stand in LEFT_OUT, and a view that joins two variants in JOINED, with the
 reason. A line is printed for each that is otherwise, and
