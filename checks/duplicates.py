@@ -77,10 +77,14 @@ ALIKE = [
     ("wc_record::space_text wc_why::space_name", "the names of spaces: in JSON in the one, in lines in the other"),
     ("wc_selection::has_any wc_import_paths::are_asked", "whether any of a list has something: of keys in the one, of imports in the other"),
     ("wc_selection::text_of wc_options::text_of wc_why::text_of", "the bytes of a text, in crates that don't cite each other"),
+    ("wc_selection::unversioned_text wc_why::unversioned_text", "a name without its version, in crates that don't cite each other"),
+    ("wc_import_paths::PatternView wc_import_paths::ModuleKey", "a text and perhaps another: what a pattern asks for, and a key cut at its version"),
+    ("wc_why::Halves wc_ways::FunctionName", "two texts: what a text is cut into, and the names of a function"),
+    ("wcwhy_command::is_package_alike wcplan_command::package_alike", "each over the `is_alike` that it has"),
     ("wcwhy_command::finish wcplan_command::finish", "what is read is made a command, each over its own `finish_with`"),
     ("wc_validate::core_import wc_validate::imported_function", "records of two types: of any import, of a function's"),
     ("wc_resolve::item_function wc_names::as_function", "an item that is a function: in a function's place in the one, under a name in the other"),
-    ("wcwhy_command::is_alike wcplan_command::is_alike", "each over the `unversioned_text` that it has: that of wc_import_paths in the one, that of wc_selection in the other"),
+    ("wcwhy_command::is_alike wcplan_command::is_alike", "each over the `unversioned_text` that it has: that of wc_why in the one, that of wc_selection in the other"),
     ("wc_encoder::IsExported wc_selection::IsKeyOf", "a key of some entries: of a world's exports in the one, of its imports too in the other"),
 ]
 

@@ -30,7 +30,7 @@ REASONS = {
         "wc_read/distinct wc_read/section_contents wc_write/inits wc_resolve/canonical_ids wc_resolve/flattening wc_resolve/functions wc_resolve/validate/order "
         "wc_resolve/validate/type_test wc_resolve/walk wc_write/contents wc_write/module_sections wc_encoder/well_formed wc_names/payloads "
         "wc_names/standard wc_validate/exports/first_singles wc_validate/name_fault wc_validate/signatures wc_gc/assemble wc_gc/ranks "
-        "wc_paths/counts wc_paths/graph wc_paths/names wc_world/import_map wc_plan/lowerings wc_ways/forms wc_ways/main_graph wc_ways/main_ways "
+        "wc_paths/counts wc_paths/graph wc_paths/names wc_world/import_map wc_plan/lowerings wc_ways/forms wc_ways/main_graph "
         "wc_ways/paths wc_ways/recorded",
     "what all parts of imports answer, and the kinds of these, are in `Functions` and `Kinds`":
         "wc_validate/imports/environment wc_validate/imports/root wc_validate/imports/scheme",

@@ -10,18 +10,22 @@ Its parts, each of which is a line:
     module      web/nuigatre.wasm is what web/nuigatre.wasm.json says; it is said whether it is made of these sources
     heap        web/heap.c, the memory of nuigatre.wasm, over refused growth (checks/c/web_heap.c): needs cc
     node        the calls of JavaScript (web/test): needs node, 20 or newer, and web/nuigatre.wasm
-    wctrim      the bytes of web/nuigatre.wasm are those of the program that --wctrim names, for the adapters of examples
-    python      the calls of Python (python/tests): needs pytest, and the library that tools/targets.py makes
-    package     `npm pack` makes a package of web/, and the files in it run: needs npm
+    wctrim      the bytes of web/nuigatre.wasm are those of a program of this machine, for the adapters of examples and damaged
+                ones: the program that --wctrim names, or else checks/c/like_wctrim.c over the library that the Rust crate has
+                packed: needs node, and cc for that
+    python      the calls of Python (python/tests): needs pytest, and cc for the library that the Rust crate has packed, unless
+                NUIGATRE_LIBRARY names another or tools/targets.py made one
+    package     `npm pack` makes a package of web/, and the files in it run: needs npm; versions are those of the Rust crate
     one file    the page as one file (web/one-file.py), opened from a disk in chromium and firefox-esr
     chromium    the page, used as a person would (web/test/driver.mjs): light and dark at 320, 1000 and 2000 pixels, and N
                 damaged files
     firefox     the same in firefox-esr
 
-What is not there is said, and is no fault, unless --only names the part. With --quick the first five are run. With
---pictures a picture of each width, light and dark, goes to the folder. The status is 1 where something is not as wanted.
+What is not there is said, with the package of Debian that has it, and is no fault, unless --only names the part. With --quick
+the first seven are run. With --pictures a picture of each width, light and dark, goes to the folder. The status is 1 where something is not as wanted.
 """
 import argparse
+import contextlib
 import http.server
 import json
 import os
@@ -36,6 +40,7 @@ import threading
 import browsers
 
 sys.path.append(str(pathlib.Path(__file__).resolve().parent.parent / "tools"))
+import archives
 from repository import TOP
 
 WEB = TOP / "web"
@@ -64,12 +69,38 @@ def run(words, **how):
     return ran.stdout
 
 
+# the packages of Debian that have programs of other names
+PACKAGES = {"node": "nodejs", "cc": "gcc", "pytest": "python3-pytest"}
+
+
 def need(*programs):
     """The first of these programs that there is."""
     found = next(filter(None, map(shutil.which, programs)), None)
     if not found:
-        raise Missing("there is no " + " or ".join(programs))
+        raise Missing(f"there is no {' or '.join(programs)}: apt-get install {PACKAGES.get(programs[0], programs[0])}")
     return found
+
+
+def packed(folder):
+    """The folder that has the library which the Rust crate has packed, for this machine: libnuigatre.a and libnuigatre.so."""
+    need("cc")
+    ran = subprocess.run([TOP / "tools" / "targets.py", "--packed", "--out", folder, os.uname().machine], capture_output=True, text=True, check=False)
+    if ran.returncode:
+        raise Missing((ran.stdout + ran.stderr).strip())
+    return os.path.join(folder, os.uname().machine)
+
+
+@contextlib.contextmanager
+def of_these_sources():
+    """What is wrong beside the packed library is no fault while that, or web/nuigatre.wasm, is made of other sources."""
+    try:
+        yield
+    except Wrong as why:
+        others = [f"rust/nuigatre/lib is of another {it}" for it in archives.reasons()]
+        others += [it for it in [module(None)] if "other sources" in it]
+        if others:
+            raise Missing("\n".join([*others, str(why)])) from why
+        raise
 
 
 def calls(_):
@@ -125,9 +156,16 @@ def node(_):
 
 
 def wctrim(arguments):
-    if not arguments.wctrim:
-        raise Missing("no program is named by --wctrim")
-    return run([need("node"), WEB / "test" / "beside-wctrim.mjs", os.path.abspath(arguments.wctrim)]).strip()
+    """The same bytes as a program of this machine."""
+    words = [need("node"), WEB / "test" / "beside-wctrim.mjs"]
+    if arguments.wctrim:
+        return run([*words, os.path.abspath(arguments.wctrim)]).strip()
+    with tempfile.TemporaryDirectory() as folder:
+        sources = TOP / "checks" / "c" / "like_wctrim.c", TOP / "include" / "nuigatre_heap.c", os.path.join(packed(folder), "libnuigatre.a")
+        program = os.path.join(folder, "like_wctrim")
+        run([need("cc"), "-std=gnu11", "-Wall", "-Wextra", "-Werror", "-O2", "-I", TOP / "include", *sources, "-o", program])
+        with of_these_sources():
+            return run([*words, program]).strip() + ", by the library that the Rust crate has packed"
 
 
 def python(_):
@@ -137,15 +175,27 @@ def python(_):
     if not found:
         raise Missing("there is no pytest: apt-get install python3-pytest")
     made = TOP / "crates" / "nuigatre" / "out" / os.uname().machine / "libnuigatre.so"
-    if not any(map(os.path.isfile, (os.environ.get("NUIGATRE_LIBRARY", ""), made, TOP / "python" / "nuigatre" / "libnuigatre.so"))):
-        raise Missing("there is no libnuigatre.so: tools/targets.py makes it")
-    said = run([found, "-m", "pytest", "-q", "-p", "no:cacheprovider", TOP / "python" / "tests"])
-    return said.strip().splitlines()[-1]
+    there = filter(os.path.isfile, (os.environ.get("NUIGATRE_LIBRARY", ""), made, TOP / "python" / "nuigatre" / "libnuigatre.so"))
+    with tempfile.TemporaryDirectory() as folder:
+        library = next(there, None)
+        words = [found, "-m", "pytest", "-q", "-p", "no:cacheprovider", TOP / "python" / "tests"]
+        with contextlib.nullcontext() if library else of_these_sources():
+            said = run(words, env={**os.environ, "NUIGATRE_LIBRARY": str(library or os.path.join(packed(folder), "libnuigatre.so"))})
+        return said.strip().splitlines()[-1]
+
+
+def versions():
+    """What has another version than the Rust crate."""
+    files = "rust/nuigatre/Cargo.toml", "python/pyproject.toml", "web/package.json"
+    found = {file: re.search(r'^\W*version\W+([\d.]+)"', (TOP / file).read_text(encoding="utf-8"), re.M)[1] for file in files}
+    return [f"{file} has version {version}" for file, version in found.items() if version != found[files[0]]]
 
 
 def package(_):
     """What npm packs is complete: its command runs of that alone."""
     program = need("npm")
+    if versions():
+        raise Wrong(f"{', '.join(versions())}, and rust/nuigatre/Cargo.toml another")
     with tempfile.TemporaryDirectory() as folder:
         run([program, "pack", "--silent", "--pack-destination", folder, WEB])
         [made] = pathlib.Path(folder).glob("*.tgz")
@@ -163,7 +213,7 @@ def one_file(_):
     """The page as one file, opened from a disk."""
     there = [it for it in (browsers.Chromium, browsers.Firefox) if browsers.program_of(it)]
     if not there:
-        raise Missing("there is neither chromium nor firefox")
+        raise Missing("there is neither chromium nor firefox-esr: apt-get install one")
     said = []
     for kind in there:
         with tempfile.TemporaryDirectory(ignore_cleanup_errors=True) as folder:
@@ -311,8 +361,8 @@ PARTS = {
 }
 
 
-# those that need no browser and no library but web/nuigatre.wasm
-QUICK = "calls", "files", "module", "heap", "node"
+# those that take less than a minute of a processor's time together
+QUICK = "calls", "files", "module", "heap", "node", "wctrim", "python"
 
 
 def main():

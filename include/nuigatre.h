@@ -207,9 +207,9 @@ nuigatre_answer nuigatre_scan(const uint8_t *wasm, size_t wasm_length, uint8_t *
 
 /* Answers why a module imports something: the paths to its imports, of main modules too. Paths begin at its exports of the
  * names `exports`, or at all, where there are none, and at its start function; only where none of these leads to an import,
- * at its active segments. Each text of `imports` asks for imports: `MODULE` for those of a module, with its version or
- * without, and `MODULE=NAME` for those of them that have this name; MODULE ends at the first `=`. Without texts all are
- * asked for.
+ * at its active segments. Each text of `imports` asks for imports: `KEY` for those of a module or of a package of
+ * interfaces, as `wasi:io/error` and `wasi:io`, each with its version or without, and `KEY=NAME` for those of them that have
+ * this name; KEY ends at the first `=`. Without texts all are asked for.
  *
  * NUIGATRE_DONE: `out` has a line of JSON, as `wcwhy --json` prints it: an object whose member `ways` lists the paths, in
  * the order of the imports. Each has the import's module as `interface`, its `name`, and its `steps`: where it begins, and

@@ -90,6 +90,14 @@ def checksum_of_sources():
     return digest.hexdigest()
 
 
+def is_of_proof(path):
+    """Whether the kit's prover compiled this: it writes the checksum of its logic beside the code, of which KIT has the front."""
+    return b"rattle logic=" + read("KIT").split()[-1].encode() in pathlib.Path(path).read_bytes()
+
+
+NO_PROOF = "it was compiled without its proof, or by another kit than KIT names"
+
+
 def commit_of(is_proved):
     """The commit of the checkout. What is proved is of a commit: no source of it is changed since."""
     if not (TOP / ".git").exists() and not is_proved:
@@ -158,8 +166,8 @@ def unfit(target, archive, is_proved):
         return f"it has no symbol {form}"
     if called - CALLED:
         return "it calls " + " ".join(sorted(called - CALLED))
-    if is_proved and symbols.numbered("nuigatre_unproved") in listed:
-        return "it was compiled without its proof"
+    if is_proved and (symbols.numbered("nuigatre_unproved") in listed or not is_of_proof(archive)):
+        return NO_PROOF
     return None
 
 

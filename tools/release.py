@@ -6,10 +6,11 @@ the Rust crate's package.
     tools/release.py --unproved [--from FOLDER] VERSION       the same of what is compiled without its proof, to try this script
 
 VERSION is that of rust/nuigatre/Cargo.toml. The static libraries are those that tools/archives.py takes, and have to be the
-same, byte by byte, as those that it put into the crate. The programs are those that `./wctrim --build`, `./wcplan --build` and
-`./wcwhy --build` made. With --unproved the libraries are FOLDER/TARGET/libnuigatre.a, or rust/unproved/libnuigatre.a for x86-64
-alone, and the programs are those that the scripts of their names keep, if they are there; the names have `-unproved`. None may
-be older than its sources. Nothing else is made anew but the shared libraries.
+same, byte by byte, as those that it put into the crate. The programs are those that `./wctrim --build`, `./wcplan --build`
+and `./wcwhy --build` made. With --unproved the libraries are FOLDER/TARGET/libnuigatre.a, or rust/unproved/libnuigatre.a for
+x86-64 alone, and the programs are those that the scripts of their names keep, if they are there; the names have `-unproved`.
+Without it each library and each program has to say that the kit's prover compiled it. None may be older than its sources.
+Nothing else is made anew but the shared libraries.
 
 dist/nuigatre-VERSION-TARGET-linux.tar.gz has, in a folder of its name:
 
@@ -62,7 +63,10 @@ def programs(asked):
     for name in PROGRAMS:
         path = TOP / "crates" / name / "out" / (name + ".optimised" if asked.unproved else name)
         if path.is_file() or not asked.unproved:
-            yield name, fresh(path, name, f"./{name} --build makes it")
+            fresh(path, name, f"./{name} --build makes it")
+            if not asked.unproved and not archives.is_of_proof(path):
+                fail(f"{os.path.relpath(path, TOP)}: {archives.NO_PROOF}")
+            yield name, path
 
 
 def link_shared(target, archive, goal):

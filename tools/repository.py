@@ -94,8 +94,14 @@ class Function:
 
 
 def type_name(text):
-    """The last word of a type's or a trait's path, without references, lifetimes and arguments."""
-    text = re.sub(r"<.*", "", text.strip())
+    """The last word of a type's or a trait's path, without references, lifetimes and arguments. A tuple is named as the kit
+    names it, as `Tuple2U32RefStr`."""
+    text = text.strip()
+    if text.startswith("(") and "," in text and "<" not in text:
+        parts = [it.strip() for it in text.strip("()").split(",")]
+        names = ["Ref" * it.startswith("&") + type_name(it)[:1].upper() + type_name(it)[1:] for it in parts]
+        return f"Tuple{len(parts)}" + "".join(names)
+    text = re.sub(r"<.*", "", text)
     text = re.sub(r"^&(?:'\w+ )?(?:mut )?", "", text)
     return re.sub(r"\W", "", text.split("::")[-1])
 
@@ -135,11 +141,13 @@ def functions_of(file, text):
         head = HEAD.match(line)
         if not head:
             continue
-        indent, at = head[1], n
+        indent, at, depth = head[1], n, 0
         while at < len(lines):
             it = lines[at]
             mine = it.startswith(indent) and not it[len(indent) :].startswith((" ", "//"))
-            if mine and (it == indent + "{" or it.endswith((" {", "{}"))) or it.endswith(";"):
+            # a record in a clause has lines that end so, too
+            depth += it.count("{") - it.count("}")
+            if mine and (it == indent + "{" or it.endswith((" {", "{}"))) or it.endswith(";") and not depth:
                 break
             at += 1
         if at == len(lines):

@@ -1,18 +1,19 @@
 #!/usr/bin/env python3
 """Makes the static and the shared library for x86-64 and aarch64, and runs the C example over both.
 
-    tools/targets.py [--over FOLDER | --archive FILE | --unproved] [--jobs N] [--out FOLDER] [TARGET ..]
+    tools/targets.py [--over FOLDER | --packed | --archive FILE | --unproved] [--jobs N] [--out FOLDER] [TARGET ..]
 
 TARGET is x86_64 or aarch64; without one it is both. FOLDER/TARGET has libnuigatre.a, libnuigatre.so and nuigatre.pc then;
 it is crates/nuigatre/out unless it is said. The library is proved over what `rt ci` proved of the crates below (in
 crates/*/out/rlib, or in the folder of --over), once for each target, and compiled for it. With --unproved it is compiled of
-the sources without their proof. With --archive FILE it is an archive that is there, of the one TARGET that is given. The
-symbols of what is made have the number of their form (rust/symbols.py).
+the sources without their proof. With --packed it is the proved one that the Rust crate has, packed, in rust/nuigatre/lib: that
+needs no kit, and wants --out. With --archive FILE it is an archive that is there, of the one TARGET that is given. The symbols
+of what is made have the number of their form (rust/symbols.py).
 
 The shared library has include/nuigatre_heap.c in it, and exports the functions of include/nuigatre.h alone. It is made by
 cc, or by aarch64-linux-gnu-gcc; what is made for another processor runs in qemu. examples/c/trim.c, linked with the archive
-and with the shared library, has to give examples/trimmed.wasm. A copy of the shared library of this machine goes to
-python/nuigatre, for its wheel and tests.
+and with the shared library, has to give examples/trimmed.wasm. Without --out a copy of the shared library of this machine goes
+to python/nuigatre, for its wheel and tests.
 
 The status is 1 where something is not made or runs otherwise, and 3 where a crate below is not proved.
 """
@@ -33,6 +34,7 @@ from repository import TOP, crates_below, kit_command, kit_folder, need, rlib_of
 
 CRATE = "nuigatre"
 INCLUDE = str(TOP / "include")
+OUT = str(TOP / "crates" / CRATE / "out")
 # of each target its triple, its layout of data as LLVM has it, its compiler of C, what runs its programs, and Debian's packages
 TARGETS = {
     "x86_64": ("x86_64-unknown-linux-gnu", None, "cc", [], "gcc"),
@@ -96,6 +98,19 @@ def compile_unproved(target, archive, text, folder):
     run([os.path.join(tools, "llvm-ar"), "rcs", archive, code])
 
 
+def unpack(target, archive):
+    """Puts there the library that the Rust crate has packed; a line on it."""
+    packed = __import__("archives")
+    content, wanted = packed.in_crate(target), str(symbols.form())
+    if not content:
+        raise unproved.NotMade("rust/nuigatre/lib has no library for " + target)
+    if packed.said("form") != wanted:
+        raise unproved.NotMade("rust/nuigatre/lib has form %s, and include/nuigatre.h form %s" % (packed.said("form"), wanted))
+    with open(archive, "wb") as file:
+        file.write(content)
+    return "of rust/nuigatre/lib, proved: " + packed.said("proved")
+
+
 def link(target, folder):
     """The shared library of the archive."""
     compiler, archive, shared = TARGETS[target][2], os.path.join(folder, "libnuigatre.a"), os.path.join(folder, "libnuigatre.so")
@@ -143,6 +158,8 @@ class Maker:
             if not os.path.exists(path) or not os.path.samefile(self.given.archive, path):
                 shutil.copyfile(self.given.archive, path)
             return "of " + self.given.archive
+        if self.given.packed:
+            return unpack(target, path)
         if not self.given.unproved:
             return prove(target, path, self.folder_of, self.given.jobs)
         if self.text is None:
@@ -156,13 +173,13 @@ class Maker:
 def make(arguments, folder):
     maker = Maker(arguments, folder)
     for target in arguments.targets or TARGETS:
-        out = os.path.join(os.path.abspath(arguments.out), target)
+        out = os.path.join(os.path.abspath(arguments.out or OUT), target)
         os.makedirs(out, exist_ok=True)
         line = maker.archive(target, os.path.join(out, "libnuigatre.a"))
         shared = link(target, out)
         pkgconfig.write(out)
         try_out(target, out)
-        if target == platform.machine():
+        if target == platform.machine() and not arguments.out:
             shutil.copyfile(shared, TOP / "python" / "nuigatre" / "libnuigatre.so")
         sizes = "%d and %d bytes" % (os.path.getsize(os.path.join(out, "libnuigatre.a")), os.path.getsize(shared))
         print("%s: archive and shared library of %s; trim.c gives examples/trimmed.wasm with both; %s" % (target, sizes, line), flush=True)
@@ -171,19 +188,22 @@ def make(arguments, folder):
 def main():
     parser = argparse.ArgumentParser(description=__doc__, formatter_class=argparse.RawDescriptionHelpFormatter)
     parser.add_argument("--over", metavar="FOLDER")
+    parser.add_argument("--packed", action="store_true")
     parser.add_argument("--archive", metavar="FILE")
     parser.add_argument("--unproved", action="store_true")
     parser.add_argument("--jobs", type=int, default=1, metavar="N")
-    parser.add_argument("--out", default=str(TOP / "crates" / CRATE / "out"), metavar="FOLDER")
+    parser.add_argument("--out", metavar="FOLDER")
     parser.add_argument("targets", nargs="*", metavar="TARGET")
     arguments = parser.parse_args()
     if any(it not in TARGETS for it in arguments.targets) or arguments.archive and len(arguments.targets) != 1:
         parser.error("a target is one of %s; an archive is of one target" % ", ".join(TARGETS))
+    if arguments.packed and not arguments.out:
+        parser.error("--packed wants --out: in crates/nuigatre/out is what was made of these sources")
     for target in arguments.targets or TARGETS:
         need("%s %s" % (TARGETS[target][2], TARGETS[target][4]))
         if TARGETS[target][3] and platform.machine() != target:
             need("%s qemu-user" % TARGETS[target][3][0])
-    if not arguments.archive:
+    if not (arguments.archive or arguments.packed):
         if kit_folder() is None:
             sys.exit("rt is not on PATH: it compiles the library")
         over = (lambda crate: os.path.abspath(arguments.over)) if arguments.over else rlib_of

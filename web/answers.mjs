@@ -184,10 +184,10 @@ function interfacesOf({ main, asked, adapters, parts, inner }) {
   return [...all.values()].sort((a, b) => isReached(b) - isReached(a) || (a.key < b.key ? -1 : 1));
 }
 
-/** The shortest path through the main module to each of its imports, where the library has that call; and why there is none. */
+/** The shortest path through the main module to each of its imports; and why there is none, if it can't be followed. */
 function mainPaths(library, main) {
   const paths = new Map(), functions = main.imports.filter(isFunction);
-  if (typeof library.paths !== "function" || !functions.length) return { paths, unfollowed: null };
+  if (!functions.length) return { paths, unfollowed: null };
   // no more than can be drawn: the paths to many imports may be long
   const imports = functions.length > MOST.ends ? functions.slice(0, MOST.ends).map((it) => `${it.module}=${it.name}`) : [];
   try {
@@ -338,28 +338,29 @@ export function faultView(why) {
 /** Whether a name may be an adapter's: it is of no package, and nothing that the binary format of components fixes. */
 const mayBeAdapter = (module) => !/[:[\]|$#]/.test(module) && !["env", "cm32p2", MAIN_MODULE, ""].includes(module);
 
-/** The version of WASI whose worlds the page has: those of commands. */
-export const WASI = "0.2.6";
+/** The version of WASI whose worlds the page has: those of commands. And what modules call its first preview. */
+export const WASI = "0.2.6", WASI_PREVIEW_1 = "wasi_snapshot_preview1";
 
 /** What to do next, in the order of what is to be done first. `offer` is what a button does, `also` what the page has for it. */
 export function notesOf({ main, isAdapter, asked, adapters, worlds, whole, parts, faults, interfaces, unfollowed }) {
   const notes = [], names = new Set(adapters.map((it) => it.name)), note = (text, offer = null, also = "") => notes.push({ text, offer, also });
   const open = [...asked].filter(([module]) => !whole && !names.has(module) && mayBeAdapter(module)).map(([module, list]) => ({ module, count: list.size }));
-  if (isAdapter) note(`Drop your program too, or choose “Make it main” for it: ${main.name} imports what a program exports, so it looks like an adapter.`);
+  if (isAdapter) note(`Add your program too: ${main.name} imports what a program exports, so it looks like an adapter.`, null, "Or choose “Make it main” for your program.");
   for (const { module, count } of open.slice(0, 5)) {
-    note(`Drop the adapter ${module} too, if it is one: ${main.name} imports ${counted(count, "function")} of this name, which is of no package. Your component will import what that adapter imports, and not these.`);
+    const where = module === WASI_PREVIEW_1 ? ` It comes with Wasmtime’s releases: ${module}.command.wasm for programs, and ${module}.reactor.wasm for libraries.` : "";
+    note(`Add the adapter ${module} too, if it is one: ${main.name} imports ${counted(count, "function")} of this name, which is of no package. Your component will import what that adapter imports, and not these.${where}`);
   }
   adapters.forEach(({ name, file }, n) => {
     if (parts[n].required.length || faults.some((it) => it.file === file.name) || isAdapter) return;
     const others = open.length ? `, but of ${joined(open.map((it) => it.module))}` : "";
-    note(`Give ${file.name} the name under which ${main.name} imports it: it imports nothing of ${name}${others}. If ${file.name} is your program, choose “Make it main”.`);
+    note(`Give ${file.name} the name under which ${main.name} imports it: it imports nothing of ${name}${others}.`, null, `If ${file.name} is your program, choose “Make it main”.`);
   });
   const isWasi = adapters.some((it) => it.file.exports.some((export_) => export_.name.startsWith(`wasi:cli/run@${WASI}#`))), offer = isWasi ? "wasi" : null;
   if (worlds && !whole) note(`Mend the fault above first${isWasi ? `, or use the worlds of WASI ${WASI}` : ""}: what is shown here is as without the worlds.`, offer);
   if (!worlds && adapters.length && !isAdapter) {
     const needed = adapters.flatMap((it) => it.file.exports).find((it) => isFunction(it) && it.name.includes("#"))?.name;
     const end = `: without them only what ${main.name} imports of an adapter counts as used, and a component needs more${needed ? `, such as ${needed}` : ""}.`;
-    note(`${isWasi ? `Use the worlds of WASI ${WASI}, or drop your own` : "Drop the worlds, if you have them"}${end}`, offer, "You may also tick it below.");
+    note(`${isWasi ? `Use the worlds of WASI ${WASI}, or add your own` : "Add the worlds, if you have them"}${end}`, offer, "You may also tick it below.");
   }
   if (unfollowed) note(`For paths through ${main.name} too, build it in another way: they can't be followed. ${faultView(unfollowed).title}`);
   if (!interfaces.length && !open.length) note(`Nothing is to be done: ${main.name} imports no function, and neither does its component.`);

@@ -18,15 +18,15 @@ const PROPOSALS = "Build it without exceptions, tags and garbage collection, whi
 const TOOL = "What made the file has a bug: wasm-validate of wabt says more.";
 const WORLDS = "Print the worlds anew with wasm-tools component wit --json.";
 const BINDINGS = "Make the bindings anew of the worlds that are given here, and build again.";
-const VERSION = "Drop the adapter of that name, or the worlds that have the interface, in the version for which the module was built.";
-const EXPORTS = "Export it from the main module, drop the adapter that exports it, or choose another world.";
+const VERSION = "Add the adapter of that name, or the worlds that have the interface, in the version for which the module was built.";
+const EXPORTS = "Export it from the main module, add the adapter that exports it, or choose another world.";
 const ROOT = "Add the function to the world, or import it of its interface.";
 
 /** Of each fault what it means, and what to do. */
 export const HINTS = {
   read: {
     NOT_WASM: ["It is no WebAssembly module.", "Assemble text (.wat) first, for example with wat2wasm."],
-    COMPONENT: ["It is a component, and not a core module.", "Drop the core module of which it was made. Rust makes one for the target wasm32-wasip1."],
+    COMPONENT: ["It is a component, and not a core module.", "Take the core module of which it was made. Rust makes one for the target wasm32-wasip1."],
     TRUNCATED: ["The module ends inside an item.", DAMAGED],
     BAD_NUMBER: ["A number in the module has too many bytes, or is too large.", DAMAGED],
     BAD_NAME: ["A name in the module is not UTF-8.", DAMAGED],
@@ -47,7 +47,7 @@ export const HINTS = {
   dedupe: { READ: ["The module can't be read.", DAMAGED], TOO_LARGE: ["The renamed module would be too large for its format.", "Link it with fewer imports."] },
   gc: {
     READ: ["The adapter can't be read.", DAMAGED],
-    MISSING_EXPORT: ["The adapter lacks an export that is used of it.", "Drop the adapter for which the main module was built."],
+    MISSING_EXPORT: ["The adapter lacks an export that is used of it.", "Take the adapter for which the main module was built."],
     UNSUPPORTED_SECTION: ["The file has static data, a table of functions or a start function, which no adapter has.", "If it is your program, choose “Make it main”. Else build the adapter without them."],
     LIVE_BODY: ["A function that is used has an instruction that can't be followed.", PROPOSALS],
     SEVERAL_NAMED: ["The adapter has two stack pointers, or two states of their allocation.", "Link it once, so that one global has the name __stack_pointer."],
@@ -96,7 +96,7 @@ export const HINTS = {
   },
   validate: {
     READ: ["The module can't be read.", DAMAGED],
-    NOT_A_MODULE: ["It is a component, and not a core module.", "Drop the core module of which it was made."],
+    NOT_A_MODULE: ["It is a component, and not a core module.", "Take the core module of which it was made."],
     NOT_A_FUNCTION: ["An import is a table, a memory or a global, which no component can give.", "Define it in the module, or link the module that has it."],
     SIGNATURE_MISMATCH: ["A function is imported or exported with another type than its name says.", BINDINGS],
     NO_ROOT_IMPORT: ["The world does not import this function.", ROOT],
@@ -109,21 +109,21 @@ export const HINTS = {
     WHOLE_DIFFERS: ["Two modules have one name.", "Rename an adapter."],
     MIXED: ["A name is that of a module, and of something else too.", "Rename an adapter."],
     SEVERAL_MEMORY_IMPORTS: ["The module imports memory twice.", "Import it once."],
-    DUPLICATE_IMPORT: ["Two imports of an adapter have one name.", "Run wctrim dedupe on the adapter, and drop what that writes."],
+    DUPLICATE_IMPORT: ["Two imports of an adapter have one name.", "Run wctrim dedupe on the adapter, and take what that writes."],
     ADAPTER_TYPES_DIFFER: ["A function of an adapter is imported with two types.", "Import it with the type that the adapter exports."],
     SEVERAL_MEMORY_EXPORTS: ["The module exports two memories.", "Export one."],
     MISSING_CALLBACK: ["An asynchronous function is exported without its callback.", BINDINGS],
     MISSING_INTERFACE_EXPORT: ["The world exports a function of an interface that no module exports.", EXPORTS],
     MISSING_WORLD_EXPORT: ["The world exports a function that no module exports.", EXPORTS],
-    ADAPTER_MODULE_DID_NOT_EXPORT: ["The adapter lacks a function that is imported of it.", "Drop the adapter for which the main module was built."],
-    ADAPTER_EXPORT_TYPE: ["The adapter exports a function with another type than it is imported with.", "Drop the adapter for which the main module was built."],
+    ADAPTER_MODULE_DID_NOT_EXPORT: ["The adapter lacks a function that is imported of it.", "Take the adapter for which the main module was built."],
+    ADAPTER_EXPORT_TYPE: ["The adapter exports a function with another type than it is imported with.", "Take the adapter for which the main module was built."],
     TYPED_REFERENCE: ["A function between two modules has a type that only one of them has.", "Give it a type of numbers and plain references."],
   },
   world: {
     MAIN: ["The main module does not fit the world.", "Choose another world."],
     ADAPTER: ["An adapter does not fit the world.", "Choose another world, or the adapter for which the main module was built."],
-    TRIM: ["An adapter can't be trimmed.", "Drop the adapter for which the main module was built."],
-    MINIMIZED: ["A trimmed adapter does not fit the world.", "Drop the adapter for which the main module was built."],
+    TRIM: ["An adapter can't be trimmed.", "Take the adapter for which the main module was built."],
+    MINIMIZED: ["A trimmed adapter does not fit the world.", "Take the adapter for which the main module was built."],
     PAGE_SIZE: ["The memories of the main module and of an adapter have pages of different sizes.", "Build both for one size."],
   },
   plan: {

@@ -205,8 +205,9 @@ export class Nuigatre {
   scan(module: Bytes): Scan;
   /** The paths to the imports of a module, main modules too, in their order: of each the shortest, and of several the first.
    *  They begin at these exports, or at all, and at the start function; and only where none of these leads to an import, at
-   *  what an active segment fills. `imports` ask for imports: `MODULE`, with its version or without, or `MODULE=NAME`;
-   *  without them it is all. An import to which no path leads has none here. */
+   *  what an active segment fills. `imports` ask for imports: `KEY`, the name of a module or of a
+   *  package of interfaces, with its version or without, or `KEY=NAME`; without them it is all. An import to which no path
+   *  leads has none here. */
   paths(module: Bytes, asked?: { exports?: Iterable<string>; imports?: Iterable<string> }): ImportPath[];
   /** Makes the world of a component. */
   world(component: Component): World;

@@ -15,8 +15,9 @@ const state = { ...NOTHING };
 let files = [], serials = 0;
 /** The worker, the number of what was asked last, and what is asked once it has answered. */
 let worker = null, asked = 0, isBusy = false, isStale = false, given = [], library = null, begun = 0, watch = 0;
-/** What was shown last, of files and faults. */
-let lastFiles = [], lastFaults = "";
+/** What was shown last, of files and faults, and of which interface; of so few paths the texts are shown with it. */
+let lastFiles = [], lastFaults = "", lastPicked = null;
+const FEW_PATHS = 5;
 
 const plural = (count, one, several = one + "s") => (count === 1 ? one : several);
 const bytes = (count) => `${count.toLocaleString("en")} ${plural(count, "byte")}`;
@@ -222,8 +223,12 @@ function showPaths({ picked, picture: { boxes, more } }) {
   $("picture").replaceChildren(...(boxes.length ? [draw()] : []));
   const isWider = $("picture").scrollWidth > $("picture").clientWidth + 1;
   $("more").textContent = `${more ? `${more} more paths are not drawn. ` : ""}${isWider ? "The picture is wider than its room: scroll it to the imports, or read the paths as text." : ""}`;
-  $("paths").replaceChildren(...forest(boxes).all.filter((it) => it.kind === "import").map((it) => made("li", { text: pathOf(it) })));
+  const ends = forest(boxes).all.filter((it) => it.kind === "import");
+  $("paths").replaceChildren(...ends.map((it) => made("li", { text: pathOf(it) })));
   $("paths").parentElement.hidden = !boxes.length;
+  const key = picked?.key ?? null;
+  if (key !== lastPicked) $("paths").parentElement.open = key !== null && isWider && ends.length <= FEW_PATHS;
+  lastPicked = key;
   $("functions-shown").hidden = !picked;
   if (!picked) return;
   const { list, more: others } = picked.functions, imported = list.filter((it) => it.isImported).length;

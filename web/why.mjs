@@ -3,7 +3,7 @@
 import { realpathSync } from "node:fs";
 import { mkdir, readFile as read, writeFile } from "node:fs/promises";
 import { basename, join } from "node:path";
-import { pathToFileURL } from "node:url";
+import { fileURLToPath, pathToFileURL } from "node:url";
 import { parseArgs } from "node:util";
 import { compute, downloadsOf, readFile, view } from "./answers.mjs";
 import { Nuigatre, NuigatreError } from "./nuigatre.mjs";
@@ -48,7 +48,7 @@ export function* linesOf(shown) {
   yield* fileLines(shown);
   if (shown.main) yield* shown.picked ? pathLines(shown) : interfaceLines(shown);
   for (const it of shown.faults) yield `fault: ${[it.title, it.hint, it.where, it.text].filter(Boolean).join(" | ")}`;
-  for (const it of shown.notes) yield `next: ${it.text}`;
+  for (const it of shown.notes) yield `next: ${it.text}${it.offer ? ` Those of WASI are in ${fileURLToPath(new URL("wasi-command.json", import.meta.url))}.` : ""}`;
 }
 
 /** The state of the page in which these exports are not used. */

@@ -17,14 +17,14 @@
 #include <string.h>
 #include <sys/mman.h>
 
-#define CALLS 9
+#define CALLS 10
 #define STATUSES 6
 #define PAGE 4096u
 // what an arena has room for
 #define ROOM (1u << 20)
 
 static const char *const names_of_calls[CALLS] = {
-    "dedupe", "trim", "why", "world", "plan", "validate", "planned_world", "scan", "paths",
+    "dedupe", "trim", "why", "world", "plan", "validate", "planned_world", "scan", "paths", "validated_module",
 };
 
 // The heap: the blocks that are held, and which allocation fails.
@@ -195,7 +195,7 @@ static void damage_text(buffer *of) {
 
 typedef struct question {
     size_t call;
-    buffer message, modules, name, names[3];
+    buffer message, modules, name, required, names[3];
     size_t name_count;
     bool has_name;
     uint32_t page_size_log2;
@@ -236,9 +236,13 @@ static question make_question(const example *of) {
     // those of the adapter of examples/wcplan, and none; and what asks for its imports
     static const char *const exports[] = {"length_of", "read_text", "is-ready", "length_of", "read_text", ""};
     static const char *const imports[] = {"__main_module__", "env=memory", "notes:store/notes", "=", "other"};
+    // what is required of an adapter: nothing, or `f` without parameters and results
+    static const uint8_t required[] = {1, 1, 'f', 0x60, 0, 0};
     question made;
     memset(&made, 0, sizeof made);
     made.call = below(CALLS);
+    made.required = one_in(2) ? copy_of("", 1) : copy_of(required, sizeof required);
+    if (one_in(4)) damage_bytes(&made.required);
     buffer modules[2];
     for (size_t at = 0; at < 2; at++) {
         bool repeat = at == 1 && made.call == 0 && one_in(2);
@@ -266,7 +270,7 @@ static question make_question(const example *of) {
         free(worlds.bytes);
     }
     made.has_name = one_in(2);
-    made.name = text_of(one_in(4) ? "" : made.call == 5 ? of->adapter : "cabi_realloc");
+    made.name = text_of(one_in(4) ? "" : made.call == 5 || made.call == 9 ? of->adapter : "cabi_realloc");
     if (one_in(8)) damage_bytes(&made.name);
     made.page_size_log2 = one_in(8) ? (uint32_t)drawn() : 16;
     free(modules[0].bytes);
@@ -278,6 +282,7 @@ static void drop_question(question *of) {
     free(of->message.bytes);
     free(of->modules.bytes);
     free(of->name.bytes);
+    free(of->required.bytes);
     for (size_t at = 0; at < of->name_count; at++) free(of->names[at].bytes);
 }
 
@@ -321,6 +326,11 @@ static nuigatre_answer ask(const question *of, size_t room) {
         size_t exports_length = of->name_count % 3 > 0 ? 1 : 0;
         return nuigatre_paths(seed0, seed1, modules, modules_length, required, exports_length, required + exports_length,
                               of->name_count - exports_length, out, room);
+    }
+    case 9: {
+        const uint8_t *functions = placed(3, of->required);
+        return nuigatre_validated_module(seed0, seed1, message, message_length, modules, modules_length, of->has_name, name,
+                                         name_length, functions, of->required.length, out, room);
     }
     default:
         return nuigatre_validate(seed0, seed1, message, message_length, modules, modules_length, of->has_name, name,

@@ -201,7 +201,8 @@ def paths(wasm: Bytes, exports: Iterable[str] = (), imports: Iterable[str] = ())
 
     :param exports: the exports at which paths may begin; all, if there are none. They may begin at the start function too; and
         only where none of these leads to an import, at what an active segment fills.
-    :param imports: what asks for imports: ``MODULE``, with its version or without, or ``MODULE=NAME``; all, if there are none
+    :param imports: what asks for imports: ``KEY``, the name of a module or of a package of interfaces, with its version or
+        without, or ``KEY=NAME``; all, if there are none
     :return: the paths, in the order of the imports, without those to which none leads. Each has ``interface``, which is the
         import's module, ``name``, and ``steps``, whose first is where the path begins: its ``kind`` is ``export``, ``start`` or
         ``fills``. The others are items, with ``space``, ``index`` and the ``name`` of a function, or None.

@@ -28,4 +28,4 @@ def has_library():
     try:
         nuigatre.is_proved()
     except nuigatre.NoLibrary as why:
-        pytest.exit(f"{why}: tools/targets.py makes it", returncode=1)
+        pytest.exit(f"{why}: tools/targets.py makes it, and checks/web.py --only python runs these tests over a packed one", returncode=1)

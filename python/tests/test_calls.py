@@ -8,7 +8,6 @@ import pytest
 
 import nuigatre
 from nuigatre import Adapter, BadArgument, Chains, Fault, Function, Item, Rename
-from nuigatre._calls import CALLS
 
 CHOICES = ["size_of", "write", "is-ready", "read_text", "cabi_import_realloc"]
 
@@ -111,7 +110,6 @@ def test_a_world_and_its_plan_are_those_of_the_examples(examples, notes):
         nuigatre.validate(*notes(), adapter="other")
 
 
-@pytest.mark.skipif("validated_module" not in CALLS, reason="the header has no such call")
 def test_a_valid_module_has_the_record_that_the_world_has_of_it(notes):
     record = nuigatre.world(*notes()).record
     assert nuigatre.validated_module(*notes()) == record["info"]

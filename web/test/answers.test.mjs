@@ -3,7 +3,7 @@ import assert from "node:assert/strict";
 import { readFileSync } from "node:fs";
 import test from "node:test";
 import { compute, downloadsOf, faultView, MOST, readFile, rolesOf, view, worldsIn } from "../answers.mjs";
-import { CALLS, FAULTS } from "../calls.mjs";
+import { FAULTS } from "../calls.mjs";
 import { faultsOf, HINTS, hintOf, placeOf } from "../hints.mjs";
 import { Nuigatre } from "../nuigatre.mjs";
 import { damaged, numbers } from "./damage.mjs";
@@ -15,8 +15,6 @@ const file = (name, bytes = example("wcplan/" + name)) => readFile(library, name
 const files = () => ["main.wasm", "adapter.wasm", "notes.json"].map((it) => file(it));
 const shown = (list, state = {}, over = library) => view(compute(over, list, state), state);
 const paths = ({ picture }) => forest(picture.boxes).all.filter((it) => it.kind === "import").map(pathOf);
-/** The main module, and its function, where the library follows it. */
-const program = "paths" in CALLS ? "main.wasm → print" : "main.wasm";
 const header = [0, 0x61, 0x73, 0x6d, 1, 0, 0, 0];
 
 test("roles and names are what modules import of each other, or what is chosen", () => {
@@ -40,7 +38,7 @@ test("with worlds there are exact sizes and a plan, and an adapter is found for 
   assert.deepEqual([found.numbers.before, found.numbers.after, found.numbers.lowerings], [512, 317, 4]);
   assert.deepEqual(found.switches[0].list.map((it) => it.name), ["length_of", "cabi_import_realloc", "is-ready"]);
   assert.equal(found.picked.says, "main.wasm imports it itself, and length_of of an adapter reaches it too.");
-  assert.ok(paths(found).includes(`${program} → length_of → my:notes/store@1.2.0 summarize`));
+  assert.ok(paths(found).includes("main.wasm → print → length_of → my:notes/store@1.2.0 summarize"));
   assert.deepEqual(found.plan.list.map((it) => it.slot), [0, 1, 2, 3]);
   assert.deepEqual(worldsIn("{"), []);
 });
@@ -85,12 +83,14 @@ test("a search finds interfaces and functions", () => {
 test("what is to be done next is said: the program, an adapter or its name, the worlds", () => {
   const [main, adapter, worlds] = files(), notes = (list, state) => shown(list, state).notes.map((it) => it.text);
   assert.deepEqual(notes([main, adapter, worlds]), []);
-  assert.match(notes([main])[0], /^Drop the adapter old-notes too, if it is one: main\.wasm imports 1 function /);
-  assert.match(notes([main, adapter])[0], /^Drop the worlds/);
+  assert.match(notes([main])[0], /^Add the adapter old-notes too, if it is one: main\.wasm imports 1 function /);
+  assert.match(notes([main, adapter])[0], /^Add the worlds/);
   assert.match(notes([main, adapter], { names: { "adapter.wasm": "other" } })[1], /^Give adapter\.wasm the name .* but of old-notes\./);
-  assert.match(notes([adapter])[0], /^Drop your program too/);
+  assert.match(notes([adapter])[0], /^Add your program too/);
   assert.match(notes([main, worlds]).at(-1), /^Mend the fault above first/);
   assert.match(notes([file("empty.wasm", header)])[0], /^Nothing is to be done/);
+  const name = (text) => [text.length, ...Buffer.from(text)], imported = [1, ...name("wasi_snapshot_preview1"), ...name("f"), 0, 0];
+  assert.match(notes([file("app.wasm", [...header, 1, 4, 1, 0x60, 0, 0, 2, imported.length, ...imported])])[0], /It comes with Wasmtime’s releases/);
 });
 
 test("faults say what they mean, in which file and where, and what to do, and leave the rest", () => {
@@ -129,16 +129,34 @@ test("names that Rust mangled are read, and others left as they are", () => {
   for (const name of ["", "main", "_ZN", "_ZNE", "_ZN9aE", "_ZN1aEv", "_ZN1a0E", "std::move"]) assert.ok(typeof shortName(name) === "string" && readable(name).length <= name.length);
 });
 
-test("the path through the main module is drawn, where the library has that call", () => {
-  const item = (index, name) => ({ kind: "item", space: "func", index, name }), exported = { kind: "export", adapter: null, name: "run" };
-  const over = (paths) => new Proxy(library, { get: (of, name) => (name === "paths" ? paths : typeof of[name] === "function" ? of[name].bind(of) : of[name]) });
-  const path = (...steps) => paths(shown(files(), {}, over(() => [{ interface: "old-notes", name: "length_of", steps }]))).find((it) => it.endsWith("summarize"));
-  assert.equal(path(exported, item(7, "run"), item(5, null), item(3, "length")), "main.wasm → run → func 5 → length_of → my:notes/store@1.2.0 summarize");
-  assert.equal(path({ kind: "start" }, item(7, "init"), item(3, null)), "main.wasm → start function → init → length_of → my:notes/store@1.2.0 summarize");
-  const filled = [{ kind: "fills", space: "table", index: 0 }, { kind: "item", space: "elem", index: 0, name: null }, item(24, "close"), item(3, null)];
-  assert.equal(path(...filled), "main.wasm → table 0 → close → length_of → my:notes/store@1.2.0 summarize");
-  assert.equal(paths(shown(files(), {}, over(() => []))).length, 6);
-  const refused = shown(files(), {}, over(() => library.scan(new Uint8Array(3))));
+/** A main module: function 0 is `length_of` of `old-notes`, then come functions that call the next one and so it at last. */
+function program(calls, parts, names) {
+  const name = (text) => [text.length, ...Buffer.from(text)], section = (id, ...content) => [id, content.length, ...content];
+  const body = (to) => [4, 0, 0x10, to, 0x0b], named = names.flatMap((it, n) => (it ? [[n + 1, ...name(it)]] : []));
+  const list = [named.length, ...named.flat()];
+  return file("main.wasm", [
+    ...header, ...section(1, 1, 0x60, 0, 0), ...section(2, 1, ...name("old-notes"), ...name("length_of"), 0, 0),
+    ...section(3, calls.length, ...calls.map(() => 0)), ...parts({ name, section }), ...section(10, calls.length, ...calls.flatMap(body)),
+    ...section(0, ...name("name"), 1, list.length, ...list),
+  ]);
+}
+
+test("the path through the main module begins at an export, its start function or a table", () => {
+  const path = (main) => paths(shown([main, files()[1]])).find((it) => it.endsWith("summarize"));
+  const end = "length_of → my:notes/store@1.2.0 summarize";
+  const exported = program([2, 0], ({ name, section }) => section(7, 1, ...name("go"), 0, 1), ["go's own", null]);
+  assert.equal(path(exported), `main.wasm → go → func 2 → ${end}`);
+  const started = program([2, 0], ({ section }) => section(8, 1), ["init", "next"]);
+  assert.equal(path(started), `main.wasm → start function → init → next → ${end}`);
+  const filled = program([2, 0], ({ section }) => [...section(4, 1, 0x70, 0, 1), ...section(9, 1, 0, 0x41, 0, 0x0b, 1, 1)], ["close", "length"]);
+  assert.equal(path(filled), `main.wasm → table 0 → close → length → ${end}`);
+  assert.equal(path(program([1], () => [], ["unused"])), `main.wasm → ${end}`);
+});
+
+test("where the paths through the main module can't be followed, that is said, and the others are drawn", () => {
+  const over = new Proxy(library, { get: (of, name) => (name === "paths" ? () => library.scan(new Uint8Array(3)) : typeof of[name] === "function" ? of[name].bind(of) : of[name]) });
+  const refused = shown(files(), {}, over);
+  assert.equal(paths(refused).length, 6);
   assert.match(refused.notes[0].text, /^For paths through main\.wasm too, .* no WebAssembly module\.$/);
 });
 

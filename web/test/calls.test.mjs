@@ -143,7 +143,7 @@ test("a component's world and plan are those of the examples", () => {
   assert.equal(thrown(() => library.validate(notes(), "other")).constructor, BadArgument);
 });
 
-test("a valid module has the record that the world has of it", { skip: !("validated_module" in CALLS) }, () => {
+test("a valid module has the record that the world has of it", () => {
   const { record } = library.world(notes());
   assert.deepEqual(library.validatedModule(notes()), record.info);
   const [{ import: used }] = record.info.imports.find((it) => it.module === "old-notes").instance.names;

@@ -80,6 +80,12 @@ async function example() {
   check("there is a picture of the paths", document.querySelectorAll("#picture .node.import").length >= 4);
   check("the page says whether its code is proved", /proof/.test(text("proved")));
   check("a screen reader is told how many interfaces are imported", text("says-status") === "1 interface is imported.");
+  const texts = $("paths").parentElement;
+  texts.open = true;
+  $("find").dispatchEvent(new Event("input"));
+  await settled();
+  check("the texts of paths stay open", texts.open);
+  texts.open = false;
 }
 
 async function picked() {
@@ -91,7 +97,7 @@ async function picked() {
   check("a sentence says why it is imported", text("says").startsWith("main.wasm imports it itself"));
   check("its functions are listed", text("functions-title").endsWith("4 of 4 imported"));
   const path = [...$("paths").children].map((it) => it.textContent).find((it) => it.includes("summarize"));
-  check("a path leads to the import", /^main\.wasm → (print → )?length_of → my:notes\/store@1\.2\.0 summarize$/.test(path));
+  check("a path leads through the program to the import", path === "main.wasm → print → length_of → my:notes/store@1.2.0 summarize");
   const nodes = [...document.querySelectorAll("#picture .node.import")];
   check("one box of the picture is a stop of the Tab key", nodes.filter((it) => it.getAttribute("tabindex") === "0").length === 1);
   focus(nodes.find((it) => it.getAttribute("tabindex") === "0"));
@@ -157,10 +163,10 @@ async function begun() {
   await cleared();
   const adapter = await bytesOf("adapter.wasm"), main = await bytesOf("main.wasm");
   await drop(["some adapter.wasm", adapter]);
-  check("an adapter alone asks for its program", text("notes").startsWith("Drop your program too"));
+  check("an adapter alone asks for its program", text("notes").startsWith("Add your program too"));
   await drop(["app.wasm", main]);
   check("with the program it gets the name under which that imports it", document.querySelector("#files input")?.value === "old-notes");
-  check("the worlds are asked for", text("notes").startsWith("Drop the worlds"));
+  check("the worlds are asked for", text("notes").startsWith("Add the worlds"));
   check("no other core module is listed", document.querySelectorAll("#list button").length === 1);
   const name = document.querySelector("#files input");
   name.value = "other";
@@ -169,7 +175,7 @@ async function begun() {
   check("a name of which nothing is imported is said", text("notes").includes("Give some adapter.wasm the name"));
   await cleared();
   await drop(["app.wasm", main]);
-  check("a program alone asks for its adapter", text("notes").startsWith("Drop the adapter old-notes too"));
+  check("a program alone asks for its adapter", text("notes").startsWith("Add the adapter old-notes too"));
 }
 
 async function faults() {
@@ -221,7 +227,7 @@ async function stopped() {
   check("and is", text("faults").startsWith("It was stopped.") && !$("again").hidden && $("stop").hidden);
   document.querySelector('[aria-label="Take x.wasm away"]').click();
   await settled();
-  check("the next answer is as ever", $("fault").hidden && $("again").hidden && text("notes").includes("Drop the adapter x too"));
+  check("the next answer is as ever", $("fault").hidden && $("again").hidden && text("notes").includes("Add the adapter x too"));
 }
 
 /** A worker with little memory says so. */

@@ -22,7 +22,7 @@ test("it says what is imported, and why, and saves what is left", () => {
     assert.equal(Buffer.compare(readFileSync(join(folder, "old-notes.trimmed.wasm")), readFileSync(path("../../examples/wcplan/trimmed.wasm"))), 0);
     assert.equal(JSON.parse(readFileSync(join(folder, "record.json"))).plan.length, 4);
     const one = said(...files, "--import", "my:notes/store@1.2.0");
-    assert.ok(one.lines.some((it) => /^  main\.wasm → (print → )?length_of → my:notes\/store@1\.2\.0 summarize$/.test(it)));
+    assert.ok(one.lines.includes("  main.wasm → print → length_of → my:notes/store@1.2.0 summarize"));
     assert.ok(!said(...files, "--import", "my:notes/store@1.2.0", "--without", "length_of").lines.some((it) => it.includes("length_of")));
   } finally {
     rmSync(folder, { recursive: true });
@@ -32,7 +32,7 @@ test("it says what is imported, and why, and saves what is left", () => {
 test("what is wrong, and what to do next, is said", () => {
   const folder = mkdtempSync(join(tmpdir(), "nuigatre-why-"));
   try {
-    assert.match(said(files[0]).lines.at(-1), /^next: Drop the adapter old-notes too/);
+    assert.match(said(files[0]).lines.at(-1), /^next: Add the adapter old-notes too/);
     const cut = join(folder, "cut.wasm");
     writeFileSync(cut, readFileSync(files[0]).subarray(0, 50));
     const damaged = said(cut);

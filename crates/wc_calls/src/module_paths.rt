@@ -17,8 +17,9 @@ use wc_texts::Refused;
 
 /// Answers the paths to the imports of a module, main modules too: from its exports of the names `exports`, or from all,
 /// where there are none, from its start function, and where none of these leads to an import, from its active segments, as
-/// `wc_import_paths::paths_to_json` does. Each text of `imports` asks for imports: `MODULE` for those of a module, `MODULE=NAME`
-/// for those of them that have a name; without texts all are asked for. `seed`: the seed of the maps that are made.
+/// `wc_import_paths::paths_to_json` does. Each text of `imports` asks for imports: `KEY` for those of a module or of a
+/// package of interfaces, `KEY=NAME` for those of them that have a name (`wc_import_paths::patterns_of`); without texts all
+/// are asked for. `seed`: the seed of the maps that are made.
 ///
 /// - `DONE`: the front of `out` has the paths as JSON in a line, `length` bytes. An import to which no path leads is left
 ///   out, and so is what the module does not import.

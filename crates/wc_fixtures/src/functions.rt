@@ -4,6 +4,7 @@ use crate::bad::Bad;
 use crate::types::{type_id, wit_type};
 use crate::words::Words;
 use std::alloc::Global;
+use std::rc::RcSlice;
 use wc_resolve::{Function, FunctionKind, WitType};
 
 /// Appends a named type so many times.
@@ -73,7 +74,7 @@ pub fn function_under(words: &mut Words, key: &str) -> Result<Function, Bad> {
     };
     let kind = function_kind(words)?;
     words.expect("(", "a function without `(`")?;
-    let params = named_types(words)?;
+    let params = RcSlice::from_vec(named_types(words)?)?;
     words.expect(")", "a function without `)`")?;
     let result = if words.take("->") {
         Some(wit_type(words)?)

@@ -9,15 +9,17 @@ use Rattle.json.specs.Token.{Token}
 use Rattle.json.specs.Tree.{json_tokens}
 use Rattle.json.specs.Written.{Written}
 use Rattle.wc_read.specs.Modules.{module_value}
+use Rattle.wc_read.specs.Names.{GlobalNameValue}
+use Rattle.wc_read.specs.Reading.Names.{AreFunctionNames}
 use Rattle.std.specs.Prelude.{length}
 use Rattle.wc_why.specs.Joined.{AreJoined}
 use Rattle.wc_why.specs.JsonPaths.{begun_tokens, ended_tokens, path_json, paths_json}
 use Rattle.wc_why.specs.Paths.{PathView}
 use Rattle.wc_why.proofs.JoinedLemmas.{none_joined, one_joined}
 use Rattle.wc_why.proofs.TokenLemmas.{paths_tokens}
-use Rattle.wc_import_paths.specs.JsonPaths.{IsWayAt}
+use Rattle.wc_import_paths.specs.JsonPaths.{IsPathsText, IsWayAt}
 use Rattle.wc_import_paths.specs.Patterns.{PatternView}
-use Rattle.wc_import_paths.specs.Followed.{IsJsonIn, followed_view}
+use Rattle.wc_import_paths.specs.Followed.{AreNamesIn, IsJsonIn, IsSource, followed_view}
 use Rattle.wc_import_paths.specs.Private.Followed.{IsWrittenAt}
 use Rattle.wc_import_paths.specs.declared.followed.Followed.{Followed}
 
@@ -25,17 +27,21 @@ abbrev pub tokens_all : List PathView → List Token
 tokens_all paths = flat_map (λ p. json_tokens (path_json p)) paths
 
 module _ (f : Followed) (patterns : List PatternView) where
+  -- the paths to an import, whatever names the functions have
+  abbrev IsWay : ℕ → List PathView → Type 0
+  IsWay n paths = (names : List GlobalNameValue) → AreNamesIn f names → IsWayAt (followed_view f names) patterns n paths
+
   -- the paths to imports below n were written
   pub record AreWritten (n : ℕ) (w : Written) : Type 0 where
     pub paths : List PathView
-    pub are : AreJoined n (IsWayAt (followed_view f) patterns) paths
+    pub are : (names : List GlobalNameValue) → AreNamesIn f names → AreJoined n (IsWayAt (followed_view f names) patterns) paths
     pub before : w.before ≡ []
     pub tokens : w.tokens ≡ begun_tokens ++ tokens_all paths
 
   pub none_written : (w : Written) → w.tokens ≡ begun_tokens → w.before ≡ [] → AreWritten 0 w
   none_written w begun none = record {
     paths = [];
-    are = none_joined (IsWayAt (followed_view f) patterns);
+    are = λ names named. none_joined (IsWayAt (followed_view f names) patterns);
     before = none;
     tokens = begun ∙ sym (append-nil begun_tokens);
   }
@@ -43,7 +49,7 @@ module _ (f : Followed) (patterns : List PatternView) where
   pub one_written : (n : ℕ) (old new : Written) → AreWritten n old → IsWrittenAt f patterns n old new → AreWritten (n + 1) new
   one_written n old new w (paths, way, before, more) = record {
     paths = w.paths ++ paths;
-    are = one_joined n (IsWayAt (followed_view f) patterns) w.paths paths w.are way;
+    are = λ names named. one_joined n (IsWayAt (followed_view f names) patterns) w.paths paths (w.are names named) (way names named);
     before = before ∙ w.before;
     tokens = more ∙ (ap (λ z. z ++ tokens_all paths) w.tokens
         ∙ (append_assoc begun_tokens (tokens_all w.paths) (tokens_all paths)
@@ -52,11 +58,11 @@ module _ (f : Followed) (patterns : List PatternView) where
 
   pub all_written : (w : Written) (text : List ℕ) → AreWritten (length (module_value f.code).imports) w
       → text ≡ w.before ++ (print (ended_tokens w.tokens) ++ codes "\n") → tokens (print (ended_tokens w.tokens)) ≡ ended_tokens w.tokens → IsJsonIn f patterns text
-  all_written w text a is back =
+  all_written w text a is back names named =
       let all : ended_tokens w.tokens ≡ json_tokens (paths_json a.paths) = ap ended_tokens a.tokens ∙ paths_tokens a.paths in
       record {
         paths = a.paths;
-        are = a.are;
+        are = a.are names named;
         is = is ∙ (ap (λ z. z ++ (print (ended_tokens w.tokens) ++ codes "\n")) a.before ∙ ap (λ z. print z ++ codes "\n") all);
         back = ap (λ z. tokens (print z)) (sym all) ∙ (back ∙ all);
       }
@@ -68,10 +74,23 @@ module _ (f : Followed) (patterns : List PatternView) where
   json_ended (Err e) w n all a is back = tt
 
   -- one import
-  pub nothing_written : (n : ℕ) (w : Written) → IsWayAt (followed_view f) patterns n [] → IsWrittenAt f patterns n w w
+  pub nothing_written : (n : ℕ) (w : Written) → IsWay n [] → IsWrittenAt f patterns n w w
   nothing_written n w way = ([], way, refl, sym (append-nil w.tokens))
 
-  pub path_written : {E : Type 0} (n : ℕ) (old new : Written) (p : PathView) (r : Result (Unit {0}) E) → IsWayAt (followed_view f) patterns n (p ∷ [])
+  pub path_written : {E : Type 0} (n : ℕ) (old new : Written) (p : PathView) (r : Result (Unit {0}) E) → IsWay n (p ∷ [])
       → OnOk r (new.tokens ≡ old.tokens ++ json_tokens (path_json p)) → OnOk r (new.before ≡ old.before) → OnOk r (IsWrittenAt f patterns n old new)
   path_written n old new p (Ok u) way put kept = (p ∷ [], way, kept, put ∙ ap (λ z. old.tokens ++ z) (sym (append-nil (json_tokens (path_json p)))))
   path_written n old new p (Err e) way put kept = tt
+
+-- of a module that is followed, by its names
+pub paths_text : (bytes : List ℕ) (exports : List (List ℕ)) (f : Followed) (patterns : List PatternView) (text : List ℕ) → IsSource bytes exports f
+    → IsJsonIn f patterns text → IsPathsText bytes exports patterns text
+paths_text bytes exports f patterns text is json =
+    let names = is.has_paths.named.all in
+    let given = is.has_paths.named.given in
+    record {
+      source = followed_view f names;
+      followed = is.followed names;
+      named = subst (λ b. AreFunctionNames b names) is.spelled given;
+      is = json names given;
+    }

@@ -1,7 +1,9 @@
 pub mod SearchLemmas
 pub mod RootLemmas
+pub mod KeyLemmas
 pub mod AskedLemmas
 pub mod FollowedLemmas
 pub mod ItemLemmas
 pub mod WayLemmas
 pub mod JsonLemmas
+pub mod FunctionNameLemmas

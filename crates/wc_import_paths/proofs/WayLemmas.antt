@@ -4,6 +4,7 @@ use Rattle.std.proofs.lemmas.Option.{same_Some}
 use Rattle.std.specs.List.{slice_get}
 use Rattle.wc_read.specs.Imports.{ImportValue}
 use Rattle.wc_read.specs.Modules.{module_value}
+use Rattle.wc_read.specs.Names.{GlobalNameValue}
 use Rattle.wc_paths.specs.Paths.{IsAnswer, IsPathAnswer}
 use Rattle.wc_paths.specs.Roots.{import_item}
 use Rattle.wc_paths.specs.declared.items.PathItem.{PathItem}
@@ -12,40 +13,46 @@ use Rattle.wc_why.specs.Paths.{PathView}
 use Rattle.wc_import_paths.specs.Following.{first_in, graph_in, second_in}
 use Rattle.wc_import_paths.specs.JsonPaths.{IsPathTo, IsUnreached, IsWayAt, IsWayOf}
 use Rattle.wc_import_paths.specs.Patterns.{PatternView, is_shown}
-use Rattle.wc_import_paths.specs.Followed.{HasPaths, IsPathIn, followed_view}
+use Rattle.wc_import_paths.specs.Followed.{AreNamesIn, HasPaths, IsPathIn, followed_view}
 use Rattle.wc_import_paths.specs.Private.Followed.{IsShownPath}
 use Rattle.wc_import_paths.specs.declared.followed.Followed.{Followed}
 
 module _ (f : Followed) (position : ℕ) (j : ImportValue) (at : slice_get (module_value f.code).imports position ≡ Some j) where
   -- the path that was found
   module _ (x : PathItem) (item : x ≡ import_item (module_value f.code).imports position j) (h : HasPaths f) (answer : Option Path) (found : IsPathAnswer f.paths x answer) where
-    found_here : IsAnswer (graph_in (followed_view f)) (first_in (followed_view f)) (second_in (followed_view f)) x answer
-    found_here = found (graph_in (followed_view f)) (first_in (followed_view f)) (second_in (followed_view f)) h.paths
+    found_here : (names : List GlobalNameValue)
+        → IsAnswer (graph_in (followed_view f names)) (first_in (followed_view f names)) (second_in (followed_view f names)) x answer
+    found_here names = found (graph_in (followed_view f names)) (first_in (followed_view f names)) (second_in (followed_view f names)) h.paths
 
     pub path_is : (p : Path) (shown : PathView) → answer ≡ Some p → IsShownPath f j p shown → IsPathIn f position (Some shown)
-    path_is p shown is (root, begins, same) i e =
-        let leads = subst (IsAnswer (graph_in (followed_view f)) (first_in (followed_view f)) (second_in (followed_view f)) x) is found_here in
-        let here : IsPathTo (followed_view f) j x shown =
-        record { is_second = p.is_second; items = p.items.items; leads = leads; root = root; begins = begins; is = same } in
-        subst (λ k. IsPathTo (followed_view f) k (import_item (module_value f.code).imports position k) shown) (same_Some j i (sym at ∙ e))
-        (subst (λ y. IsPathTo (followed_view f) j y shown) item here)
+    path_is p shown is (root, begins, same) names named i e =
+        let leads = subst (IsAnswer (graph_in (followed_view f names)) (first_in (followed_view f names)) (second_in (followed_view f names)) x) is (found_here names) in
+        let here : IsPathTo (followed_view f names) j x shown =
+        record { is_second = p.is_second; items = p.items.items; leads = leads; root = root; begins = begins; is = same names named } in
+        subst (λ k. IsPathTo (followed_view f names) k (import_item (module_value f.code).imports position k) shown) (same_Some j i (sym at ∙ e))
+        (subst (λ y. IsPathTo (followed_view f names) j y shown) item here)
 
     pub none_is : answer ≡ None → IsPathIn f position None
-    none_is is i e =
-        let none = subst (IsAnswer (graph_in (followed_view f)) (first_in (followed_view f)) (second_in (followed_view f)) x) is found_here in
-        subst (λ k. IsUnreached (followed_view f) (import_item (module_value f.code).imports position k)) (same_Some j i (sym at ∙ e))
-        (subst (IsUnreached (followed_view f)) item none)
+    none_is is names named i e =
+        let none = subst (IsAnswer (graph_in (followed_view f names)) (first_in (followed_view f names)) (second_in (followed_view f names)) x) is (found_here names) in
+        subst (λ k. IsUnreached (followed_view f names) (import_item (module_value f.code).imports position k)) (same_Some j i (sym at ∙ e))
+        (subst (IsUnreached (followed_view f names)) item none)
 
   -- the paths that are collected of it
   module _ (patterns : List PatternView) where
-    of_this : (paths : List PathView) → IsWayOf (followed_view f) patterns position j paths → IsWayAt (followed_view f) patterns position paths
-    of_this paths way i e = subst (λ k. IsWayOf (followed_view f) patterns position k paths) (same_Some j i (sym at ∙ e)) way
+    -- whatever names the functions have
+    abbrev pub IsWay : List PathView → Type 0
+    IsWay paths = (names : List GlobalNameValue) → AreNamesIn f names → IsWayAt (followed_view f names) patterns position paths
 
-    pub way_hidden : is_shown patterns j ≡ false → IsWayAt (followed_view f) patterns position []
-    way_hidden hidden = of_this [] (inl (hidden, refl))
+    of_this : (names : List GlobalNameValue) (paths : List PathView) → IsWayOf (followed_view f names) patterns position j paths
+        → IsWayAt (followed_view f names) patterns position paths
+    of_this names paths way i e = subst (λ k. IsWayOf (followed_view f names) patterns position k paths) (same_Some j i (sym at ∙ e)) way
 
-    pub way_found : (p : PathView) → is_shown patterns j ≡ true → IsPathIn f position (Some p) → IsWayAt (followed_view f) patterns position (p ∷ [])
-    way_found p shown is = of_this (p ∷ []) (inr (shown, inl (p, is j at, refl)))
+    pub way_hidden : is_shown patterns j ≡ false → IsWay []
+    way_hidden hidden names named = of_this names [] (inl (hidden, refl))
 
-    pub way_missing : is_shown patterns j ≡ true → IsPathIn f position None → IsWayAt (followed_view f) patterns position []
-    way_missing shown none = of_this [] (inr (shown, inr (none j at, refl)))
+    pub way_found : (p : PathView) → is_shown patterns j ≡ true → IsPathIn f position (Some p) → IsWay (p ∷ [])
+    way_found p shown is names named = of_this names (p ∷ []) (inr (shown, inl (p, is names named j at, refl)))
+
+    pub way_missing : is_shown patterns j ≡ true → IsPathIn f position None → IsWay []
+    way_missing shown none names named = of_this names [] (inr (shown, inr (none names named j at, refl)))

@@ -2,5 +2,6 @@ pub mod Patterns
 pub mod Roots
 pub mod Following
 pub mod JsonPaths
+pub mod FunctionNames
 pub mod Followed
 pub mod Private

@@ -1,21 +1,22 @@
 -- Which imports are asked for.
-use Rattle.std.specs.Prelude.{◌==◌, ℕ, Bool, true, false, not, ◌&&◌, ◌||◌, List, [], ◌∷◌, Option, Some, None}
-use Rattle.std.specs.List.{before_first, find, list_any}
+use Rattle.std.specs.Prelude.{ℕ, Bool, true, false, not, ◌&&◌, List, [], ◌∷◌, Option, Some, None}
+use Rattle.std.specs.List.{find, list_any}
 use Rattle.std.specs.Option.{option_map}
 use Rattle.std.specs.Str.{bytes_eq}
 use Rattle.wc_json.specs.Packages.{split_once}
 use Rattle.wc_read.specs.Imports.{ImportValue}
+use Rattle.wc_why.specs.Keys.{asks_about}
 use Rattle.wc_why.specs.Paths.{text_of}
 use Rattle.wc_import_paths.specs.declared.patterns.ImportPattern.{ImportPattern}
 
--- imports that are asked for: a module, and a name, where only imports of this name are
+-- imports that are asked for: a key of modules, and a name, where only imports of this name are
 abbrev pub PatternView : Type 0
 PatternView = List ℕ × Option (List ℕ)
 
 abbrev pub pattern_view : ImportPattern → PatternView
-pattern_view p = (p.module.now, option_map text_of p.name)
+pattern_view p = (p.key.now, option_map text_of p.name)
 
--- the imports that a text asks for: those of `MODULE`, or of `MODULE=NAME`; 61 is `=`
+-- the imports that a text asks for: those of `KEY`, or of `KEY=NAME`; 61 is `=`
 abbrev pub pattern_by : List ℕ → Option (List ℕ × List ℕ) → PatternView
 pattern_by text None = (text, None)
 pattern_by text (Some p) = (p.0, Some p.1)
@@ -23,22 +24,14 @@ pattern_by text (Some p) = (p.0, Some p.1)
 abbrev pub pattern_of : List ℕ → PatternView
 pattern_of text = pattern_by text (split_once 61 text)
 
--- a name without its version: what is before the first `@`, which is 64
-abbrev pub unversioned_text : List ℕ → List ℕ
-unversioned_text text = before_first (λ b. b == 64) text
-
 -- a name is asked for
 abbrev pub is_name : Option (List ℕ) → List ℕ → Bool
 is_name None name = true
 is_name (Some n) name = bytes_eq n name
 
--- a module is asked for: by its name, with its version or without
-abbrev pub is_module : List ℕ → List ℕ → Bool
-is_module asked module_name = bytes_eq asked module_name || bytes_eq asked (unversioned_text module_name)
-
 -- an import is one of those that a pattern asks for
 abbrev pub is_match : PatternView → ImportValue → Bool
-is_match p i = is_module p.0 i.module_name && is_name p.1 i.name
+is_match p i = asks_about p.0 i.module_name && is_name p.1 i.name
 
 -- there are patterns that ask for imports
 abbrev pub are_asked : List PatternView → Bool

@@ -2,3 +2,4 @@
 pub mod Asked
 pub mod Roots
 pub mod Followed
+pub mod FunctionNames

@@ -4,17 +4,32 @@ ghost use Rattle.std.specs.Prelude.{◌≡◌, IfOk, List, OnOk, map};
 ghost use Rattle.std.specs.List.{list_any};
 ghost use Rattle.std.specs.Option.{option_map};
 ghost use Rattle.wc_read.specs.Imports.{ImportValue, import_value};
-ghost use Rattle.wc_import_paths.specs.Patterns.{are_asked, first_unknown, is_match, is_shown, pattern_view};
-ghost use Rattle.wc_import_paths.specs.Private.Asked.{AddsNamed, AddsOffered, HasOffered, HasSame, has_named, in_set};
+ghost use Rattle.wc_why.specs.Keys.{version_of};
+ghost use Rattle.wc_why.specs.Paths.{text_of};
+ghost use Rattle.wc_import_paths.specs.Patterns.{are_asked, first_unknown, is_known, is_match, is_shown, pattern_view};
+ghost use Rattle.wc_import_paths.specs.Private.Asked.{AddsKeys, AddsNamed, AddsOffered, HasOffered, HasSame, has_any, has_key, has_named, key_of, key_view, package_keys, version_keys, versioned_keys};
 
-use crate::patterns::{ImportPattern, first_unknown, is_shown, unversioned};
+use crate::patterns::{ImportPattern, first_unknown, is_shown};
 use std::alloc::{AllocError, Global};
 use std::marker::Model;
 use wc_maps::{Seed, Set};
 use wc_read::Import;
+use wc_why::{unversioned, version_of};
 
 /// So many patterns, or fewer, are gone through one after another: that takes less time than to look for them by hashes.
 const FEW: usize = 8;
+
+/// A pattern as it is looked up: its key, cut at the first `@`, and its name. So a package with its version, which stands in
+/// no name of a module as it is, is made of parts of one.
+#[derive(Clone, Copy, PartialEq, Eq, Hash)]
+struct PatternKey<'a> {
+    /// The key without its version.
+    text: &'a str,
+    /// Its version, if it has one.
+    version: Option<&'a str>,
+    /// The name of the import; any, if it is `None`.
+    name: Option<&'a str>,
+}
 
 /// Patterns that ask for imports, ready to be looked up.
 #[derive(Drop)]
@@ -22,7 +37,7 @@ pub struct Asked<'p, 'a> {
     /// As they are given.
     patterns: &'p [ImportPattern<'a>],
     /// The patterns as a set, for looking them up.
-    set: Set<ImportPattern<'a>>,
+    set: Set<PatternKey<'a>>,
 }
 
 impl<'p, 'a> Model for Asked<'p, 'a> {
@@ -54,6 +69,11 @@ impl<'p, 'a> Asked<'p, 'a> {
         Ok(Asked { patterns, set })
     }
 
+    /// The seed of the sets.
+    pub(crate) fn seed(&self) -> Seed {
+        *self.set.hasher()
+    }
+
     /// Whether there are any.
     pub fn are_there(&self) -> bool
         ensures { result ≡ are_asked self.now }
@@ -76,20 +96,60 @@ impl<'p, 'a> Asked<'p, 'a> {
     fn is_found(&self, import: &Import<'_>) -> bool
         ensures { result ≡ list_any (λ p. is_match p (import_value import.now)) self.now }
     {
-        self.has_named(import.module, import.name)
-            || self.has_named(unversioned(import.module), import.name)
+        self.has_versions(unversioned(import.module), import.module, import.name)
+            || self.has_package(import.module, import.name)
     }
 
-    /// Whether a pattern asks for the imports of a module, or for those of them that have this name.
-    fn has_named<'n>(&self, module: &'n str, name: &'n str) -> bool
-        ensures { result ≡ has_named self.now module.now name.now }
+    /// Whether a pattern is for imports of the package of a module, with its version or without.
+    fn has_package<'n>(&self, module: &'n str, name: &'n str) -> bool
+        ensures { result ≡ has_any self.now (package_keys module.now) name.now }
     {
-        let named = ImportPattern {
-            module,
+        match module.split_once('/') {
+            Some((front, rest)) => self.has_versions(front, rest, name),
+            None => false,
+        }
+    }
+
+    /// Whether a pattern is for imports under this key, with the version that a text has or without one.
+    fn has_versions<'n>(&self, front: &'n str, text: &'n str, name: &'n str) -> bool
+        ensures { result ≡ has_any self.now
+            (versioned_keys front.now (version_of text.now)) name.now }
+    {
+        self.has_named(front, None, name) || self.has_version(front, text, name)
+    }
+
+    /// Whether a pattern is for imports under this key with the version that a text has.
+    fn has_version<'n>(&self, front: &'n str, text: &'n str, name: &'n str) -> bool
+        ensures { result ≡ has_any self.now
+            (version_keys front.now (version_of text.now)) name.now }
+    {
+        match version_of(text) {
+            Some(version) => self.has_named(front, Some(version), name),
+            None => false,
+        }
+    }
+
+    /// Whether a pattern is for imports under a key, or for those of them that have this name.
+    fn has_named<'n>(&self, text: &'n str, version: Option<&'n str>, name: &'n str) -> bool
+        ensures { result ≡ has_named self.now
+            (text.now, option_map text_of version.entry) name.now }
+    {
+        self.has_key(PatternKey {
+            text,
+            version,
             name: Some(name),
-        };
-        let any = ImportPattern { module, name: None };
-        self.set.contains(&named) || self.set.contains(&any)
+        }) || self.has_key(PatternKey {
+            text,
+            version,
+            name: None,
+        })
+    }
+
+    /// Whether there is a pattern that is looked up so.
+    fn has_key(&self, key: PatternKey<'_>) -> bool
+        ensures { result ≡ has_key self.now (key_view key.entry) }
+    {
+        self.set.contains(&key)
     }
 
     /// The first pattern that asks for none of these imports.
@@ -118,14 +178,25 @@ fn set_of<'a>(
     alloc: Global,
     seed: Seed,
     patterns: &[ImportPattern<'a>],
-) -> Result<Set<ImportPattern<'a>>, AllocError>
+) -> Result<Set<PatternKey<'a>>, AllocError>
     ensures { IfOk result (λ set. HasSame set.keys (map pattern_view patterns.now)) }
 {
     let mut set = Set::with_hasher(alloc, seed);
     for pattern in patterns {
-        set.insert(*pattern)?;
+        set.insert(key_of(pattern))?;
     }
     Ok(set)
+}
+
+/// A pattern as it is looked up.
+fn key_of<'a>(pattern: &ImportPattern<'a>) -> PatternKey<'a>
+    ensures { key_view result ≡ key_of (pattern_view pattern.now) }
+{
+    PatternKey {
+        text: unversioned(pattern.key),
+        version: version_of(pattern.key),
+        name: pattern.name,
+    }
 }
 
 /// All patterns that ask for any of these imports.
@@ -133,7 +204,7 @@ fn offered<'i>(
     alloc: Global,
     seed: Seed,
     imports: &[Import<'i>],
-) -> Result<Set<ImportPattern<'i>>, AllocError>
+) -> Result<Set<PatternKey<'i>>, AllocError>
     ensures { IfOk result (λ set. HasOffered set.keys (map import_value imports.now)) }
 {
     let mut set = Set::with_hasher(alloc, seed);
@@ -144,39 +215,91 @@ fn offered<'i>(
 }
 
 /// Adds the patterns that ask for an import.
-fn add_offered<'i>(set: &mut Set<ImportPattern<'i>>, import: &Import<'i>) -> Result<(), AllocError>
+fn add_offered<'i>(set: &mut Set<PatternKey<'i>>, import: &Import<'i>) -> Result<(), AllocError>
     ensures { OnOk result (AddsOffered set.old.keys set.new.keys (import_value import.now)) }
 {
-    add_named(set, import.module, import.name)?;
-    add_named(set, unversioned(import.module), import.name)
+    let module = import.module;
+    add_versions(set, unversioned(module), module, import.name)?;
+    add_package(set, module, import.name)
 }
 
-/// Adds the patterns for imports of a module, and for those of them that have this name.
-fn add_named<'i>(
-    set: &mut Set<ImportPattern<'i>>,
+/// Adds the patterns for imports of the package of a module, with its version and without.
+fn add_package<'i>(
+    set: &mut Set<PatternKey<'i>>,
     module: &'i str,
     name: &'i str,
 ) -> Result<(), AllocError>
-    ensures { OnOk result (AddsNamed set.old.keys set.new.keys module.now name.now) }
+    ensures { OnOk result (AddsKeys set.old.keys set.new.keys (package_keys module.now) name.now) }
 {
-    set.insert(ImportPattern {
-        module,
+    match module.split_once('/') {
+        Some((front, rest)) => add_versions(set, front, rest, name),
+        None => Ok(()),
+    }
+}
+
+/// Adds the patterns for imports under a key, with the version that a text has and without one.
+fn add_versions<'i>(
+    set: &mut Set<PatternKey<'i>>,
+    front: &'i str,
+    text: &'i str,
+    name: &'i str,
+) -> Result<(), AllocError>
+    ensures { OnOk result (AddsKeys set.old.keys set.new.keys
+        (versioned_keys front.now (version_of text.now)) name.now) }
+{
+    add_named(set, front, None, name)?;
+    add_version(set, front, text, name)
+}
+
+/// Adds the patterns for imports under a key with the version that a text has.
+fn add_version<'i>(
+    set: &mut Set<PatternKey<'i>>,
+    front: &'i str,
+    text: &'i str,
+    name: &'i str,
+) -> Result<(), AllocError>
+    ensures { OnOk result (AddsKeys set.old.keys set.new.keys
+        (version_keys front.now (version_of text.now)) name.now) }
+{
+    match version_of(text) {
+        Some(version) => add_named(set, front, Some(version), name),
+        None => Ok(()),
+    }
+}
+
+/// Adds the patterns for imports under a key, and for those of them that have this name.
+fn add_named<'i>(
+    set: &mut Set<PatternKey<'i>>,
+    text: &'i str,
+    version: Option<&'i str>,
+    name: &'i str,
+) -> Result<(), AllocError>
+    ensures { OnOk result (AddsNamed set.old.keys set.new.keys
+        (text.now, option_map text_of version.entry) name.now) }
+{
+    set.insert(PatternKey {
+        text,
+        version,
         name: Some(name),
     })?;
-    set.insert(ImportPattern { module, name: None })?;
+    set.insert(PatternKey {
+        text,
+        version,
+        name: None,
+    })?;
     Ok(())
 }
 
 /// The first pattern that a set lacks.
 fn first_missing<'a>(
     patterns: &[ImportPattern<'a>],
-    set: &Set<ImportPattern<'_>>,
+    set: &Set<PatternKey<'_>>,
 ) -> Option<ImportPattern<'a>>
     ensures { (imports : List ImportValue) → HasOffered set.now.keys imports
         → option_map pattern_view result ≡ first_unknown imports (map pattern_view patterns.now) }
 {
     for pattern in patterns {
-        if !has_pattern(set, *pattern) {
+        if !has_pattern(set, pattern) {
             return Some(*pattern);
         }
     }
@@ -184,8 +307,9 @@ fn first_missing<'a>(
 }
 
 /// Whether a set has this pattern.
-fn has_pattern(set: &Set<ImportPattern<'_>>, pattern: ImportPattern<'_>) -> bool
-    ensures { result ≡ in_set set.now.keys pattern.entry }
+fn has_pattern(set: &Set<PatternKey<'_>>, pattern: &ImportPattern<'_>) -> bool
+    ensures { (imports : List ImportValue) → HasOffered set.now.keys imports
+        → result ≡ is_known imports (pattern_view pattern.now) }
 {
-    set.contains(&pattern)
+    set.contains(&key_of(pattern))
 }

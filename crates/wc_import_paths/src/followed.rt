@@ -4,8 +4,6 @@ ghost use Rattle.std.specs.Prelude.{◌≡◌, ◌≢◌, AllPairs, IfErr, IfOk,
 ghost use Rattle.std.specs.Option.{option_map};
 ghost use Rattle.wc_read.specs.Exports.{export_value};
 ghost use Rattle.wc_read.specs.Modules.{SpellsModule, module_value};
-ghost use Rattle.wc_read.specs.Names.{name_entries};
-ghost use Rattle.wc_read.specs.Reading.Names.{AreFunctionNames};
 ghost use Rattle.wc_gc.specs.Exports.{missing_name};
 ghost use Rattle.wc_gc.specs.declared.trim_place.TrimPlace.TheVariants.{Bytes};
 ghost use Rattle.wc_segments.specs.Segments.{SpellsSegments, segments_value};
@@ -17,19 +15,25 @@ ghost use Rattle.wc_import_paths.specs.Roots.{exports_for};
 ghost use Rattle.wc_import_paths.specs.Followed.{IsSource};
 ghost use Rattle.wc_import_paths.specs.Private.Followed.{IsExportRefusal, IsPathsRefusal, IsReadRefusal, IsSegmentsRefusal, IsUnreadRefusal, IsUnreadSegments};
 
+use crate::asked::Asked;
+use crate::function_names::{names_on, shown_on};
 use crate::roots::exports_for;
 use std::alloc::{AllocError, Global};
 use wc_gc::{GcFault, TrimPlace};
 use wc_maps::{OrderedMap, Seed};
-use wc_paths::{PathFault, PathItem, PathRoots, Paths, import_items, roots_of, second_roots};
+use wc_paths::{
+    OnPaths, PathFault, PathItem, PathRoots, Paths, import_items, roots_of, second_roots,
+};
 use wc_read::codes::{DATA_COUNT_ID, DATA_ID, ELEMENT_ID};
-use wc_read::{Export, Module, ReadFault, ReadPlace, function_names, read_module_explained};
+use wc_read::{Export, Module, ReadFault, ReadPlace, read_module_explained};
 use wc_segments::{SegmentSection, Segments, read_segments};
 use wc_texts::Refused;
 
 /// A module, its segments, and the paths in it.
 #[derive(Drop)]
 pub struct Followed<'r> {
+    /// Its bytes.
+    pub bytes: &'r [u8],
     /// The module.
     pub code: Module<'r>,
     /// Its segments.
@@ -40,7 +44,9 @@ pub struct Followed<'r> {
     pub paths: Paths,
     /// For each import its item.
     pub items: Vec<PathItem>,
-    /// The names of functions.
+    /// The items on the paths to the imports that are asked for.
+    pub shown: OnPaths,
+    /// The names of the functions among these.
     pub names: OrderedMap<u32, &'r str>,
 }
 
@@ -50,9 +56,9 @@ pub type Refusal = Refused<GcFault, TrimPlace>;
 
 /// Reads the module with these bytes, and finds the paths in it: from its exports of these names, in their order, or from
 /// all in the order of the module, where there are none, and from the start function; and only where none of these leads to
-/// an item, from the active segments (`wc_paths`). `seed`: the seed of the map that is made.
+/// an item, from the active segments (`wc_paths`). Of functions on the paths to imports that are asked for it finds the names.
 ///
-/// It takes time and memory linear in the module and in the names.
+/// It takes time and memory linear in the module and in the names that are given.
 ///
 /// # Errors
 ///
@@ -66,7 +72,7 @@ pub type Refusal = Refused<GcFault, TrimPlace>;
 /// - `Memory`: an allocation failed.
 pub fn follow<'r>(
     alloc: Global,
-    seed: Seed,
+    asked: &Asked<'_, '_>,
     bytes: &'r [u8],
     export_names: &[&str],
 ) -> Result<Followed<'r>, Refusal>
@@ -76,17 +82,20 @@ pub fn follow<'r>(
 {
     let code = read(alloc, bytes)?;
     let segments = segments_of(alloc, bytes, &code)?;
-    let exports = asked_exports(alloc, seed, export_names, &code)?;
+    let exports = asked_exports(alloc, asked.seed(), export_names, &code)?;
     let paths = paths_from(alloc, &code, &segments, &exports)?;
     let roots = PathRoots::new(alloc, &paths, exports)?;
     let items = import_items(alloc, &code.imports)?;
-    let names = names_of(alloc, bytes)?;
+    let shown = shown_on(alloc, asked, &code.imports, &items, &paths)?;
+    let names = names_on(alloc, bytes, &shown)?;
     Ok(Followed {
+        bytes,
         code,
         segments,
         roots,
         paths,
         items,
+        shown,
         names,
     })
 }
@@ -227,17 +236,5 @@ fn body_place(function: usize) -> Option<TrimPlace>
             operator: None,
         }),
         Err(_) => None,
-    }
-}
-
-/// The names of the functions of a module with these bytes.
-fn names_of(alloc: Global, bytes: &[u8]) -> Result<OrderedMap<u32, &str>, Refusal>
-    ensures found { IfOk result (λ m. AreFunctionNames bytes.now (name_entries m)) }
-    ensures refused { IfErr result (λ r. r.fault ≡ GcFault.Memory) }
-{
-    match function_names(alloc, bytes) {
-        Ok(names) => Ok(names),
-        // The bytes are those of a module: there is no fault but that memory runs out.
-        Err(_) => Err(Refused::without_place(GcFault::Memory)),
     }
 }

@@ -1,16 +1,18 @@
 //! The paths to the imports of a module that is followed.
 
-ghost use Rattle.std.specs.Prelude.{◌≡◌, ◌<◌, length, IfOk};
+ghost use Rattle.std.specs.Prelude.{◌≡◌, ◌<◌, length, IfOk, Some};
 ghost use Rattle.std.specs.Option.{option_map};
 ghost use Rattle.wc_read.specs.Imports.{import_value};
 ghost use Rattle.wc_read.specs.Names.{name_entries};
 ghost use Rattle.wc_paths.specs.PathRoots.{root_view};
+ghost use Rattle.wc_paths.specs.Paths.{IsPathAnswer};
 ghost use Rattle.wc_why.specs.Paths.{path_view};
 ghost use Rattle.wc_import_paths.specs.JsonPaths.{import_path};
 ghost use Rattle.wc_import_paths.specs.Followed.{HasPaths, IsPathIn};
-ghost use Rattle.wc_import_paths.specs.Private.Followed.{IsShownPath};
+ghost use Rattle.wc_import_paths.specs.Private.Followed.{AreNamesTo, IsShownPath};
 
 use crate::followed::Followed;
+use crate::function_names::{has_all, names_on};
 use std::alloc::{AllocError, Global};
 use wc_maps::OrderedMap;
 use wc_paths::{Path as ModulePath, PathItem, PathRoot};
@@ -18,7 +20,8 @@ use wc_read::Import;
 use wc_why::{Path, Step, Target, push_path_items};
 
 /// The path to the import at a position: where it begins, and its items, functions with their names; `None` where none leads
-/// there. It takes time and memory for this path alone.
+/// there. It takes time and memory for this path alone if the import is one of those for which the module was followed, and
+/// else linear in the module, since the names on its path have to be found.
 ///
 /// # Errors
 ///
@@ -33,27 +36,48 @@ pub fn reached_path<'r>(
     ensures { IfOk result (λ p. IsPathIn followed.now position (option_map path_view p)) }
 {
     let import = &followed.code.imports[position];
-    match followed.paths.path(alloc, followed.items[position])? {
+    let item = followed.items[position];
+    match followed.paths.path(alloc, item)? {
         Some(path) => {
-            let shown = shown_path(alloc, followed, import, &path)?;
+            let shown = shown_path(alloc, followed, import, item, &path)?;
             Ok(Some(shown))
         }
         None => Ok(None),
     }
 }
 
-/// The path to an import by a path in the module.
+/// The path to an import by the path to its item in the module.
 fn shown_path<'r>(
     alloc: Global,
     followed: &Followed<'r>,
     import: &Import<'r>,
+    item: PathItem,
     path: &ModulePath,
 ) -> Result<Path<'r>, AllocError>
+    requires paths { HasPaths followed.now }
+    requires leads { IsPathAnswer followed.now.paths item (Some path.now) }
     ensures { IfOk result (λ p. IsShownPath followed.now (import_value import.now) path.now
         (path_view p)) }
 {
     let root = followed.roots.root(&followed.segments, path);
-    import_path(alloc, &followed.names, import, root, &path.items)
+    if has_all(&followed.shown, &path.items) {
+        import_path(alloc, &followed.names, import, root, &path.items)
+    } else {
+        let names = names_to(alloc, followed, item)?;
+        import_path(alloc, &names, import, root, &path.items)
+    }
+}
+
+/// The names of the functions on the path to an item.
+fn names_to<'r>(
+    alloc: Global,
+    followed: &Followed<'r>,
+    item: PathItem,
+) -> Result<OrderedMap<u32, &'r str>, AllocError>
+    ensures { IfOk result (λ m. AreNamesTo followed.now item (name_entries m)) }
+{
+    let shown = followed.paths.on_paths(alloc, &[item])?;
+    names_on(alloc, followed.bytes, &shown)
 }
 
 /// The path to an import: where it begins, and its items.

@@ -52,27 +52,31 @@ pub fn paths_to_json(
     ensures refused { IfErr result (λ r.
         IsRefusal bytes.now (map text_of exports.now) r.fault r.place) }
 {
-    match follow(alloc, seed, bytes, exports) {
-        Ok(followed) => match asked_text(alloc, seed, imports, &followed) {
+    match Asked::new(alloc, seed, imports) {
+        Ok(asked) => asked_text(alloc, &asked, bytes, exports),
+        Err(AllocError) => Err(Refused::without_place(GcFault::Memory)),
+    }
+}
+
+/// The paths to the imports that are asked for.
+fn asked_text(
+    alloc: Global,
+    asked: &Asked<'_, '_>,
+    bytes: &[u8],
+    exports: &[&str],
+) -> Result<Vec<u8>, Refusal>
+    ensures text { IfOk result
+        (λ v. IsPathsText bytes.now (map text_of exports.now) asked.now v.items) }
+    ensures refused { IfErr result (λ r.
+        IsRefusal bytes.now (map text_of exports.now) r.fault r.place) }
+{
+    match follow(alloc, asked, bytes, exports) {
+        Ok(followed) => match json_text(alloc, asked, &followed) {
             Ok(text) => Ok(text),
             Err(AllocError) => Err(Refused::without_place(GcFault::Memory)),
         },
         Err(refusal) => Err(refusal),
     }
-}
-
-/// The paths to the imports that patterns ask for.
-fn asked_text(
-    alloc: Global,
-    seed: Seed,
-    patterns: &[ImportPattern<'_>],
-    followed: &Followed<'_>,
-) -> Result<Vec<u8>, AllocError>
-    requires { HasPaths followed.now }
-    ensures { IfOk result (λ v. IsJsonIn followed.now (map pattern_view patterns.now) v.items) }
-{
-    let asked = Asked::new(alloc, seed, patterns)?;
-    json_text(alloc, &asked, followed)
 }
 
 /// The paths to the imports that are asked for, in order, as JSON in a line (`wc_why::begin_paths`). An import to which no

@@ -7,6 +7,7 @@
 
 mod asked;
 mod followed;
+mod function_names;
 mod import_paths;
 mod json_paths;
 mod patterns;
@@ -16,4 +17,4 @@ pub use asked::Asked;
 pub use followed::{Followed, Refusal, follow};
 pub use import_paths::reached_path;
 pub use json_paths::{json_text, paths_to_json};
-pub use patterns::{ImportPattern, patterns_of, unversioned};
+pub use patterns::{ImportPattern, patterns_of};

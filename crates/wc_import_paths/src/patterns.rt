@@ -5,22 +5,24 @@ ghost use Rattle.std.specs.List.{list_any};
 ghost use Rattle.std.specs.Option.{option_map};
 ghost use Rattle.wc_read.specs.Imports.{import_value};
 ghost use Rattle.wc_why.specs.Paths.{text_of};
-ghost use Rattle.wc_import_paths.specs.Patterns.{first_unknown, is_known, is_match, is_module, is_name, is_shown, pattern_of, pattern_view, unversioned_text};
+ghost use Rattle.wc_import_paths.specs.Patterns.{first_unknown, is_known, is_match, is_name, is_shown, pattern_of, pattern_view};
 
 use std::alloc::{AllocError, Global};
 use wc_read::Import;
+use wc_why::asks_about;
 
-/// A pattern, which asks for imports: for those of a module, or for those of a module that have a name.
+/// A pattern, which asks for imports: for those of the modules that a key asks about, or for those of them that have a name.
 #[derive(Clone, Copy, Debug, PartialEq, Eq, Hash)]
 pub struct ImportPattern<'a> {
-    /// The name of the module; without a version it asks for each version.
-    pub module: &'a str,
+    /// The key: the name of a module or a package of interfaces; without a version it asks for each version
+    /// (`wc_why::asks_about`).
+    pub key: &'a str,
     /// The name of the import; any, if it is `None`.
     pub name: Option<&'a str>,
 }
 
-/// The patterns of texts, in order: `MODULE` asks for the imports of a module, `MODULE=NAME` for those of them that have a
-/// name. MODULE ends at the first `=`.
+/// The patterns of texts, in order: `KEY` asks for the imports of the modules that a key asks about, `KEY=NAME` for those of
+/// them that have a name. KEY ends at the first `=`.
 ///
 /// # Errors
 ///
@@ -44,24 +46,14 @@ fn pattern_of(text: &str) -> ImportPattern<'_>
     ensures { pattern_view result ≡ pattern_of text.now }
 {
     match text.split_once('=') {
-        Some((module, name)) => ImportPattern {
-            module,
+        Some((key, name)) => ImportPattern {
+            key,
             name: Some(name),
         },
         None => ImportPattern {
-            module: text,
+            key: text,
             name: None,
         },
-    }
-}
-
-/// The name of a module without its version: what is before the first `@`.
-pub fn unversioned(name: &str) -> &str
-    ensures { result.now ≡ unversioned_text name.now }
-{
-    match name.split_once('@') {
-        Some((front, _version)) => front,
-        None => name,
     }
 }
 
@@ -69,14 +61,7 @@ pub fn unversioned(name: &str) -> &str
 fn is_match(pattern: &ImportPattern<'_>, import: &Import<'_>) -> bool
     ensures { result ≡ is_match (pattern_view pattern.now) (import_value import.now) }
 {
-    is_module(pattern.module, import.module) && is_name(pattern.name, import.name)
-}
-
-/// Whether a module is asked for: by its name, with its version or without.
-fn is_module(asked: &str, imported: &str) -> bool
-    ensures { result ≡ is_module asked.now imported.now }
-{
-    asked == imported || asked == unversioned(imported)
+    asks_about(pattern.key, import.module) && is_name(pattern.name, import.name)
 }
 
 /// Whether a name is asked for: this one, or any.

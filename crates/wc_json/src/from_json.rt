@@ -12,6 +12,7 @@ use crate::paths::{at_index, fault_here};
 use crate::{JsonFault, Problem};
 use json::{Scratch, Value};
 use std::alloc::Global;
+use std::rc::RcSlice;
 use wc_maps::Seed;
 
 /// A type whose values are read from JSON values.
@@ -125,6 +126,24 @@ impl<T: FromJson> FromJson for Vec<T> {
             list.push(at_index(alloc, index, T::from_json(alloc, seed, item))?)?;
         }
         Ok(list)
+    }
+}
+
+/// A list, in order, which copies share.
+impl<T: FromJson> FromJson for RcSlice<T> {
+    ghost use Rattle.std.specs.Prelude.{List, map};
+    ghost use Rattle.std.specs.Rc.{rc_slice_items};
+    ghost use Rattle.wc_json.specs.FromJson.{list};
+
+    ghost View = { List T.View };
+
+    ghost view = { λ v. map T.view (rc_slice_items v) };
+
+    ghost reading = { list T.reading };
+
+    fn from_json(alloc: Global, seed: Seed, value: &Value<'_>) -> Result<RcSlice<T>, JsonFault> {
+        let items: Vec<T> = Vec::from_json(alloc, seed, value)?;
+        Ok(RcSlice::from_vec(items)?)
     }
 }
 

@@ -8,3 +8,7 @@ pub mod NumbersLemmas
 pub mod NamesLemmas
 pub mod PathLemmas
 pub mod ImportLemmas
+pub mod ChainMarkLemmas
+pub mod ChainFrontLemmas
+pub mod OnChainLemmas
+pub mod OnPathLemmas

@@ -142,6 +142,18 @@ module _ {X : Type 0} (num : X → ℕ) (back : ℕ → X) (P : X → Type 0) (s
               (subst (λ k. IsNotAfter numbers (map num roots) (k ∷ c.path) (num s ∷ map num other)) (sym r.2) f));
         }
 
+    -- a chain of numbers is that of things of which P holds
+    pub chain_numbers : (target : X) (chain : List ℕ) → P target → IsShortestChain numbers (map num roots) (num target) chain
+        → (chain ≡ map num (map back chain)) × All P (map back chain)
+    chain_numbers target chain t c =
+        let r = thing_in num roots c.root c.from in
+        let p = All-contains P roots r.0 rooted r.1 in
+        let w = path_things r.0 c.path (num target) p (subst (λ k. IsPath numbers k c.path (num target)) (sym r.2) c.leads) in
+        let all = more_hold r.0 w.things p w.all in
+        let is : chain ≡ map num (r.0 ∷ w.things) = c.is ∙ (ap (λ k. k ∷ c.path) (sym r.2) ∙ ap (λ ks. num r.0 ∷ ks) w.is) in
+        let had : map back chain ≡ r.0 ∷ w.things = ap (map back) is ∙ back_all (r.0 ∷ w.things) all in
+        (is ∙ ap (map num) (sym had), subst (All P) (sym had) all)
+
     pub reached_number : (x : X) → IsReachedFrom names roots x → IsReachedFrom numbers (map num roots) (num x)
     reached_number x (r, h, path, w) = (num r, number_in num roots r h, map num path, path_numbers r path x (All-contains P roots r rooted h) w)
 

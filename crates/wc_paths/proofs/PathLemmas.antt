@@ -23,7 +23,7 @@ use Rattle.wc_paths.specs.Private.Paths.{IsFunction}
 use Rattle.wc_paths.specs.declared.items.PathItem.{PathItem}
 use Rattle.wc_paths.specs.declared.items.PathItem.TheVariants.{Item, Elements, Data}
 use Rattle.wc_paths.proofs.NamesLemmas.{appended}
-use Rattle.wc_paths.proofs.NumberingLemmas.{chain_things, reached_number, reached_thing}
+use Rattle.wc_paths.proofs.NumberingLemmas.{chain_numbers, chain_things, reached_number, reached_thing}
 use Rattle.wc_paths.proofs.NumbersLemmas.{item_back, number_below}
 
 -- numbers of the items that are there
@@ -88,7 +88,7 @@ not_closed g (Data n) e = both_ways true e refl
 
 -- what is reached is there
 
-abbrev IsThere : GraphValue → PathItem → Type 0
+abbrev pub IsThere : GraphValue → PathItem → Type 0
 IsThere g x = has_item (counts_of g) x ≡ true
 
 named_there : (g : GraphValue) (x y : PathItem) → IsThere g x → Contains (names_in g x) y → IsThere g y
@@ -101,7 +101,7 @@ path_there : (g : GraphValue) (x : PathItem) (path : List PathItem) (y : PathIte
 path_there g x [] y p w = subst (IsThere g) w p
 path_there g x (z ∷ zs) y p w = path_there g z zs y (named_there g x z p w.0) w.1
 
-reached_there : (g : GraphValue) (roots : List PathItem) (x : PathItem) → IsReachedIn g roots x → IsThere g x
+pub reached_there : (g : GraphValue) (roots : List PathItem) (x : PathItem) → IsReachedIn g roots x → IsThere g x
 reached_there g roots x (r, h, path, w) =
     path_there g r path x (All-contains (λ z. has_item (counts_of g) z ≡ true) (present g roots) r (roots_there g roots) h) w
 
@@ -118,6 +118,14 @@ path_shown g c e roots x there n is chain w items are =
     subst (IsShortestIn g roots x) (sym (are ∙ ap (λ (z : CountsValue). map (item_at z) chain) e))
     (chain_things (number_of (counts_of g)) (item_at (counts_of g)) (IsThere g) (item_back (counts_of g)) (names_in g) (named_there g) (present g roots) (roots_there g roots)
     x chain here (subst (λ k. IsShortestChain (numbers_in g) (numbers_of g roots) k chain) (is ∙ ap (λ (z : CountsValue). number_of z x) e) w))
+
+-- its numbers are those of items that are there
+pub chain_there : (g : GraphValue) (roots : List PathItem) (x : PathItem) → IsThere g x → (chain : List ℕ)
+    → IsShortestChain (numbers_in g) (numbers_of g roots) (number_of (counts_of g) x) chain
+    → (chain ≡ map (number_of (counts_of g)) (map (item_at (counts_of g)) chain)) × All (IsThere g) (map (item_at (counts_of g)) chain)
+chain_there g roots x here chain w =
+    chain_numbers (number_of (counts_of g)) (item_at (counts_of g)) (IsThere g) (item_back (counts_of g)) (names_in g) (named_there g) (present g roots) (roots_there g roots)
+    x chain here w
 
 pub number_reached : (g : GraphValue) (roots : List PathItem) (x : PathItem) → IsReachedIn g roots x
     → IsReachedFrom (numbers_in g) (numbers_of g roots) (number_of (counts_of g) x)

@@ -1,6 +1,8 @@
 pub mod Tree
 pub mod Search
 pub mod Chains
+pub mod ChainMarks
+pub mod OnChains
 pub mod Items
 pub mod Counts
 pub mod Numbers
@@ -8,4 +10,5 @@ pub mod Graph
 pub mod Roots
 pub mod PathRoots
 pub mod Paths
+pub mod OnPaths
 pub mod Private

@@ -5,6 +5,8 @@ ghost use Rattle.std.specs.List.{slice_get};
 ghost use Rattle.wc_gc.specs.Reached.{IsReachedFrom};
 ghost use Rattle.wc_paths.specs.Search.{IsSearchFault};
 
+use crate::chain_marks::on_chains;
+use crate::places::{marks_by, missing_of, positions_at};
 use crate::search::{Graph, SearchFault, find_all};
 use crate::tree::Tree;
 use std::alloc::{AllocError, Global};
@@ -19,7 +21,10 @@ pub struct Chains {
 }
 
 impl Chains {
+    ghost use Rattle.std.specs.Prelude.{filter};
     ghost use Rattle.wc_paths.specs.Chains.{AreChains, IsChainAnswer};
+    ghost use Rattle.wc_paths.specs.OnChains.{AreMarkedTo};
+    ghost use Rattle.wc_paths.specs.Private.Places.{is_missing_at};
 
     /// The shortest chain from a root to an item, and of several the first, by the order of the roots, and then by that in
     /// which each item names others; `None` where none leads there. It takes time and memory for the items of this chain.
@@ -38,6 +43,33 @@ impl Chains {
             }
             None => Ok(None),
         }
+    }
+
+    /// For each item whether it is on the shortest chain to one of some items. It takes time and memory linear in the graph and
+    /// in these items, however long their chains are.
+    ///
+    /// # Errors
+    ///
+    /// `AllocError`: an allocation failed.
+    pub fn on_chains(&self, alloc: Global, items: &[usize]) -> Result<Vec<bool>, AllocError>
+        requires { All (λ x. x < length self.now.places.items) items.now }
+        ensures { IfOk result (λ v. AreMarkedTo self.now items.now v.items) }
+    {
+        let targets = positions_at(alloc, &self.places, items)?;
+        let marks = on_chains(alloc, &self.tree.finder, &targets)?;
+        marks_by(alloc, &self.places, &marks)
+    }
+
+    /// Those of some items to which no chain leads, in order.
+    pub(crate) fn missing_of(
+        &self,
+        alloc: Global,
+        items: &[usize],
+    ) -> Result<Vec<usize>, AllocError>
+        ensures { IfOk result (λ v. v.items
+            ≡ filter (is_missing_at self.now.places.items) items.now) }
+    {
+        missing_of(alloc, &self.places, items)
     }
 
     /// Finds what roots reach, with the chains that lead there. It takes time and memory linear in what is reached, and memory

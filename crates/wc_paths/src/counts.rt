@@ -1,6 +1,6 @@
 //! The number of items of each kind, and the numbering of all items in one row.
 
-ghost use Rattle.std.specs.Prelude.{◌≡◌, ◌<◌, ◌^◌, [], ◌∷◌, ◌++◌, IfOk, IfSome, OnOk, map, filter, true};
+ghost use Rattle.std.specs.Prelude.{◌≡◌, ◌<◌, ◌≤◌, ◌^◌, [], ◌∷◌, ◌++◌, IfOk, IfSome, OnOk, map, filter, true, None};
 ghost use Rattle.std.specs.List.{list_all};
 ghost use Rattle.wc_gc.specs.Decoded.{decoded_module};
 ghost use Rattle.wc_segments.specs.Segments.{segments_value};
@@ -44,7 +44,8 @@ pub fn counts_of(module: &Module<'_>, segments: &Segments<'_>) -> Counts
 
 /// How many items there are in all; `None` where that is no number of 64 bits.
 pub fn item_count(counts: &Counts) -> Option<usize>
-    ensures { IfSome result (λ n. n ≡ item_count (counts_value counts.now)) }
+    ensures some { IfSome result (λ n. n ≡ item_count (counts_value counts.now)) }
+    ensures none { result ≡ None → 2 ^ 64 ≤ item_count (counts_value counts.now) }
 {
     let segments = counts.elements.checked_add(counts.data_segments)?;
     let globals = counts.globals.checked_add(segments)?;

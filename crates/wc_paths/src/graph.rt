@@ -1,6 +1,6 @@
 //! The graph of a module: its items in one row, its segments among them, and what each names.
 
-ghost use Rattle.std.specs.Prelude.{◌≡◌, ◌<◌, ◌^◌, ◌++◌, IfOk, OnOk};
+ghost use Rattle.std.specs.Prelude.{◌≡◌, ◌<◌, ◌≤◌, ◌^◌, ◌++◌, IfOk, IsErr, OnOk};
 ghost use Rattle.wc_gc.specs.Decoded.{decoded_module};
 ghost use Rattle.wc_gc.specs.Entries.{entry_at};
 ghost use Rattle.wc_segments.specs.Segments.{segments_value};
@@ -41,8 +41,10 @@ impl<'a, 'b> ModuleGraph<'a, 'b> {
         module: &'a Module<'b>,
         segments: &'a Segments<'b>,
     ) -> Result<ModuleGraph<'a, 'b>, AllocError>
-        ensures { IfOk result (λ g. graph_value g ≡
+        ensures graph { IfOk result (λ g. graph_value g ≡
             record { code = decoded_module «module».now; segments = segments_value segments.now }) }
+        ensures too_many { IsErr result → 2 ^ 64 ≤ item_count (counts_of
+            (record { code = decoded_module «module».now; segments = segments_value segments.now })) }
     {
         let counts = counts_of(module, segments);
         match item_count(&counts) {

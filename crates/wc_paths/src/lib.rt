@@ -1,21 +1,26 @@
 //! Paths through a core WebAssembly module: the shortest path from a root to an item, and of several the first.
 #![tactic(auto)]
 
+mod chain_marks;
 mod chains;
 mod counts;
 mod graph;
 mod items;
 mod names;
+mod on_paths;
 mod path_roots;
 mod paths;
+mod places;
 mod roots;
 mod search;
 mod tree;
 
+pub use chain_marks::on_chains;
 pub use chains::Chains;
 pub use counts::{Counts, counts_of, has_item, item_at, item_count, number_of};
 pub use graph::ModuleGraph;
 pub use items::PathItem;
+pub use on_paths::OnPaths;
 pub use path_roots::{PathRoot, PathRoots};
 pub use paths::{Path, PathFault, Paths};
 pub use roots::{export_item, first_roots, import_items, roots_of, second_roots};

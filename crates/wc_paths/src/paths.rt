@@ -11,6 +11,8 @@ use crate::chains::Chains;
 use crate::counts::{Counts, has_item, item_at, number_of, put_numbers};
 use crate::graph::ModuleGraph;
 use crate::items::PathItem;
+use crate::on_paths::OnPaths;
+use crate::places::either;
 use crate::search::SearchFault;
 use std::alloc::{AllocError, Global};
 use wc_read::{Module, Space};
@@ -58,6 +60,7 @@ pub struct Path {
 
 impl Paths {
     ghost use Rattle.wc_paths.specs.Graph.{graph_value};
+    ghost use Rattle.wc_paths.specs.OnPaths.{AreOnPaths};
     ghost use Rattle.wc_paths.specs.Paths.{AreChainsFrom, AreClosed, ArePaths, graph_in, IsFaultFrom, IsPathAnswer, IsPathFault, IsReachedIn, IsReachedInAny};
 
     /// Finds what two lists of roots reach in a module, with its segments. A root that is not there leads nowhere.
@@ -169,6 +172,27 @@ impl Paths {
                 None => Ok(None),
             },
         }
+    }
+
+    /// Which items are on the paths to some items, as `path` returns them. It takes time and memory linear in the module and in
+    /// these items, however long their paths are.
+    ///
+    /// # Errors
+    ///
+    /// `AllocError`: an allocation failed.
+    pub fn on_paths(&self, alloc: Global, items: &[PathItem]) -> Result<OnPaths, AllocError>
+        ensures { IfOk result (AreOnPaths self.now items.now) }
+    {
+        let mut numbers = Vec::new(alloc);
+        put_numbers(&self.counts, items, &mut numbers)?;
+        let others = self.first.missing_of(alloc, &numbers)?;
+        let first = self.first.on_chains(alloc, &numbers)?;
+        let second = self.second.on_chains(alloc, &others)?;
+        let marks = either(alloc, &first, &second)?;
+        Ok(OnPaths {
+            counts: self.counts,
+            marks,
+        })
     }
 }
 

@@ -55,8 +55,8 @@ module _ (i : Option (String Global)) (k : Key) (es : List (Option (String Globa
       → option_map (λ (x : Bor Lowering). lowering_view x.now) r ≡ lowering_at (map imported_entry es) (option_map string_bytes i) (string_bytes k.0) k.1
   no_interface r none is = ap (option_map (λ (x : Bor Lowering). lowering_view x.now)) none ∙ interface_at None is
 
-  pub in_interface : (r : Option (Bor Lowering)) (v : ImportedInterface) → Some v ≡ lookup (option_eq string_eq i) es → option_copied r ≡ lookup (key_test k) v.lowerings.entries
+  pub in_interface : (r : Option (Bor Lowering)) (v : ImportedInterface) (own : List (Key × Lowering)) → own ≡ v.lowerings.value.entries → Some v ≡ lookup (option_eq string_eq i) es → option_copied r ≡ lookup (key_test k) own
       → option_map (λ (x : Bor Lowering). lowering_view x.now) r ≡ lowering_at (map imported_entry es) (option_map string_bytes i) (string_bytes k.0) k.1
-  in_interface r v is found =
+  in_interface r v own same is found =
       copied_viewed lowering_view r
-      ∙ (ap (option_map lowering_view) found ∙ (lookup_viewed key_view lowering_view (key_test k) (is_lowering_key (string_bytes k.0) k.1) (key_same k) v.lowerings.entries ∙ interface_at (Some v) is))
+      ∙ (ap (option_map lowering_view) (found ∙ ap (lookup (key_test k)) same) ∙ (lookup_viewed key_view lowering_view (key_test k) (is_lowering_key (string_bytes k.0) k.1) (key_same k) v.lowerings.value.entries ∙ interface_at (Some v) is))

@@ -1,4 +1,5 @@
-//! The trait of what is written as JSON values, and its impls for numbers, texts, values that may be missing, and lists.
+//! The trait of what is written as JSON values, and its impls for numbers, texts, values that may be missing, shared values, and
+//! lists.
 
 ghost use Rattle.std.specs.Prelude.{OnOk, [], map, ◌∷◌};
 ghost use Rattle.json.specs.Json.{Json};
@@ -8,6 +9,7 @@ ghost use Rattle.wc_record.specs.Objects.{Puts, PutsJson};
 
 use json::Writer;
 use std::alloc::AllocError;
+use std::rc::Rc;
 
 /// A type whose values are written as JSON values.
 pub(crate) trait ToJson {
@@ -150,6 +152,19 @@ impl<T: ToJson> ToJson for Option<T> {
             Some(value) => value.write(out),
             None => out.null(),
         }
+    }
+}
+
+/// The value that is shared.
+impl<T: ToJson> ToJson for Rc<T> {
+    ghost View = { T.View };
+
+    ghost view = { λ shared. T.view shared.value };
+
+    ghost json = { T.json };
+
+    fn write(&self, out: &mut Writer) -> Result<(), AllocError> {
+        self.as_ref().write(out)
     }
 }
 

@@ -7,6 +7,7 @@ use Rattle.std.specs.declared.alloc.Global.{Global}
 use Rattle.std.proofs.lemmas.Bool.{cases_Bool, cases_lt, ltb-false, lt-ltb, le-ltb}
 use Rattle.std.proofs.lemmas.List.{length-take, take_all}
 use Rattle.std.proofs.lemmas.List.Elements.{All-map, All-contains}
+use Rattle.std.specs.Rc.{rc_slice_items}
 use Rattle.wc_resolve.specs.declared.flat.WasmType.{WasmType}
 use Rattle.wc_resolve.specs.declared.flat.WasmType.TheVariants.{Pointer}
 use Rattle.wc_resolve.specs.declared.functions.AbiVariant.{AbiVariant}
@@ -135,22 +136,22 @@ core_settled types flats abi v made there =
     (params_settled types flats v made there) (result_settled types flats v made there)
 
 -- the flat types of a function's parameters, which are read by their names
-params_read : (flat : ℕ → List WasmType) (f : Function) (named : List (String Global × WitType)) → named ≡ f.params.items
-    → flatten_types flat (map (λ p. p.1) named) ≡ flatten_types flat (map (λ p. p.1) (map named_view f.params.items))
-params_read flat f named same = ap (λ z. flatten_types flat (map (λ p. p.1) z)) same ∙ ap (flatten_types flat) (sym (named_values f.params.items))
+params_read : (flat : ℕ → List WasmType) (f : Function) (named : List (String Global × WitType)) → named ≡ rc_slice_items f.params
+    → flatten_types flat (map (λ p. p.1) named) ≡ flatten_types flat (map (λ p. p.1) (map named_view (rc_slice_items f.params)))
+params_read flat f named same = ap (λ z. flatten_types flat (map (λ p. p.1) z)) same ∙ ap (flatten_types flat) (sym (named_values (rc_slice_items f.params)))
 
 -- the signature of a function, from the flat types of its parameters and its result
-pub core_made : (flat : ℕ → List WasmType) (abi : AbiVariant) (f : Function) (params results : List WasmType) (named : List (String Global × WitType)) → named ≡ f.params.items
+pub core_made : (flat : ℕ → List WasmType) (abi : AbiVariant) (f : Function) (params results : List WasmType) (named : List (String Global × WitType)) → named ≡ rc_slice_items f.params
     → params ≡ take flat_types_kept (flatten_types flat (map (λ p. p.1) named)) → results ≡ flat_payload flat f.result
     → core_of abi f.kind params results (is_some f.result) ≡ flatten_functype flat abi (function_view f)
 core_made flat abi f params results named same made given =
-    let full : List WasmType = flatten_types flat (map (λ p. p.1) (map named_view f.params.items)) in
+    let full : List WasmType = flatten_types flat (map (λ p. p.1) (map named_view (rc_slice_items f.params))) in
     let agree : AgreeAtFront flat_types_kept params full = ap (λ z. take flat_types_kept z) (made ∙ ap (λ z. take flat_types_kept z) (params_read flat f named same)) ∙ agree_cut flat_types_kept full in
     core_agree abi f.kind params full results (flat_payload flat f.result) (is_some f.result) agree (ap (λ z. take flat_types_kept z) given)
 
 -- the flat types of a function's parameters, as many as are kept
 pub params_made : (types : List TypeView) (flats : List (List WasmType)) (f : Function) (params : List WasmType) (named : List (String Global × WitType)) → AreFlattened types flats
-    → IsFunctionIn (length types) (function_view f) → named ≡ f.params.items → params ≡ take flat_types_kept (flatten_types (flat_entry flats) (map (λ p. p.1) named))
+    → IsFunctionIn (length types) (function_view f) → named ≡ rc_slice_items f.params → params ≡ take flat_types_kept (flatten_types (flat_entry flats) (map (λ p. p.1) named))
     → params ≡ take flat_types_kept (flatten_types (flat_of types) (map (λ p. p.1) (function_view f).params))
 params_made types flats f params named made there same given =
     given ∙ ap (λ z. take flat_types_kept z) (params_read (flat_entry flats) f named same) ∙ params_settled types flats (function_view f) made there

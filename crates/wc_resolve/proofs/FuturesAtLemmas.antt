@@ -8,6 +8,7 @@ use Rattle.std.proofs.lemmas.List.{take_all}
 use Rattle.std.proofs.lemmas.Grind.{flat_map-append}
 use Rattle.std.proofs.lemmas.List.Folds.{flat_map-map}
 use Rattle.std.proofs.lemmas.Option.{slice_get-get_or, slice_get_within}
+use Rattle.std.specs.Rc.{rc_slice_items}
 use Rattle.wc_resolve.specs.declared.functions.Function.{Function}
 use Rattle.wc_resolve.specs.declared.ids.TypeId.{TypeId}
 use Rattle.wc_resolve.specs.declared.types.WitType.{WitType}
@@ -246,15 +247,15 @@ outcome_end types params outcome i n left past p =
 
 -- the roots of a function, before and after its names are read as bytes
 
-pub passed_viewed : (f : Function) → passed_roots (function_view f) ≡ param_roots f.params.items ++ option_map_or type_roots f.result []
-passed_viewed f = ap (λ z. z ++ option_map_or type_roots f.result []) (flat_map-map (λ (p : List ℕ × WitType). type_roots p.1) named_view f.params.items)
+pub passed_viewed : (f : Function) → passed_roots (function_view f) ≡ param_roots (rc_slice_items f.params) ++ option_map_or type_roots f.result []
+passed_viewed f = ap (λ z. z ++ option_map_or type_roots f.result []) (flat_map-map (λ (p : List ℕ × WitType). type_roots p.1) named_view (rc_slice_items f.params))
 
 pub signature_in : (n : ℕ) (f : FunctionView) → IsFunctionIn n f → SignatureHasOnly (IsTypeIn n) f
 unfolding IsFunctionIn
 signature_in n f h = h.1
 
-pub params_in : (n : ℕ) (f : Function) → IsFunctionIn n (function_view f) → All (λ (p : String Global × WitType). IsTypeIn n p.1) f.params.items
-params_in n f h = all_unviewed named_view (λ (p : List ℕ × WitType). IsTypeIn n p.1) f.params.items (signature_in n (function_view f) h).0
+pub params_in : (n : ℕ) (f : Function) → IsFunctionIn n (function_view f) → All (λ (p : String Global × WitType). IsTypeIn n p.1) (rc_slice_items f.params)
+params_in n f h = all_unviewed named_view (λ (p : List ℕ × WitType). IsTypeIn n p.1) (rc_slice_items f.params) (signature_in n (function_view f) h).0
 
 pub outcome_in : (n : ℕ) (f : Function) → IsFunctionIn n (function_view f) → IfSome f.result (IsTypeIn n)
 outcome_in n f h = (signature_in n (function_view f) h).1

@@ -2,6 +2,7 @@
 -- lists in order.
 use Rattle.std.specs.Prelude.{ℕ, List, map, Option, String, string_bytes}
 use Rattle.std.specs.Option.{option_map}
+use Rattle.std.specs.Rc.{rc_slice_items}
 use Rattle.std.specs.declared.alloc.Global.{Global}
 use Rattle.semver.specs.Identifiers.{parts_of}
 use Rattle.wc_resolve.specs.declared.ids.InterfaceId.{InterfaceId}
@@ -73,7 +74,7 @@ pub record FunctionView : Type 0 where
   pub outcome : Option WitType
 
 abbrev pub function_view : Function → FunctionView
-function_view f = record { name = string_bytes f.name; kind = f.kind; params = map named_view f.params.items; outcome = f.result }
+function_view f = record { name = string_bytes f.name; kind = f.kind; params = map named_view (rc_slice_items f.params); outcome = f.result }
 
 pub data KeyView : Type 0 where
   plain_key : List ℕ → KeyView

@@ -6,6 +6,7 @@ ghost use Rattle.wc_resolve.specs.Resolve.{core_name};
 
 use crate::{InterfaceId, TypeId, WitType, WorldId};
 use std::alloc::{AllocError, Global};
+use std::rc::RcSlice;
 
 /// The kind of a function, and the resource of which it is a method, a static function or the constructor. Whether the
 /// id is of a resource is not checked.
@@ -37,12 +38,13 @@ pub enum AbiVariant {
 }
 
 /// A function: its name, its kind, its parameters in order, each a name and a type, and the type of its result, if it
-/// has one. The name is the key under which it is listed: of a method `[method]file.read`.
+/// has one. The name is the key under which it is listed: of a method `[method]file.read`. Copies of a function share its
+/// parameters.
 #[derive(Debug, Drop)]
 pub struct Function {
     pub name: String,
     pub kind: FunctionKind,
-    pub params: Vec<(String, WitType)>,
+    pub params: RcSlice<(String, WitType)>,
     pub result: Option<WitType>,
 }
 
@@ -67,11 +69,7 @@ impl Function {
         ensures { IfOk result (λ f. function_view f ≡ function_view self.now) }
     {
         let name = String::from_str(alloc, &self.name)?;
-        let mut params = Vec::new(alloc);
-        for param in &self.params {
-            let text = String::from_str(alloc, &param.0)?;
-            params.push((text, param.1))?;
-        }
+        let params = self.params.clone()?;
         Ok(Function {
             name,
             kind: self.kind,

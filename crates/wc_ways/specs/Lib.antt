@@ -1,4 +1,3 @@
-pub mod Keys
 pub mod Asked
 pub mod Users
 pub mod Types

@@ -12,10 +12,10 @@ ghost use Rattle.wc_ways.specs.Asked.{asked_function, asked_world_import, asked_
 ghost use Rattle.wc_ways.specs.Private.Adapters.{function_value};
 ghost use Rattle.wc_ways.specs.Private.Imported.{imported_view};
 
-use crate::keys::asks_about;
 use std::alloc::{AllocError, Global};
 use wc_names::{Import, PayloadInfo, PayloadType};
 use wc_resolve::{InterfaceId, Resolve, WorldKey};
+use wc_why::asks_about;
 
 /// The key that asks about all interfaces.
 const ALL: &str = "all";

@@ -2,17 +2,16 @@
 //! its main module and through its adapters; and which interfaces it imports for their types alone. `ways_text` has them in
 //! lines, `ways_json` as JSON, and `ways_graph` as a graph in the language of Graphviz.
 //!
-//! It is asked about an interface, a package, something of the world itself, or about all (`asks_about`). A path from the
-//! main module is where it begins there, the items of the shortest path to the import (`wc_paths`), and the import. A path
-//! through an adapter is the same to the main module's import of an export of the adapter, if it imports it; the export; the
-//! items of the adapter that lead from it, by the shortest chain (`wc_gc::why_imports`); and the adapter's import.
+//! It is asked about an interface, a package, something of the world itself (`wc_why::asks_about`), or about all. A path from
+//! the main module is where it begins there, the items of the shortest path to the import (`wc_paths`), and the import. A
+//! path through an adapter is the same to the main module's import of an export of the adapter, if it imports it; the export;
+//! the items of the adapter that lead from it, by the shortest chain (`wc_gc::why_imports`); and the adapter's import.
 #![tactic(auto)]
 
 mod adapters;
 mod asked;
 mod forms;
 mod graph;
-mod keys;
 mod main_graph;
 mod main_paths;
 mod main_ways;
@@ -24,5 +23,4 @@ mod types;
 mod users;
 mod ways;
 
-pub use keys::{asks_about, package_of, package_text};
 pub use ways::{ways_graph, ways_json, ways_text};

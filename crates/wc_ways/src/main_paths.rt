@@ -1,6 +1,6 @@
 //! The main module of a component, and the paths in it to what it imports.
 
-ghost use Rattle.std.specs.Prelude.{◌≡◌, ◌∷◌, [], IfErr, IfOk, IsOk, map, true};
+ghost use Rattle.std.specs.Prelude.{◌≡◌, ◌∷◌, [], IfErr, IfOk, IsErr, IsOk, None, map, true};
 ghost use Rattle.std.specs.Map.{lookup};
 ghost use Rattle.wc_read.specs.Modules.{SpellsModule, module_value};
 ghost use Rattle.wc_read.specs.Names.{name_entries};
@@ -135,7 +135,8 @@ fn without_segments<'r>(
     place: Option<SegmentSection>,
 ) -> Result<Following<'r>, AllocError>
     requires { IsRefusedAt wasm.now (module_value code.now) place }
-    ensures { IfOk result (IsFollowing wasm.now (module_value code.now)) }
+    ensures following { IfOk result (IsFollowing wasm.now (module_value code.now)) }
+    ensures memory { IsErr result → place ≡ None }
 {
     match place {
         Some(section) => Ok(Following::Unread(Unfollowed::Section(section))),

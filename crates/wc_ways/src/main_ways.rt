@@ -11,7 +11,7 @@ ghost use Rattle.wc_why.specs.Paths.{path_view};
 ghost use Rattle.wc_world.specs.Slots.{imports_of};
 ghost use Rattle.wc_ways.specs.Asked.{asked_function};
 ghost use Rattle.wc_ways.specs.Private.Adapters.{function_value};
-ghost use Rattle.wc_ways.specs.Private.MainWays.{IsFollowedIn, key_of, world_of};
+ghost use Rattle.wc_ways.specs.Private.MainWays.{IsFollowedIn, key_of, resolve_of, world_of};
 ghost use Rattle.wc_ways.specs.Said.{AreEach, Says};
 ghost use Rattle.wc_ways.specs.Ways.{AreRecordedMainPaths, IsMainPath, IsRecordedMainPath};
 
@@ -45,7 +45,7 @@ fn main_paths_of<P: PathPrinter>(
     imports: &ImportMap,
     out: &mut P,
 ) -> Result<(), AllocError>
-    requires nameable { All (IsNameable (world_of main.now).encoder.resolve)
+    requires nameable { All (IsNameable (resolve_of main.now))
         (imports_of (imports_in imports.now)) }
     requires main { IsFollowedIn main.now }
     ensures said { OnOk result (Says P.parts
@@ -66,7 +66,7 @@ fn recorded_main_path<P: PathPrinter>(
     recorded: (&str, &str, &Import),
     out: &mut P,
 ) -> Result<(), AllocError>
-    requires nameable { IsNameable (world_of main.now).encoder.resolve (import_view recorded.2.now) }
+    requires nameable { IsNameable (resolve_of main.now) (import_view recorded.2.now) }
     requires main { IsFollowedIn main.now }
     ensures said { OnOk result (Says P.parts
         (IsRecordedMainPath (world_of main.now) (key_of main.now) (import_shown recorded.entry))
@@ -90,9 +90,9 @@ pub(crate) fn asked_of_main<'a>(
     name: &'a str,
     import: &'a Import,
 ) -> Result<Option<Function<'a>>, AllocError>
-    requires { IsNameable (world_of main.now).encoder.resolve (import_view import.now) }
+    requires { IsNameable (resolve_of main.now) (import_view import.now) }
     ensures { IfOk result (λ f. option_map function_value f
-        ≡ asked_function (world_of main.now).encoder.resolve (key_of main.now) name.now
+        ≡ asked_function (resolve_of main.now) (key_of main.now) name.now
         (import_view import.now)) }
 {
     let metadata = main.world.encoder.metadata();

@@ -1,3 +1,4 @@
+pub mod Keys
 pub mod Texts
 pub mod Paths
 pub mod Lines

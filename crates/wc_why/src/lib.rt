@@ -4,10 +4,13 @@
 //! A `Path` leads to one import by its `Step`s. It is made once, from a chain of `wc_gc::why_imports` (`push_items`), and
 //! given to a `PathPrinter`: a `String` takes the lines of paths, a `json::Writer` takes them as JSON. A graph is drawn of
 //! the tree that all chains of a module are in (`Tree`), with the items that are on paths to what is asked for (`marks_of`).
+//!
+//! A key asks about imports: it is a name or a package, with a version or without (`asks_about`).
 #![tactic(auto)]
 
 mod graph;
 mod json_paths;
+mod keys;
 mod lines;
 mod marks;
 mod paths;
@@ -17,6 +20,7 @@ pub use graph::{
     NodeNames, Tree, arrow_text, export_id, item_id, item_nodes, target_box, target_node,
 };
 pub use json_paths::{begin_paths, end_paths};
+pub use keys::{asks_about, package_of, package_text, unversioned, version_of};
 pub use lines::{
     importer_text, item_text, main_root_text, push_path, root_text, segment_text, target_text,
     unfollowed_text,

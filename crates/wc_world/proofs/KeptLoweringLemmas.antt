@@ -1,11 +1,13 @@
--- Lowerings of interfaces that are kept, and copies of them; interfaces of which nothing is imported.
-use Rattle.std.proofs.Common.{◌≡◌, ◌∙◌, ℕ, List, [], ◌∷◌, ◌++◌, Bool, true, false, cond, Option, Some, String, Vec, map, get_or, length, take, ◌<◌, ◌+◌, Result, Ok, Err, OnOk, refl, sym, ap, inl, inr}
+-- Lowerings of interfaces that are kept; interfaces of which nothing is imported.
+use Rattle.std.proofs.Common.{◌≡◌, ◌∙◌, ℕ, List, [], ◌∷◌, ◌++◌, Bool, true, false, cond, Option, Some, String, map, Result, Ok, Err, OnOk, refl, sym, ap, inl, inr}
 use Rattle.std.specs.List.{list_any}
 use Rattle.std.specs.Map.{lookup}
+use Rattle.std.specs.Result.{IfOk, MatchResult}
 use Rattle.std.specs.declared.alloc.Global.{Global}
+use Rattle.std.specs.declared.rc.Rc.{Rc}
 use Rattle.std.proofs.lemmas.Bool.{cases_Bool}
-use Rattle.std.proofs.lemmas.List.{map-append, take_more}
 use Rattle.std.proofs.lemmas.Option.{same_Some}
+use Rattle.indexmap.specs.IndexMap.{IndexMap}
 use Rattle.wc_resolve.specs.declared.functions.AbiVariant.{AbiVariant}
 use Rattle.wc_resolve.specs.declared.functions.AbiVariant.TheVariants.{GuestImport, GuestImportAsync}
 use Rattle.wc_resolve.specs.declared.ids.InterfaceId.{InterfaceId}
@@ -18,25 +20,19 @@ use Rattle.wc_world.specs.Private.LoweringContext.{AreKept}
 use Rattle.wc_world.specs.Used.{same_interface}
 use Rattle.wc_world.specs.WorldViews.{lowering_entry}
 
-abbrev pub OwnLowerings : Type 0
-OwnLowerings = Vec ((String Global × AbiVariant) × Lowering) Global
+abbrev pub SharedLowerings : Type 0 → Type 0
+SharedLowerings S = Rc (IndexMap (String Global × AbiVariant) Lowering S) Global
 
 -- those of an interface more
-pub kept_more : (l : Lowerer) (old new : List (InterfaceId × OwnLowerings)) (id : InterfaceId) (copies : OwnLowerings)
-    → ((q : InterfaceId) → lookup (same_interface q) new ≡ cond (same_interface id q) (Some copies) (lookup (same_interface q) old)) → map lowering_entry copies.items ≡ lowerings_of_interface l id.0
+pub kept_more : {S : Type 0} (l : Lowerer) (old new : List (InterfaceId × SharedLowerings S)) (id : InterfaceId) (shared : SharedLowerings S)
+    → ((q : InterfaceId) → lookup (same_interface q) new ≡ cond (same_interface id q) (Some shared) (lookup (same_interface q) old)) → map lowering_entry shared.value.entries ≡ lowerings_of_interface l id.0
     → AreKept l old → AreKept l new
-kept_more l old new id copies put is kept i found at = elim (cases_Bool (same_interface id i)) [
+kept_more {S} l old new id shared put is kept i found at = elim (cases_Bool (same_interface id i)) [
   | inl same ↦
-      ap (λ (v : OwnLowerings). map lowering_entry v.items) (same_Some found copies (sym at ∙ (put i ∙ ap (λ b. cond b (Some copies) (lookup (same_interface i) old)) same)))
+      ap (λ (v : SharedLowerings S). map lowering_entry v.value.entries) (same_Some found shared (sym at ∙ (put i ∙ ap (λ b. cond b (Some shared) (lookup (same_interface i) old)) same)))
       ∙ (is ∙ ap (lowerings_of_interface l) (nat_from id.0 i.0 same))
-  | inr other ↦ kept i found (sym (put i ∙ ap (λ b. cond b (Some copies) (lookup (same_interface i) old)) other) ∙ at)
+  | inr other ↦ kept i found (sym (put i ∙ ap (λ b. cond b (Some shared) (lookup (same_interface i) old)) other) ∙ at)
 ]
-
--- copies of those that were passed, and one more
-pub copies_more : {X Y : Type 0} (f : X → Y) (xs : List X) (i : ℕ) (d x : X) (before after : List Y) → i < length xs → x ≡ get_or xs i d → before ≡ map f (take i xs) → after ≡ before ++ f x ∷ []
-    → after ≡ map f (take (i + 1) xs)
-copies_more f xs i d x before after within at same put =
-    put ∙ (ap (λ z. z ++ f x ∷ []) same ∙ (sym (map-append f (take i xs) (x ∷ [])) ∙ ap (map f) (ap (λ y. take i xs ++ y ∷ []) at ∙ sym (take_more xs i d within))))
 
 -- where no function of an interface is imported, none is lowered
 pub none_lowered : (l : Lowerer) (interface : Option ℕ) → ((is_async : Bool) (name : List ℕ) → list_any (is_import_of interface name (import_abi is_async)) l.imports ≡ false)
@@ -51,3 +47,8 @@ none_lowered l interface none ((key, f) ∷ functions) =
 pub on_ok_holds : {X E : Type 0} {P : Type 0} (r : Result X E) → P → OnOk r P
 on_ok_holds (Ok x) p = p
 on_ok_holds (Err e) p = tt
+
+-- what holds of copies, where a copy is made
+pub if_cloned : {X E : Type 0} {P Q : X → Type 0} (F : E → Type 0) (r : Result X E) → MatchResult r P F → ((x : X) → P x → Q x) → IfOk r Q
+if_cloned F (Ok x) h weaker = weaker x h
+if_cloned F (Err e) h weaker = tt

@@ -37,7 +37,7 @@ lowering_entry e = ((string_bytes e.0.0, e.0.1), lowering_view e.1)
 
 abbrev pub imported_view : ImportedInterface → ImportedView
 imported_view i = record {
-  lowerings = map lowering_entry i.lowerings.entries;
+  lowerings = map lowering_entry i.lowerings.value.entries;
   interface = option_map id_of_interface i.interface;
   implements = option_map id_of_interface i.implements;
   external_id = option_map string_bytes i.external_id;

@@ -17,9 +17,10 @@ use crate::adapter::WorldAdapter;
 use crate::imported::{ImportedInterface, Lowering};
 use crate::imported_items::imported_by;
 use crate::kept_lowerings::{KeptLowerings, lowerings_under};
-use crate::lowering::{KeyedLowering, Lowerings, distinct_keys, world_lowerings};
+use crate::lowering::{KeyedLowering, Lowerings, world_lowerings};
 use crate::options::ImportOptions;
 use std::alloc::{AllocError, Global};
+use std::rc::Rc;
 use wc_encoder::ComponentEncoder;
 use wc_maps::{Map, Seed};
 use wc_resolve::{AbiVariant, InterfaceId, WorldItem, WorldKey};
@@ -75,10 +76,8 @@ pub(crate) fn imported_interface<O: ImportOptions>(
         ≡ external_id (item_view import.entry.item.now)) }
 {
     let resolve = context.resolve;
-    distinct_keys(resolve, import.id);
-    let found = lowerings_under(alloc, context, kept, import.key, import.id)?;
+    let lowerings = lowerings_under(alloc, context, kept, import.key, import.id)?;
     let external_id = resolve.external_id_value(alloc, import.key, import.item)?;
-    let lowerings = by_keys(alloc, context.seed, found)?;
     Ok(ImportedInterface {
         lowerings,
         interface: Some(import.id),
@@ -102,7 +101,8 @@ pub(crate) fn imported_world<O: ImportOptions>(
     ensures external { IfOk result (λ i. (imported_view i).external_id ≡ None) }
 {
     let found = world_lowerings(alloc, context, items)?;
-    let lowerings = by_keys(alloc, context.seed, found)?;
+    let by_key = by_keys(alloc, context.seed, found)?;
+    let lowerings = Rc::new(alloc, by_key)?;
     Ok(ImportedInterface {
         lowerings,
         interface: None,

@@ -1,6 +1,7 @@
 //! Lowerings of imports, interface by interface.
 
 use crate::options::RequiredOptions;
+use std::rc::Rc;
 use wc_maps::Map;
 use wc_resolve::{AbiVariant, InterfaceId, TypeId, WasmSignature};
 
@@ -25,8 +26,8 @@ pub enum Lowering {
 #[derive(Debug, Drop)]
 pub struct ImportedInterface {
     /// The lowering of each import, by its name and by how it is called: drops of resources, named `NAME_drop`, and
-    /// functions.
-    pub lowerings: Map<(String, AbiVariant), Lowering>,
+    /// functions. Entries of one interface share them.
+    pub lowerings: Rc<Map<(String, AbiVariant), Lowering>>,
     /// The interface; `None` for the world itself.
     pub interface: Option<InterfaceId>,
     /// The interface that the import implements (`Resolve::implements_interface`).

@@ -6,7 +6,7 @@ use Rattle.std.specs.Option.{option_map}
 use Rattle.std.proofs.lemmas.Bool.{cases_Bool}
 use Rattle.wc_resolve.specs.declared.worlds.WorldKey.{WorldKey}
 use Rattle.wc_selection.specs.Keys.{named_key, texts_of}
-use Rattle.wc_ways.specs.Keys.{asks_about}
+use Rattle.wc_why.specs.Keys.{asks_about}
 
 abbrev pub Key : Type 0
 Key = WorldKey × String Global

@@ -5,7 +5,7 @@ ghost use Rattle.std.specs.List.{list_any};
 ghost use Rattle.std.specs.Option.{option_map};
 ghost use Rattle.wc_selection.specs.Keys.{named_key, texts_of};
 ghost use Rattle.wc_selection.specs.Texts.{text_of};
-ghost use Rattle.wc_ways.specs.Keys.{asks_about};
+ghost use Rattle.wc_why.specs.Keys.{asks_about};
 ghost use Rattle.wcplan_command.specs.Asked.{IsAskedCause, IsAskedThere, IsNoImport, IsNoImportFault, is_asked_there, nearest_import, nearest_package, package_alike};
 ghost use Rattle.wcplan_command.specs.Nearest.{is_near};
 
@@ -15,11 +15,11 @@ use crate::nearest::{is_alike, is_near};
 use std::alloc::{AllocError, Global};
 use wc_resolve::{Resolve, WorldId, WorldKey};
 use wc_selection::import_keys;
-use wc_ways::{asks_about, package_of, package_text};
+use wc_why::{asks_about, package_of, package_text};
 
 /// Checks that a key, if one is given, asks about something that a world imports: `all`, `$root`, the text of the key of an
 /// import, with its version or without, or the package of an interface, with its version or without
-/// (`wc_ways::asks_about`). The world must be in range (`Resolve::has_world`).
+/// (`wc_why::asks_about`). The world must be in range (`Resolve::has_world`).
 ///
 /// # Errors
 ///

@@ -1,6 +1,6 @@
 //! Which functions of a key of a world's exports a module has, by the names of its exports.
 
-ghost use Rattle.std.specs.Prelude.{◌≡◌, ◌≢◌, ◌∷◌, ◌++◌, [], IfOk, OnOk, None, Some, false, map, option_copied, string_bytes};
+ghost use Rattle.std.specs.Prelude.{◌≡◌, ◌≢◌, ◌∷◌, ◌++◌, [], IfOk, IsErr, OnOk, None, Some, false, map, option_copied, string_bytes};
 ghost use Rattle.std.specs.Option.{option_map, option_map_or};
 ghost use Rattle.wc_resolve.specs.Names.{track};
 ghost use Rattle.wc_resolve.specs.Resolve.{canonical_id, core_name, key_text};
@@ -39,6 +39,7 @@ pub(crate) fn export_names<'b>(
 fn without_names<'b>(fault: ReadFault) -> Result<Option<Set<&'b str>>, AllocError>
     ensures none { IfOk result (λ names. option_map (λ s. map text_of s.keys) names ≡ None) }
     ensures refused { OnOk result (fault ≢ ReadFault.Memory) }
+    ensures memory { IsErr result → fault ≡ ReadFault.Memory }
 {
     match fault {
         ReadFault::Memory => Err(AllocError),

@@ -85,13 +85,24 @@ refused_cause c bytes out f place fault still h (inr (near, near_is, is)) =
 module _ (c : CommandView) (bytes : List ℕ) (f : Followed) (is : IsSource bytes c.exports f) (out : Printing → Type 0) where
   pub source_of : {T : Type 0} (r : Result T WhyFault) → OnOk r (IsSourcePrinted c f out) → OnOk r (PrintsSome (IsSourceOf c bytes) out)
   source_of (Ok x) (text, known, shows, shown) =
-      (text, record { source = followed_view f; followed = is.followed; known = known; named = is.named; is = shows }, shown)
+      let names = is.has_paths.named.all in
+      let given = is.has_paths.named.given in (
+        text,
+        record {
+          source = followed_view f names;
+          followed = is.followed names;
+          known = known;
+          named = subst (λ b. AreFunctionNames b names) is.spelled given;
+          is = shows names given;
+        },
+        shown,
+      )
   source_of (Err e) h = tt
 
   source_cause : (e : WhyFault) → IsFollowedCause c f out e → IsSourcePrintCause c bytes out e
   source_cause Memory h = tt
   source_cause Output h = h
-  source_cause (NoImport p near) h = ((followed_view f, is.followed, h.0), h.1)
+  source_cause (NoImport p near) h = ((followed_view f [], is.followed [], h.0), h.1)
   source_cause e h = absurd h
 
   pub some_source_cause : {T : Type 0} (r : Result T WhyFault) → IfErr r (IsFollowedCause c f out) → IfErr r (IsSourcePrintCause c bytes out)

@@ -1,6 +1,6 @@
 -- The texts of faults.
 use Rattle.std.specs.Prelude.{◌≡◌, ◌⊎◌, ⊤, ℕ, List, [], ◌++◌, cond, codes, Option, Some, None, String, string_bytes}
-use Rattle.std.specs.Option.{option_map}
+use Rattle.std.specs.Option.{option_and_then, option_map, option_or}
 use Rattle.std.specs.Str.{bytes_eq}
 use Rattle.std.specs.declared.alloc.Global.{Global}
 use Rattle.wc_gc.specs.declared.fault.GcFault.{GcFault}
@@ -15,7 +15,8 @@ use Rattle.wc_program.specs.Files.{problem_text}
 use Rattle.wc_program.specs.declared.files.FileProblem.{FileProblem}
 use Rattle.wc_import_paths.specs.Patterns.{PatternView, pattern_view}
 use Rattle.wcwhy_command.specs.NearExports.{IsNearFor}
-use Rattle.wcwhy_command.specs.Patterns.{near_import, near_pattern}
+use Rattle.wcwhy_command.specs.Patterns.{named_under, near_import, near_package, near_pattern}
+use Rattle.wc_why.specs.Keys.{package_text}
 use Rattle.wc_why.specs.Texts.{word}
 use Rattle.wcwhy_command.specs.declared.fault.WhyFault.{WhyFault}
 use Rattle.wcwhy_command.specs.declared.fault.WhyFault.TheVariants.{Memory, CannotRead, Source, NoImport, Output}
@@ -24,17 +25,25 @@ use Rattle.wcwhy_command.specs.declared.fault.WhyFault.TheVariants.{Memory, Cann
 abbrev pub given_word : List ℕ → List ℕ
 given_word text = cond (bytes_eq text []) (codes "''") (word text)
 
--- what an option asks for: the module, and the name, if it has one
+-- what an option asks for: the key, and the name, if it has one
 abbrev pub pattern_by : List ℕ → Option (List ℕ) → List ℕ
-pattern_by module_name None = given_word module_name
-pattern_by module_name (Some name) = given_word module_name ++ (codes " " ++ given_word name)
+pattern_by key None = given_word key
+pattern_by key (Some name) = given_word key ++ (codes " " ++ given_word name)
 
 abbrev pub pattern_text : PatternView → List ℕ
 pattern_text p = pattern_by p.0 p.1
 
--- what is there in place of the imports that an option asks for
+-- the package of an import with its version, and its name where an option has one
+abbrev pub package_pattern_text : PatternView → ImportValue → Option (List ℕ)
+package_pattern_text p i = option_map (λ (t : List ℕ). pattern_text (named_under p t i.name)) (package_text i.module_name)
+
+-- that of the first import for whose package an option would ask, if versions and the case of letters did not count
+abbrev pub near_package_text : List ImportValue → PatternView → Option (List ℕ)
+near_package_text imports p = option_and_then (package_pattern_text p) (near_package imports p)
+
+-- what is there in place of the imports that an option asks for: the module of the first that is near, or else the package
 abbrev pub near_text : List ImportValue → PatternView → Option (List ℕ)
-near_text imports p = option_map (λ (i : ImportValue). pattern_text (near_pattern p i)) (near_import imports p)
+near_text imports p = option_or (option_map (λ (i : ImportValue). pattern_text (near_pattern p i)) (near_import imports p)) (near_package_text imports p)
 
 -- a module has none of the imports that an option asks for, and under it what is there
 abbrev pub unknown_text : PatternView → Option (List ℕ) → List ℕ

@@ -1,7 +1,7 @@
 -- Names without their versions.
 use Rattle.std.specs.Prelude.{Bool, List, ℕ}
 use Rattle.std.specs.Str.{str_eq_ignore_ascii_case}
-use Rattle.wc_import_paths.specs.Patterns.{unversioned_text}
+use Rattle.wc_why.specs.Keys.{unversioned_text}
 
 -- names that are the same but for their versions and for the case of ASCII letters
 abbrev pub is_alike : List ℕ → List ℕ → Bool

@@ -3,14 +3,14 @@ use Rattle.std.specs.Prelude.{ℕ, List, ◌++◌, codes}
 
 -- the usage text
 abbrev pub usage_text : List ℕ
-usage_text = codes "usage: wcwhy IN [--import MODULE[=NAME]]... [--dot] [--json] [EXPORT]...\n" ++ codes "       wcwhy --help | --version\n"
+usage_text = codes "usage: wcwhy IN [--import KEY[=NAME]]... [--dot] [--json] [EXPORT]...\n" ++ codes "       wcwhy --help | --version\n"
 
 -- what each argument is
 abbrev pub options_text : List ℕ
 options_text =
     codes "  IN                      a core module; with --dot an adapter\n"
     ++ (codes "  EXPORT                  an export at which paths may begin; else all\n"
-    ++ (codes "  --import MODULE[=NAME]  an import that is asked for; else all that stay\n"
+    ++ (codes "  --import KEY[=NAME]     imports of a module or a package; else all that stay\n"
     ++ (codes "  --dot                   print a graph, in the language of Graphviz\n"
     ++ (codes "  --json                  print the paths as JSON\n"
     ++ (codes "  -h, --help              print this text\n"

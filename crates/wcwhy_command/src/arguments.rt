@@ -32,8 +32,8 @@ pub(crate) const OPTIONS: [ProgramOption; 3] = [
         name: "--import",
         value: Value::Text,
         repeats: true,
-        usage: " [--import MODULE[=NAME]]...",
-        help: "  --import MODULE[=NAME]  an import that is asked for; else all that stay\n",
+        usage: " [--import KEY[=NAME]]...",
+        help: "  --import KEY[=NAME]     imports of a module or a package; else all that stay\n",
     },
     ProgramOption {
         name: "--dot",
@@ -53,10 +53,10 @@ pub(crate) const OPTIONS: [ProgramOption; 3] = [
 
 /// The command of these arguments, the first of them the one after the program's name: `IN` and then each `EXPORT`, and
 /// options before, between and after them. With `--dot` there is one `EXPORT` at least, and no `--json`.
-/// `--import MODULE[=NAME]` may come several times, `--dot` and `--json` once. What comes after `--import` is its value,
-/// whatever it is; in one argument there is a `=` between them, as in `--import=MODULE`. MODULE ends at the first `=`. `--`
-/// is not an argument, and says that those after it are no options. No option is `-` alone, nor what begins with another
-/// character.
+/// `--import KEY[=NAME]` may come several times, `--dot` and `--json` once. What comes after `--import` is its value,
+/// whatever it is; in one argument there is a `=` between them, as in `--import=KEY`. KEY is the name of a module or a package
+/// of interfaces, each with its version or without (`wc_why::asks_about`), and ends at the first `=`. `--` is not an argument,
+/// and says that those after it are no options. No option is `-` alone, nor what begins with another character.
 ///
 /// # Errors
 ///

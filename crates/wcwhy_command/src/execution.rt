@@ -230,29 +230,29 @@ fn print_module<'a, O: Output>(
     ensures fault { IfErr result (IsSourcePrintCause (command_view command.now) bytes.now
         (Becomes (output_ends O.written O.sent O.is_failed) out.old out.new)) }
 {
-    match follow(alloc, seed, bytes, &command.exports) {
-        Ok(followed) => print_followed(alloc, seed, command, &followed, out),
-        Err(refusal) => Err(source_fault(alloc, bytes, refusal)),
+    match Asked::new(alloc, seed, &command.imports) {
+        Ok(asked) => print_followed(alloc, command, &asked, bytes, out),
+        Err(AllocError) => Err(WhyFault::Memory),
     }
 }
 
-/// Prints why imports of a module that is followed stay, if it has some that each option asks for.
+/// Prints why the imports of the module with these bytes stay that options ask for.
 fn print_followed<'a, O: Output>(
     alloc: Global,
-    seed: Seed,
     command: &Command<'a>,
-    followed: &Followed<'_>,
+    asked: &Asked<'_, 'a>,
+    bytes: &[u8],
     out: &mut O,
 ) -> Result<(), WhyFault<'a>>
-    requires { HasPaths followed.now }
-    ensures done { OnOk result (IsSourcePrinted (command_view command.now) followed.now
+    requires { asked.now ≡ (command_view command.now).imports }
+    ensures done { OnOk result (PrintsSome (IsSourceOf (command_view command.now) bytes.now)
         (Becomes (output_ends O.written O.sent O.is_failed) out.old out.new)) }
-    ensures fault { IfErr result (IsFollowedCause (command_view command.now) followed.now
+    ensures fault { IfErr result (IsSourcePrintCause (command_view command.now) bytes.now
         (Becomes (output_ends O.written O.sent O.is_failed) out.old out.new)) }
 {
-    match Asked::new(alloc, seed, &command.imports) {
-        Ok(asked) => print_source(alloc, command, &asked, followed, out),
-        Err(AllocError) => Err(WhyFault::Memory),
+    match follow(alloc, asked, bytes, &command.exports) {
+        Ok(followed) => print_source(alloc, command, asked, &followed, out),
+        Err(refusal) => Err(source_fault(alloc, bytes, refusal)),
     }
 }
 

@@ -4,10 +4,10 @@ ghost use Rattle.std.specs.Prelude.{◌≡◌, IfNone, IfOk, IfSome, map, string
 ghost use Rattle.std.specs.Option.{option_map};
 ghost use Rattle.wc_read.specs.Imports.{import_value};
 ghost use Rattle.wc_import_paths.specs.Patterns.{pattern_view};
-ghost use Rattle.wcwhy_command.specs.Fault.{IsSourceFault, NeedsText, given_word, near_text, of_source, pattern_text, source_text, unknown_text, unread_text, why_fault_text};
+ghost use Rattle.wcwhy_command.specs.Fault.{IsSourceFault, NeedsText, given_word, near_package_text, near_text, of_source, package_pattern_text, pattern_text, source_text, unknown_text, unread_text, why_fault_text};
 
 use crate::near_exports::near_for;
-use crate::patterns::{near_import, near_pattern};
+use crate::patterns::{named_under, near_import, near_package, near_pattern};
 use std::alloc::{AllocError, Global};
 use wc_gc::{GcFault, TrimPlace};
 use wc_import_paths::ImportPattern;
@@ -15,7 +15,7 @@ use wc_json::escaped;
 use wc_program::{FileProblem, problem_text};
 use wc_read::Import;
 use wc_texts::{OUT_OF_MEMORY, PutFailed, Refused, text_of};
-use wc_why::word;
+use wc_why::{package_text, word};
 
 /// Why the program could not do what its arguments say. `run_command` says which of several causes is named; `Memory`
 /// may come in place of any.
@@ -29,8 +29,9 @@ pub enum WhyFault<'a> {
     /// first that is equal to it but for its version and for the case of letters, as it is in the fault's text.
     Source(GcFault, Option<TrimPlace>, Option<String>),
     /// An option asks for imports, and the module has none of them. It carries what the option asks for; and of the first
-    /// import that it would ask for, if versions and the case of letters did not count, the module, or after an option with
-    /// a name the module and the name, as they are in the fault's text.
+    /// import that it would ask for by the module, if versions and the case of letters did not count, the module; else of
+    /// the first that it would ask for so by the package, the package with its version. After an option with a name it is
+    /// followed by the name of that import, as they are in the fault's text.
     NoImport(ImportPattern<'a>, Option<String>),
     /// The lines, or the graph, could not be printed.
     Output,
@@ -120,22 +121,22 @@ fn unknown_text(
     }
 }
 
-/// The text of an option's pattern: the module, and the name, if it has one.
+/// The text of an option's pattern: the key, and the name, if it has one.
 fn pattern_text(alloc: Global, pattern: &ImportPattern<'_>) -> Result<String, AllocError>
     ensures { IfOk result (λ text. string_bytes text ≡ pattern_text (pattern_view pattern.now)) }
 {
-    let module = given_word(alloc, pattern.module)?;
+    let key = given_word(alloc, pattern.key)?;
     match pattern.name {
         Some(name) => {
             let name = given_word(alloc, name)?;
-            format!(in alloc; "{module} {name}")
+            format!(in alloc; "{key} {name}")
         }
-        None => Ok(module),
+        None => Ok(key),
     }
 }
 
 /// The nearest text to an option's pattern: the module, or the module and the name, of the first of these imports that
-/// the option would ask for, if versions and the case of letters did not count.
+/// the option would ask for, if versions and the case of letters did not count; or else the package for the module.
 pub(crate) fn near_text(
     alloc: Global,
     pattern: &ImportPattern<'_>,
@@ -147,6 +148,40 @@ pub(crate) fn near_text(
     match near_import(pattern, imports) {
         Some(import) => {
             let near = near_pattern(pattern, import);
+            Ok(Some(pattern_text(alloc, &near)?))
+        }
+        None => near_package_text(alloc, pattern, imports),
+    }
+}
+
+/// The package, or the package and the name, of the first of these imports for whose package an option would ask, if
+/// versions and the case of letters did not count.
+fn near_package_text(
+    alloc: Global,
+    pattern: &ImportPattern<'_>,
+    imports: &[Import<'_>],
+) -> Result<Option<String>, AllocError>
+    ensures { IfOk result (λ r. option_map string_bytes r ≡ near_package_text
+        (map import_value imports.now) (pattern_view pattern.now)) }
+{
+    match near_package(pattern, imports) {
+        Some(import) => package_pattern_text(alloc, pattern, import),
+        None => Ok(None),
+    }
+}
+
+/// The package of an import with its version, and its name where an option has one.
+fn package_pattern_text(
+    alloc: Global,
+    pattern: &ImportPattern<'_>,
+    import: &Import<'_>,
+) -> Result<Option<String>, AllocError>
+    ensures { IfOk result (λ r. option_map string_bytes r ≡ package_pattern_text
+        (pattern_view pattern.now) (import_value import.now)) }
+{
+    match package_text(alloc, import.module)? {
+        Some(package) => {
+            let near = named_under(pattern, &package, import.name);
             Ok(Some(pattern_text(alloc, &near)?))
         }
         None => Ok(None),

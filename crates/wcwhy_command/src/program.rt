@@ -158,7 +158,7 @@ fn run_and_report<F: FileStore, O: Output, E: Screen>(
 ///   `LiveBody`, of a body that paths reach. With `--dot` the fault of `wc_gc::why_imports`. With `MissingExport` it carries
 ///   the first export that is equal but for its version and for the case of letters.
 /// - `NoImport`: the module has none of the imports that an option asks for. It carries the first such, and the first
-///   import that it would ask for, if versions and the case of letters did not count.
+///   import that it would ask for by the module, or else by the package, if versions and the case of letters did not count.
 /// - `Output`: a put or the flush failed; `out` is failed, and how much was printed is left open.
 /// - `Memory`: an allocation failed, or the module is too large for memory. How much was printed is left open.
 ///

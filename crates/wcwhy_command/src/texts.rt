@@ -4,7 +4,7 @@ ghost use Rattle.std.specs.Prelude.{◌≡◌};
 ghost use Rattle.std.specs.Str.{str_eq_ignore_ascii_case};
 ghost use Rattle.wcwhy_command.specs.Texts.{is_alike};
 
-use wc_import_paths::unversioned;
+use wc_why::unversioned;
 
 /// Whether names are the same but for their versions and for the case of ASCII letters.
 pub(crate) fn is_alike(name: &str, other: &str) -> bool

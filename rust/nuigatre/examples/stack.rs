@@ -1,9 +1,9 @@
 //! Measures the stack of each call: `stack WORLDS.json WORLD MAIN.wasm [NAME=ADAPTER.wasm [KEY]...]` prints, for each call on
-//! these, how many bytes of its thread's stack it takes, with all that the crate takes for it. Deep modules are trimmed too.
+//! these, how many bytes of its thread's stack it takes, with all that the crate takes for it. So it does of deep modules.
 
 use nuigatre::{
-    Adapter, ComponentEncoder, ComponentWorld, Error, ModuleImportMap, Plan, Resolved, gc, scan,
-    validate_adapter_module, validate_module,
+    Adapter, ComponentEncoder, ComponentWorld, Error, ModuleImportMap, Plan, Resolved, gc, paths,
+    scan, validate_adapter_module, validate_module,
 };
 use std::borrow::Cow;
 use std::hint::black_box;
@@ -122,7 +122,16 @@ fn show_all(encoder: &ComponentEncoder<'_>, json: &str) -> Result<(), Error> {
         adapters.iter().map(|it| move || gc::why(it.0, &it.1)),
     );
     let modules = adapters.iter().map(|it| it.0).chain([encoder.module]);
-    show("scan", modules.map(|wasm| move || scan(wasm)));
+    show("scan", modules.clone().map(|wasm| move || scan(wasm)));
+    show("paths", modules.map(|wasm| move || paths(wasm, &[], &[])));
+    show(
+        "paths of deep modules",
+        array::from_fn::<_, 4, _>(|at| {
+            let module = &deep[at % 2];
+            let exports: &'static [&str] = if at < 2 { &["f"] } else { &[] };
+            move || paths(module, exports, &[])
+        }),
+    );
     show("Resolved::new", [|| Resolved::new(json)]);
     let deep = deep_json();
     show("Resolved::new of deep JSON", [|| Resolved::new(&deep)]);

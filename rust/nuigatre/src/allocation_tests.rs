@@ -132,12 +132,17 @@ const RETURNING: &[u8] = b"\0asm\x01\0\0\0\x01\x0d\x02`\x02\x7f\x7f\0`\x03\x7f\x
 /// How many allocations had to fail, the first of them in each run, before all succeeded. With all after it, and alone: then
 /// the answer may be the wanted one too, since some memory is asked for that a call can do without.
 fn failures<T: Debug + PartialEq>(call: impl Fn() -> Result<T, Error>) -> u64 {
+    onwards_and_alone(call).0
+}
+
+/// How many had to fail with all after them, and how many alone.
+fn onwards_and_alone<T: Debug + PartialEq>(call: impl Fn() -> Result<T, Error>) -> (u64, u64) {
     let wanted = call();
     assert!(wanted != Err(Error::Memory));
     let alone = refusals(&call, &wanted, fail_once_after);
     let count = refusals(&call, &wanted, fail_after);
     assert!(alone >= count, "{alone} alone, {count} with all after them");
-    count
+    (count, alone)
 }
 
 /// As the function before, where `fail` says which allocations fail after so many.
@@ -293,11 +298,16 @@ fn ways() {
     assert_eq!(world.ways(&encoder).err(), Some(Error::OtherVersion));
 }
 
-/// The types of built-ins, and a table with slots of all kinds that these have.
+/// The types of built-ins, a table with slots of all kinds that these have, and the options of what is exported.
 #[test]
 fn tables() {
     let encoder = ComponentEncoder::new(RETURNS, "a:b/demo", RETURNING);
     assert!(failures(|| ComponentWorld::new(&encoder)) > 200);
+    let world = ComponentWorld::new(&encoder).expect("a world");
+    let run = world.info.exports.get("[async-lift-stackful]run");
+    let options = world.export_options(&encoder).expect("options");
+    assert!(options.get(run.expect("an export")).is_some());
+    assert!(failures(|| world.export_options(&encoder)) > 5);
     for (encoder, slots) in [(encoder, 2), (self::encoder(), 1)] {
         let world = ComponentWorld::new(&encoder).expect("a world");
         let count = || world.table().map(|table| table.slots().len());
@@ -374,4 +384,66 @@ fn refused_worlds() {
     assert!(refused(|it| it.adapters[0].wasm = STARTED_B) > 50);
     assert!(refused(|it| it.reject_legacy_names = true) > 50);
     assert!(refused(|it| it.resolve = CYCLE.into()) > 50);
+}
+
+/// A real program over an adapter: each call, and how many allocations of it failed, with all after them and alone.
+///
+///     NUIGATRE_PROGRAM='WORLDS.json WORLD MAIN.wasm NAME=ADAPTER.wasm KEY' cargo test a_program -- --ignored --nocapture
+#[test]
+#[ignore = "takes minutes, and the program of NUIGATRE_PROGRAM"]
+fn a_program() {
+    let given = std::env::var("NUIGATRE_PROGRAM").expect("NUIGATRE_PROGRAM");
+    let words: Vec<&str> = given.split(' ').collect();
+    let [worlds, world, main, adapter, key] = words[..] else {
+        panic!("not five words: {given}");
+    };
+    let read = |path: &str| std::fs::read(path).expect("a file");
+    let (name, adapter) = adapter.split_once('=').expect("NAME=FILE");
+    let (json, module, adapter) = (read(worlds), read(main), read(adapter));
+    let json = String::from_utf8(json).expect("a text");
+    let mut encoder = ComponentEncoder::new(&json, world, &module);
+    encoder.adapters.push(Adapter::new(name, &adapter));
+    encoder.adapters[0].required_exports.push(key);
+    show_worlds(&encoder, &json);
+    let world = ComponentWorld::new(&encoder).expect("a world");
+    show_what_is_of(&world, &encoder);
+    let required: Vec<&str> = world.required_exports(name).expect("it").collect();
+    show("ModuleImportMap::new", || deduped(&module));
+    show("gc::run", || gc::run(&adapter, &required, None, 16));
+    show("gc::why", || gc::why(&adapter, &required));
+    show("scan", || scan(&adapter));
+    show("paths", || paths(&adapter, &[], &[]));
+}
+
+fn show_worlds(encoder: &ComponentEncoder<'_>, json: &str) {
+    show("Resolved::new", || Resolved::new(json));
+    show("ComponentWorld::new", || ComponentWorld::new(encoder));
+    show("with_plan", || ComponentWorld::with_plan(encoder));
+    show("Plan::new", || Plan::new(encoder));
+    let resolved = Resolved::new(json).expect("worlds");
+    let mut changed = encoder.clone();
+    changed.resolve = (&resolved).into();
+    show("of a Resolved", || ComponentWorld::new(&changed));
+    changed.adapters[0].required_exports.clear();
+    assert!(ComponentWorld::new(&changed).is_err());
+    show("refused", || ComponentWorld::new(&changed));
+}
+
+fn show_what_is_of(world: &ComponentWorld, encoder: &ComponentEncoder<'_>) {
+    let (module, adapter) = (encoder.module, &encoder.adapters[0]);
+    let imports = world.info.imports.required_from_adapter(adapter.name);
+    let keys = &adapter.required_exports;
+    let adapted = || validate_adapter_module(encoder, adapter.wasm, imports, keys, None);
+    show("validate_module", || validate_module(encoder, module, None));
+    show("validate_adapter_module", adapted);
+    let ways = world.ways(encoder).expect("paths");
+    show("table", || world.table().map(|it| it.slots().len()));
+    show("ways", || world.ways(encoder).map(|it| it.imports().len()));
+    show("steps", || ways.steps(ways.imports().len() - 1));
+    show("export_options", || world.export_options(encoder));
+}
+
+fn show<T: Debug + PartialEq>(name: &str, call: impl Fn() -> Result<T, Error>) {
+    let (onwards, alone) = onwards_and_alone(call);
+    println!("{name}: {onwards} with all after them, {alone} alone");
 }

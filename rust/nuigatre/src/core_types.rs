@@ -82,10 +82,9 @@ pub enum ExportKind {
     Global,
 }
 
-/// The type of a core parameter or result of a function.
+/// The type of a core parameter or result of a function. These are all: another one is a new version of this crate.
 #[derive(Clone, Copy, Debug, PartialEq, Eq, Hash)]
 #[allow(missing_docs)]
-#[non_exhaustive]
 pub enum WasmType {
     I32,
     I64,

@@ -23,9 +23,9 @@ pub enum WorldKey {
     Interface(InterfaceId),
 }
 
-/// How a guest imports or exports a function as a core function. Its text is as `guest-import-async`.
+/// How a guest imports or exports a function as a core function. Its text is as `guest-import-async`. These are all: another
+/// one is a new version of this crate.
 #[derive(Clone, Copy, Debug, PartialEq, Eq, PartialOrd, Ord, Hash)]
-#[non_exhaustive]
 pub enum AbiVariant {
     /// A synchronous import.
     GuestImport,

@@ -8,6 +8,7 @@ use crate::json::Value;
 use crate::memory::{OutOfMemory, collect};
 use crate::read::{Read, Unread, list, member, optional_member};
 use std::fmt::{self, Display, Formatter};
+use std::str;
 
 /// Where a path begins. Its text is as `export run`, `start`, `fills table 0` or `fills memory 0`.
 #[derive(Clone, Debug, PartialEq, Eq, Hash)]
@@ -86,9 +87,9 @@ const MORE: usize = 1 << 16;
 /// module. Paths begin at the exports of these names, or at all, where there are none, and at the start function; only where
 /// none of these leads to an import, they begin at what an active segment fills.
 ///
-/// Each text of `imports` asks for imports: `MODULE` for those of a module, with its version or without, and `MODULE=NAME` for
-/// those of them that have this name; `MODULE` ends at the first `=`. Without texts all are asked for. What the module does
-/// not import has no path.
+/// Each text of `imports` asks for imports: `KEY` for those of a module or of a package of interfaces, as `wasi:io/error` and
+/// `wasi:io`, each with its version or without, and `KEY=NAME` for those of them that have this name; `KEY` ends at the first
+/// `=`. Without texts all are asked for. What the module does not import has no path.
 ///
 /// ```
 /// use nuigatre::paths;

@@ -5,10 +5,10 @@ use crate::json::Value;
 use crate::read::{Read, Unread, of_name, show};
 use std::fmt::{self, Display, Formatter};
 
-/// A type of the resolved worlds. Its text is as `u32`, or as `type 3` of one that they define.
+/// A type of the resolved worlds. Its text is as `u32`, or as `type 3` of one that they define. These are all: another one is
+/// a new version of this crate.
 #[derive(Clone, Copy, Debug, PartialEq, Eq, Hash)]
 #[allow(missing_docs)]
-#[non_exhaustive]
 pub enum Type {
     Bool,
     U8,

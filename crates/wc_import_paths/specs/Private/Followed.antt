@@ -1,5 +1,5 @@
 -- Why a module can't be followed, step by step, and what is written of one that is followed.
-use Rattle.std.specs.Prelude.{◌≡◌, ⊤, ℕ, List, ◌++◌, MatchOption, Option, Some, None, string_bytes}
+use Rattle.std.specs.Prelude.{◌≡◌, ⊤, ℕ, List, [], ◌∷◌, ◌++◌, MatchOption, Option, Some, None, string_bytes}
 use Rattle.std.specs.List.{flat_map}
 use Rattle.std.specs.Option.{option_map}
 use Rattle.json.specs.Tree.{json_tokens}
@@ -7,6 +7,7 @@ use Rattle.json.specs.Written.{Written}
 use Rattle.wc_read.specs.Exports.{ExportValue}
 use Rattle.wc_read.specs.Imports.{ImportValue}
 use Rattle.wc_read.specs.Modules.{ModuleValue}
+use Rattle.wc_read.specs.Names.{GlobalNameValue}
 use Rattle.wc_read.specs.Place.{IsPlaceIn}
 use Rattle.wc_read.specs.declared.fault.ReadFault.{ReadFault}
 use Rattle.wc_read.specs.declared.place.ReadPlace.{ReadPlace}
@@ -17,17 +18,20 @@ use Rattle.wc_gc.specs.declared.fault.GcFault.{GcFault}
 use Rattle.wc_gc.specs.declared.fault.GcFault.TheVariants.{Memory, Read, MissingExport, LiveBody}
 use Rattle.wc_gc.specs.declared.trim_place.TrimPlace.{TrimPlace}
 use Rattle.wc_gc.specs.declared.trim_place.TrimPlace.TheVariants.{Bytes, Section}
-use Rattle.wc_segments.specs.Segments.{IsRefused}
+use Rattle.wc_segments.specs.Segments.{IsRefused, segments_value}
 use Rattle.wc_segments.specs.declared.segments.SegmentSection.{SegmentSection}
 use Rattle.wc_paths.specs.Items.{GraphValue}
+use Rattle.wc_paths.specs.OnPaths.{AreOnPaths}
 use Rattle.wc_paths.specs.PathRoots.{IsPathRoot, RootView}
 use Rattle.wc_paths.specs.Paths.{IsPathFault}
 use Rattle.wc_paths.specs.declared.items.PathItem.{PathItem}
+use Rattle.wc_paths.specs.declared.on_paths.OnPaths.{OnPaths}
 use Rattle.wc_paths.specs.declared.paths.Path.{Path}
 use Rattle.wc_paths.specs.declared.paths.PathFault.TheVariants.{LiveBody as live_body}
 use Rattle.wc_why.specs.JsonPaths.{path_json}
 use Rattle.wc_why.specs.Paths.{PathView}
-use Rattle.wc_import_paths.specs.Followed.{followed_view}
+use Rattle.wc_import_paths.specs.Followed.{AreNamesIn, followed_view}
+use Rattle.wc_import_paths.specs.FunctionNames.{AreNamesOn}
 use Rattle.wc_import_paths.specs.Following.{body_place, section_id}
 use Rattle.wc_import_paths.specs.JsonPaths.{IsWayAt, import_path}
 use Rattle.wc_import_paths.specs.Patterns.{PatternView}
@@ -65,11 +69,15 @@ IsPathsRefusal g first second f place = ⊥
 -- the paths to the import at a position were written
 abbrev pub IsWrittenAt : Followed → List PatternView → ℕ → Written → Written → Type 0
 IsWrittenAt f patterns position old new =
-    (paths : List PathView) × IsWayAt (followed_view f) patterns position paths
+    (paths : List PathView) × ((names : List GlobalNameValue) → AreNamesIn f names → IsWayAt (followed_view f names) patterns position paths)
     × (new.before ≡ old.before) × (new.tokens ≡ old.tokens ++ flat_map (λ p. json_tokens (path_json p)) paths)
 
 -- the path by which a path in the module is shown
 abbrev pub IsShownPath : Followed → ImportValue → Path → PathView → Type 0
 IsShownPath f i p shown =
-    (root : RootView) × IsPathRoot (followed_view f).exports (followed_view f).segments p.is_second p.items.items root
-    × (shown ≡ import_path (followed_view f).names i root p.items.items)
+    (root : RootView) × IsPathRoot f.roots (segments_value f.segments) p.is_second p.items.items root
+    × ((names : List GlobalNameValue) → AreNamesIn f names → shown ≡ import_path names i root p.items.items)
+
+-- the names of the functions on the path to an item
+abbrev pub AreNamesTo : Followed → PathItem → List GlobalNameValue → Type 0
+AreNamesTo f x names = (o : OnPaths) × AreOnPaths f.paths (x ∷ []) o × AreNamesOn f.bytes.now o names

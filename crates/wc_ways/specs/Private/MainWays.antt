@@ -1,5 +1,6 @@
 -- The main module of a component's world, as the code has it.
 use Rattle.std.specs.Prelude.{◌≡◌, ℕ, List, string_bytes}
+use Rattle.wc_resolve.specs.Kinds.{ResolveView}
 use Rattle.wc_why.specs.Paths.{StepView}
 use Rattle.wc_world.specs.Views.{ComponentWorldView}
 use Rattle.wc_world.specs.WorldViews.{world_view}
@@ -17,6 +18,10 @@ world_of g = world_view g.world.now
 
 abbrev pub key_of : MainModule → List ℕ
 key_of g = g.key.now
+
+-- where the world's interfaces are
+abbrev pub resolve_of : MainModule → ResolveView
+resolve_of g = (world_of g).encoder.resolve
 
 -- the paths are those in it
 abbrev pub IsFollowedIn : MainModule → Type 0

@@ -2,6 +2,7 @@
 use Rattle.std.specs.Prelude.{◌≡◌, ◌++◌, List, [], String, Vec, map, ◌∷◌, Option, Some, Result, OnOk}
 use Rattle.std.specs.Map.{lookup}
 use Rattle.std.specs.declared.alloc.Global.{Global}
+use Rattle.std.specs.declared.rc.Rc.{Rc}
 use Rattle.indexmap.specs.IndexMap.{IndexMap}
 use Rattle.wc_resolve.specs.declared.functions.AbiVariant.{AbiVariant}
 use Rattle.wc_resolve.specs.declared.ids.InterfaceId.{InterfaceId}
@@ -50,5 +51,5 @@ abbrev pub AddsInterfaceOnOk : {T E S : Type 0} → Result T E → IndexMap (Opt
 AddsInterfaceOnOk result old new l x = (e : ImportEntry) → interface_entry l x ≡ Some e → AddsEntryOnOk result old new e
 
 -- lowerings by interfaces are those of these interfaces
-abbrev pub AreKept : Lowerer → List (InterfaceId × Vec ((String Global × AbiVariant) × Lowering) Global) → Type 0
-AreKept l kept = (i : InterfaceId) (found : Vec ((String Global × AbiVariant) × Lowering) Global) → lookup (same_interface i) kept ≡ Some found → map lowering_entry found.items ≡ lowerings_of_interface l i.0
+abbrev pub AreKept : {S : Type 0} → Lowerer → List (InterfaceId × Rc (IndexMap (String Global × AbiVariant) Lowering S) Global) → Type 0
+AreKept {S} l kept = (i : InterfaceId) (found : Rc (IndexMap (String Global × AbiVariant) Lowering S) Global) → lookup (same_interface i) kept ≡ Some found → map lowering_entry found.value.entries ≡ lowerings_of_interface l i.0

@@ -2,7 +2,7 @@
 use Rattle.std.specs.Prelude.{◌≡◌, ◌⊎◌, ⊤, ℕ, List, None, string_bytes}
 use Rattle.std.specs.Option.{option_map}
 use Rattle.wc_read.specs.Imports.{ImportValue}
-use Rattle.wc_read.specs.Modules.{ModuleValue}
+use Rattle.wc_read.specs.Modules.{ModuleValue, module_value}
 use Rattle.wc_read.specs.Names.{GlobalNameValue}
 use Rattle.wc_program.specs.Screen.{Printing, nothing, printed, failed}
 use Rattle.wc_options.specs.Wrong.{help, version, wrong, wrong_view}
@@ -12,7 +12,6 @@ use Rattle.wcwhy_command.specs.Arguments.{CommandView}
 use Rattle.wcwhy_command.specs.Graph.{IsGraph}
 use Rattle.wcwhy_command.specs.Fault.{near_text}
 use Rattle.wcwhy_command.specs.Program.{EndsWithoutMemory, IsGraphCause, IsNoImport, IsSourceCause, StopEnds}
-use Rattle.wc_import_paths.specs.Followed.{followed_view}
 use Rattle.wcwhy_command.specs.Private.Followed.{IsSourceText}
 use Rattle.wc_import_paths.specs.declared.followed.Followed.{Followed}
 use Rattle.wc_import_paths.specs.declared.patterns.ImportPattern.{ImportPattern}
@@ -36,13 +35,13 @@ ArePrinted c m names out =
 -- the same of a module that is followed
 abbrev pub IsSourcePrinted : CommandView → Followed → (Printing → Type 0) → Type 0
 IsSourcePrinted c f out =
-    (text : List ℕ) × (first_unknown (followed_view f).code.imports c.imports ≡ None) × IsSourceText c.json f c.imports text × out (printed text)
+    (text : List ℕ) × (first_unknown (module_value f.code).imports c.imports ≡ None) × IsSourceText c.json f c.imports text × out (printed text)
 
 -- why it could not be printed
 abbrev pub IsFollowedCause : CommandView → Followed → (Printing → Type 0) → WhyFault → Type 0
 IsFollowedCause c f out why_memory = ⊤
 IsFollowedCause c f out Output = out failed
-IsFollowedCause c f out (NoImport p near) = IsNoImport (followed_view f).code.imports c.imports p near × out nothing
+IsFollowedCause c f out (NoImport p near) = IsNoImport (module_value f.code).imports c.imports p near × out nothing
 IsFollowedCause c f out fault = ⊥
 
 -- why bytes could not be printed of, as a graph and otherwise

@@ -7,7 +7,7 @@ mod wit_parser;
 
 use nuigatre::{
     AbiVariant, Adapter, AdapterModuleDidNotExport, ComponentEncoder, ComponentWorld, InterfaceId,
-    RequiredOptions, TypeId, WorldKey,
+    Lowering, RequiredOptions, Type, TypeId, WorldKey,
 };
 use replacement::{
     Ids, alone, asked_key, component_world, is_of_exports, lacking, live_types, lowered, resolved,
@@ -17,6 +17,8 @@ use wit_parser::Resolve;
 
 const PAGE: &str = include_str!("../../../../docs/FROM-WIT-COMPONENT.md");
 const CODE: &str = include_str!("replacement.rs");
+const AS_THERE: &str = include_str!("as_there.rs");
+const TESTS: &str = include_str!("main.rs");
 const EXAMPLE: &str = include_str!("../../examples/encoder.rs");
 
 /// A world that imports `a:b/host`, which has `hello: func(x: thing)` and `say: func(x: string)` and the record `thing`; and
@@ -157,6 +159,8 @@ fn an_export_that_is_missing() {
     );
     let other = ComponentWorld::new(&ComponentEncoder::new("{}", 0, b"")).expect_err("no worlds");
     assert_eq!(lacking(&other), None);
+    let right = component_world(&self::encoder(OLD), &worlds).expect("a world");
+    as_there::are_shared(worlds, right, other);
 }
 
 #[test]
@@ -169,7 +173,7 @@ fn what_is_as_there() {
     old.required_exports.push("a:b/more");
     parts.adapters.push(old);
 
-    let (names, wholes) = as_there::instances(&world.info);
+    let (names, wholes) = as_there::instances(&world.info.imports);
     let imports = [("a:b/host", "hello"), ("a:b/host", "say"), ("old", "f")];
     assert_eq!((&names[..], wholes), (&imports[..], vec![]));
     let mut imports = world.info.imports.imports();
@@ -227,6 +231,147 @@ fn what_is_as_there() {
     let wanted = ["hello", "say"].map(|name| (name.to_owned(), path(name)));
     assert_eq!(explained, wanted);
     assert_eq!(as_there::owned(world.adapters), [("old".to_owned(), wasm)]);
+}
+
+/// Imports `f` of `env` twice.
+const TWICE: &[u8] =
+    b"\0asm\x01\0\0\0\x01\x04\x01\x60\0\0\x02\x11\x02\x03env\x01f\0\0\x03env\x01f\0\0";
+
+/// Imports `f` of `env`; the function 1, `inner`, calls it, and the function 2, the export `b`, calls that.
+const CALLS: &[u8] = b"\0asm\x01\0\0\0\x01\x04\x01\x60\0\0\x02\x09\x01\x03env\x01f\0\0\x03\x03\x02\0\0\x07\x05\x01\x01b\0\x02\
+    \x0a\x0b\x02\x04\0\x10\0\x0b\x04\0\x10\x01\x0b\0\x0f\x04name\x01\x08\x01\x01\x05inner";
+
+#[test]
+fn modules_as_there() {
+    let encoder = encoder(OLD);
+    let worlds = resolved(&encoder.metadata.resolve).expect("worlds");
+    let mut parts = ComponentEncoder::new(&worlds, "app", MAIN);
+    parts.main_module_exports = Some(vec!["a:b/run"]);
+    let mut old = Adapter::new("old", OLD);
+    old.required_exports.push("a:b/more");
+    parts.adapters.push(old);
+    let world = ComponentWorld::new(&parts).expect("a world");
+    let (info, map) = as_there::validated(&parts).expect("a module");
+    assert_eq!((&info, &map), (&world.info, &world.module_import_map));
+    assert_eq!(as_there::original(map.as_ref(), "old", "f"), "f");
+    let (_, map) = nuigatre::ModuleImportMap::new(TWICE.into()).expect("a module");
+    assert_eq!(as_there::original(map.as_ref(), "env", "f [v2]"), "f");
+
+    let [host, run] = [0, 1].map(InterfaceId);
+    let (abi, names) = as_there::of_function(&info.exports, &WorldKey::Interface(run), "go");
+    assert_eq!((abi, names), (Some(AbiVariant::GuestExport), [None; 3]));
+    let (memory, names, reallocs) =
+        as_there::of_module(&info.exports, Some(host), "say", TypeId(0));
+    assert_eq!(memory.map(|it| it.0), Some("memory"));
+    assert_eq!((names, reallocs), ([None; 8], 0));
+
+    let library = as_there::library("go");
+    let wanted = library.clone();
+    parts.adapters[0].library_info = Some(library);
+    let whole = ComponentWorld::new(&parts).expect("a world");
+    assert_eq!(whole.adapters["old"].library_info, Some(wanted));
+
+    let chain = as_there::chain(CALLS, &["b"]).expect("a chain");
+    let items = ["func 2", "inner", "func 0"].map(str::to_owned);
+    assert_eq!(chain, Some(("b".to_owned(), items.to_vec())));
+    assert_eq!(as_there::chain(OLD, &["f"]), Ok(None));
+    let begun = as_there::begun(CALLS).expect("paths");
+    assert_eq!(begun, [("export b".to_owned(), "f".to_owned())]);
+}
+
+#[test]
+fn maps_and_options_as_there() {
+    let encoder = encoder(OLD);
+    let worlds = resolved(&encoder.metadata.resolve).expect("worlds");
+    let world = component_world(&encoder, &worlds).expect("a world");
+    let abi = AbiVariant::GuestImport;
+    let say = as_there::lowering(&world, "a:b/host", "say", abi);
+    let Some((Lowering::Indirect { sig, .. }, true)) = say else {
+        panic!("not lowered indirectly, or not first: {say:?}");
+    };
+    // (ptr, len), of the core type (i32, i32) -> ()
+    let (params, core) = as_there::signature(sig);
+    let wanted = [wit_parser::WasmType::Pointer, wit_parser::WasmType::Length];
+    assert_eq!(params, wanted);
+    let codes = core.params.into_iter().map(as_there::code);
+    assert_eq!(codes.collect::<Vec<_>>(), [Some(0x7f); 2]);
+    assert_eq!(as_there::abi(abi), wit_parser::AbiVariant::GuestImport);
+    assert_eq!(as_there::lowering(&world, "a:b/run", "go", abi), None);
+    let [host, run, more] = [0, 1, 2].map(InterfaceId);
+    let ty = TypeId(0);
+    let types = as_there::members(&world.live_type_imports[&host]);
+    assert_eq!(types, (vec![ty], Some(ty), Some(ty)));
+    let used = as_there::members(&world.exports_used[&more]);
+    assert!(used.0.contains(&run) && used.1.is_some() && used.2.is_some());
+
+    let mut parts = ComponentEncoder::new(&worlds, "app", MAIN);
+    let mut old = Adapter::new("old", OLD);
+    old.required_exports.push("a:b/more");
+    parts.adapters.push(old);
+    let chosen = as_there::with_options(&parts, "hello", RequiredOptions::MEMORY).expect("it");
+    let hello = as_there::lowering(&chosen, "a:b/host", "hello", abi).expect("a lowering");
+    assert_eq!(as_there::options(hello.0), RequiredOptions::MEMORY);
+}
+
+/// A world that has `future<u8>` in a function, and a module that makes one.
+const FUTURE: &str = r#"{
+    "worlds": [{"name": "app", "package": null, "exports": {}, "imports": {"make": {"function": {"name": "make",
+        "kind": "freestanding", "params": [], "result": 0}}}}],
+    "interfaces": [], "types": [{"name": null, "kind": {"future": "u8"}, "owner": null}], "packages": []
+}"#;
+const MAKES: &[u8] =
+    b"\0asm\x01\0\0\0\x01\x05\x01\x60\0\x01\x7e\x02\x1c\x01\x05$root\x12[future-new-0]make\0\0";
+
+#[test]
+fn payloads_as_there() {
+    let resolved: nuigatre::Resolved = FUTURE.parse().expect("worlds");
+    let encoder = ComponentEncoder::new(&resolved, 0, MAKES);
+    let world = ComponentWorld::new(&encoder).expect("a world");
+    let mut imports = world.info.imports.imports();
+    let payload = imports
+        .next()
+        .and_then(|it| as_there::payload(it.2, &resolved));
+    let Some((Some(ty), false)) = payload else {
+        panic!("no payload: {payload:?}");
+    };
+    let ids = Ids::of(&resolve());
+    assert!(matches!(as_there::ty(ty, &ids), wit_parser::Type::U8));
+    let own = as_there::ty(Type::Id(TypeId(1)), &ids);
+    assert!(matches!(own, wit_parser::Type::Id(id) if id.index() == 1));
+}
+
+/// What the table of the page says is here is compiled here: each word of its code, and of what is the same as there.
+#[test]
+fn the_table_of_the_page() {
+    let (_, table) = PAGE.split_once("## Differences").expect("the table");
+    let is_word = |letter: char| letter.is_alphanumeric() || letter == '_';
+    let compiled = [CODE, AS_THERE, TESTS, EXAMPLE];
+    let mut words = 0;
+    for row in table.lines().filter(|line| line.starts_with("| ")).skip(1) {
+        let cells: Vec<&str> = row.split(" | ").collect();
+        let [there, here, ..] = cells[..] else {
+            panic!("not two cells: {row}");
+        };
+        let said = if here.starts_with("the same") {
+            [there, here]
+        } else {
+            ["", here]
+        };
+        let code = said
+            .iter()
+            .flat_map(|cell| cell.split('`').skip(1).step_by(2));
+        for word in code
+            .flat_map(|code| code.split(|it| !is_word(it)))
+            .filter(|it| !it.is_empty())
+        {
+            let mut all = compiled
+                .iter()
+                .flat_map(|text| text.split(|it| !is_word(it)));
+            assert!(all.any(|it| it == word), "not compiled: {word} of {row}");
+            words += 1;
+        }
+    }
+    assert!(words > 50, "{words} words");
 }
 
 /// The blocks of code of the page are in the code that is compiled here, as they are.

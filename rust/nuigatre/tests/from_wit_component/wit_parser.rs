@@ -73,6 +73,44 @@ pub enum WorldKey {
     Interface(InterfaceId),
 }
 
+#[derive(Debug, PartialEq)]
+pub enum AbiVariant {
+    GuestImport,
+    GuestExport,
+    GuestImportAsync,
+    GuestExportAsync,
+    GuestExportAsyncStackful,
+}
+
+#[derive(Debug, PartialEq)]
+pub enum WasmType {
+    I32,
+    I64,
+    F32,
+    F64,
+    Pointer,
+    PointerOrI64,
+    Length,
+}
+
+pub enum Type {
+    Bool,
+    U8,
+    U16,
+    U32,
+    U64,
+    S8,
+    S16,
+    S32,
+    S64,
+    F32,
+    F64,
+    Char,
+    String,
+    ErrorContext,
+    Id(TypeId),
+}
+
 pub struct Resolve {
     pub worlds: Arena<World>,
     pub interfaces: Arena<Interface>,

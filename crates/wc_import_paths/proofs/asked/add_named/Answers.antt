@@ -1,14 +1,12 @@
-use Rattle.std.proofs.Common.{◌∙◌, ◌||◌, None, Some, ap}
-use Rattle.wc_import_paths.specs.Patterns.{pattern_view}
-use Rattle.wc_import_paths.specs.Private.Asked.{is_same}
-use Rattle.wc_import_paths.proofs.AskedLemmas.{one_added}
-use Rattle.wc_import_paths.specs.declared.patterns.ImportPattern.{ImportPattern}
+use Rattle.std.proofs.Common.{None, Some, option_map, refl}
+use Rattle.wc_why.specs.Paths.{text_of}
+use Rattle.wc_import_paths.specs.declared.asked.PatternKey.{PatternKey}
+use Rattle.wc_import_paths.proofs.AskedLemmas.{named_added}
 use Rattle.wc_import_paths.proofs.asked.add_named.Goals as goal
 
 pub returns : goal.returns
-returns c q =
-    let named : ImportPattern = record { «module» = c.args.module; name = Some c.args.name } in
-    let any : ImportPattern = record { «module» = c.args.module; name = None } in
-    let first = one_added c.args.set.now.keys c.insert.new.self.keys named q (c.in_ok-insert.ensures.updates.0 q) in
-    let second = one_added c.insert.new.self.keys c.insert-2.new.self.keys any q (c.in_ok-insert-2.ensures.updates.0 q) in
-    second ∙ ap (λ b. b || is_same (pattern_view any) (pattern_view q)) first
+returns c =
+    let named : PatternKey = record { text = c.args.text; version = c.args.version; name = Some c.args.name } in
+    let any : PatternKey = record { text = c.args.text; version = c.args.version; name = None } in
+    named_added c.args.set.now.keys c.insert.new.self.keys c.insert-2.new.self.keys (c.args.text.now, option_map text_of c.args.version) c.args.name.now named
+    any refl refl c.in_ok-insert.ensures.updates.0 c.in_ok-insert-2.ensures.updates.0

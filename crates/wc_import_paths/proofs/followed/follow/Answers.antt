@@ -6,7 +6,7 @@ use Rattle.wc_segments.specs.Segments.{segments_value}
 use Rattle.wc_paths.specs.Paths.{AreClosed, ArePaths, IsReachedInAny, graph_in}
 use Rattle.wc_paths.specs.Roots.{roots_of, second_roots}
 use Rattle.wc_why.specs.Paths.{text_of}
-use Rattle.wc_import_paths.proofs.FollowedLemmas.{of_export_step, of_memory, of_paths_step, of_read_step, of_segments_step}
+use Rattle.wc_import_paths.proofs.FollowedLemmas.{of_export_step, of_paths_step, of_read_step, of_segments_step}
 use Rattle.wc_import_paths.proofs.followed.follow.Goals as goal
 
 pub asked_exports-requires : goal.asked_exports-requires
@@ -38,28 +38,24 @@ returns-in_err-paths-clause-refused c =
     (record { spelled = c.in_ok-code.ensures.found; segmented = c.in_ok-segments.ensures.found }) (c.in_ok-exports.ensures.there refl)
     (map export_value c.in_ok-exports.exports.items) c.in_ok-exports.ensures.found c.in_err-paths.field-0.0.fault c.in_err-paths.field-0.0.place refused)
 
-pub returns-in_err-names-clause-refused : goal.returns-in_err-names-clause-refused
-returns-in_err-names-clause-refused c =
-    let p = err_from_is_err_and c.from_residual-in_err-names.result c.from_residual-in_err-names.ensures.1 in
-    rw (p.1, p.2) (of_memory c.args.bytes.now (map text_of c.args.export_names.now) c.in_err-names.field-0.0.fault c.in_err-names.field-0.0.place c.in_err-names.ensures.refused)
-
 pub returns-clause-source : goal.returns-clause-source
 returns-clause-source c =
     let g = graph_in c.in_ok-code.code c.in_ok-segments.segments in
     let second = second_roots (segments_value c.in_ok-segments.segments) in
     let same : map export_value c.in_ok-exports.exports.items ≡ c.in_ok-roots.roots = sym c.in_ok-roots.ensures in
     record {
-      followed = record {
+      followed = λ names. record {
         spells = record { spelled = c.in_ok-code.ensures.found; segmented = c.in_ok-segments.ensures.found };
         asked = c.in_ok-roots.ensures ∙ c.in_ok-exports.ensures.found;
         exported = c.in_ok-exports.ensures.there refl;
         closed = subst (λ es. AreClosed g (IsReachedInAny g (roots_of es c.in_ok-code.code.start) second)) same
             (rw c.deref.ensures.value at (c.in_ok-paths.ensures.closed refl));
       };
-      named = c.in_ok-names.ensures.found;
+      spelled = refl;
       has_paths = record {
         paths = subst (λ es. ArePaths g (roots_of es c.in_ok-code.code.start) second c.in_ok-paths.paths) same
             (rw c.deref.ensures.value at c.in_ok-paths.ensures.paths);
         items = rw c.deref-2.ensures.value at c.in_ok-items.ensures;
+        named = c.in_ok-names.ensures;
       };
     }

@@ -2,7 +2,7 @@ use Rattle.std.proofs.Common.{◌≡◌, ◌∙◌, Option, Some, None, String, 
 use Rattle.std.proofs.lemmas.Result.{IfOk-weaker}
 use Rattle.std.specs.Option.{option_and_then}
 use Rattle.wc_selection.specs.Keys.{named_key, texts_of}
-use Rattle.wc_ways.specs.Keys.{package_text}
+use Rattle.wc_why.specs.Keys.{package_text}
 use Rattle.wcplan_command.specs.Asked.{nearest_package, package_alike}
 use Rattle.wcplan_command.proofs.AskedLemmas.{found_text}
 use Rattle.wcplan_command.proofs.asked.near_package.Goals as goal

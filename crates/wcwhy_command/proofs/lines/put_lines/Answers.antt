@@ -1,5 +1,8 @@
-use Rattle.std.proofs.Common.{◌∙◌, refl}
+use Rattle.std.proofs.Common.{◌≡◌, ◌∙◌, length, refl, rules, sym}
+use Rattle.std.proofs.lemmas.List.{length-map}
+use Rattle.wc_read.specs.Imports.{import_value}
 use Rattle.wcwhy_command.proofs.JoinedLemmas.{none_put, one_put}
+use Rattle.wcwhy_command.proofs.LineLemmas.{all_lines}
 use Rattle.wcwhy_command.proofs.lines.put_lines.Goals as goal
 
 pub loop-position-init : goal.loop-position-init
@@ -10,3 +13,10 @@ loop-position-preserved g c = record {
   put = one_put _ _ _ _ _ c.loop-position.invariant.put c.in_ok-put_import.ensures.done;
   works = c.in_ok-put_import.ensures.works ∙ c.loop-position.invariant.works;
 }
+
+pub returns-clause-done : goal.returns-clause-done
+returns-clause-done g c =
+    let imports = c.args.followed.now.code.imports.items in
+    let all : c.loop-position.position ≡ length imports = search rules in
+    let p = c.loop-position.invariant.put in
+    (p.0, all_lines c.args.followed.now c.args.asked.now c.loop-position.position p.0 (all ∙ sym (length-map imports import_value)) p.1, p.2)
