@@ -6,8 +6,10 @@
 PROGRAM is crates/wcwhy/out/wcwhy unless another is named. The ADAPTERs are those that Rust's `wasm-component-ld` carries, as
 in checks/adapters.py, three in each toolchain of rustup, unless files are named. For each of its exports alone, for all of
 them, and for ten choices of them, every import has to have a chain just where this search finds one, of the same length;
-and the chain has to be one: each item is named by the one before it. A line is printed for each that differs, and at last
-how many agreed; the status is 1 where one differs, or where there is none to compare. It needs wabt.
+and the chain has to be one: each item is named by the one before it. Then it asks by `--import` for the imports of one
+module: an item has to be marked just where none of them is reached without it, and it is none of them. A line is printed for
+each that differs, and at last how many agreed; the status is 1 where one differs, or where there is none to compare. It needs
+wabt.
 
 A function names what its operators do: functions, globals, tables, and the memory 0. Types are left out, since no import is
 reached by one, and initialisers: adapters whose globals are initialised by imports are not judged.
@@ -82,25 +84,31 @@ def references_of(path):
     return found
 
 
-def lengths(references, roots):
-    """How many items the shortest chain to each item has that is reached."""
-    found, waiting = dict.fromkeys(roots, 1), collections.deque(roots)
+def lengths(references, roots, without=None):
+    """How many items the shortest chain to each item has that is reached, without an item."""
+    found = {root: 1 for root in roots if root != without}
+    waiting = collections.deque(found)
     while waiting:
         item = waiting.popleft()
         for other in references[item]:
-            if other not in found:
+            if other not in found and other != without:
                 found[other] = found[item] + 1
                 waiting.append(other)
     return found
 
 
-def chains_of(program, path, names):
-    """Of each line of an import that the program prints the export and the items under it."""
+def lines_of(program, path, names):
+    """The lines that the program prints."""
     ran = subprocess.run([program, path, *names], capture_output=True, text=True, check=False)
     if ran.returncode:
         sys.exit(f"{path} {names}: status {ran.returncode} {ran.stderr}")
+    return ran.stdout.splitlines()
+
+
+def chains_of(lines):
+    """Of each line of an import the export and the items under it."""
     found = []
-    for line in ran.stdout.splitlines():
+    for line in lines:
         words = line.split()
         if not line.startswith("  "):
             found.append([tuple(words)])
@@ -128,6 +136,24 @@ def differing(module, references, names, printed):
     return agreed, wrong + [f"{' '.join(names)[:60]}: {more} is not reached" for more in printed]
 
 
+def differing_marks(module, references, names, asked, lines):
+    """How many lines of items agree, of the paths to the imports of a module, and what is said of those that differ."""
+    exported, agreed, wrong = exports_of(module), 0, []
+    roots = dict.fromkeys(exported[it] for it in names)
+    targets = {item for field, _, item in imports_of(module) if field == asked}
+    for line in lines:
+        words = line.removeprefix("*").split()
+        if not line.startswith(("* ", "  ")) or words[0] == "export":
+            continue
+        item = words[0], int(words[1])
+        is_marked = item not in targets and targets.isdisjoint(lengths(references, roots, item))
+        if line.startswith("* ") == is_marked:
+            agreed += 1
+        else:
+            wrong.append(f"{asked} of {' '.join(names)[:60]}: {line}: {'a' if is_marked else 'no'} mark is wanted")
+    return agreed, wrong
+
+
 def main():
     parser = argparse.ArgumentParser(description=__doc__, formatter_class=argparse.RawDescriptionHelpFormatter)
     parser.add_argument("program", nargs="?", default=TOP / "crates" / "wcwhy" / "out" / "wcwhy", type=os.path.abspath)
@@ -135,18 +161,24 @@ def main():
     given = parser.parse_args()
     need("wasm-objdump wabt")
     modules = [read(it) for it in given.adapters] or [it for linker in linkers() for it in modules_inside(read(linker))]
-    agreed, wrong, asked, chance = 0, [], 0, random.Random(1)
+    agreed, marks, wrong, asked, chance = 0, 0, [], 0, random.Random(1)
     with tempfile.TemporaryDirectory() as folder:
         path = os.path.join(folder, "adapter.wasm")
         for module in modules:
             pathlib.Path(path).write_bytes(module)
             references, names = references_of(path), list(exports_of(module))
             some = [chance.sample(names, chance.randint(2, len(names))) for _ in range(10)]
+            imported = sorted({field for field, _, _ in imports_of(module)})
             for each in [[name] for name in names] + [names] + some:
-                more, differ = differing(module, references, each, chains_of(given.program, path, each))
+                more, differ = differing(module, references, each, chains_of(lines_of(given.program, path, each)))
                 agreed, wrong, asked = agreed + more, wrong + differ, asked + 1
-    print("\n".join([*wrong, f"{len(modules)} adapters, {asked} choices of exports: {agreed} answers agree, {len(wrong)} differ"]))
-    return 1 if wrong or not agreed else 0
+                key = chance.choice(imported)
+                lines = lines_of(given.program, path, [*each, f"--import={key}"])
+                more, differ = differing_marks(module, references, each, key, lines)
+                marks, wrong = marks + more, wrong + differ
+    count = f"{agreed} answers and the marks of {marks} items agree, {len(wrong)} differ"
+    print("\n".join([*wrong, f"{len(modules)} adapters, {asked} choices of exports: {count}"]))
+    return 1 if wrong or not agreed or not marks else 0
 
 
 if __name__ == "__main__":

@@ -88,12 +88,16 @@ export interface Scan {
   function_names: { index: number; name: string }[];
 }
 
-/** A step of a path: where it begins, or an item, which the step before it names; `name` is that of a function that has one. */
+/** A step of a path: where it begins, or an item, which the step before it names; `name` is that of a function that has one.
+ *  Where imports are asked for, an item has `only`: whether each path to any of them goes through it, and it is none of them. */
 export type PathStep =
   | { kind: "export"; adapter: null; name: string }
   | { kind: "start" }
   | { kind: "fills"; space: "table" | "memory"; index: number }
-  | { kind: "item"; space: "type" | "func" | "table" | "memory" | "global" | "elem" | "data"; index: number; name: string | null };
+  | { kind: "item"; space: ItemSpace; index: number; name: string | null; only?: boolean };
+
+/** What an item of a path is. */
+export type ItemSpace = "type" | "func" | "table" | "memory" | "global" | "elem" | "data";
 
 /** The path to an import: the first step is where it begins, the last is the import's item. */
 export interface ImportPath {

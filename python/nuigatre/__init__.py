@@ -205,7 +205,8 @@ def paths(wasm: Bytes, exports: Iterable[str] = (), imports: Iterable[str] = ())
         without, or ``KEY=NAME``; all, if there are none
     :return: the paths, in the order of the imports, without those to which none leads. Each has ``interface``, which is the
         import's module, ``name``, and ``steps``, whose first is where the path begins: its ``kind`` is ``export``, ``start`` or
-        ``fills``. The others are items, with ``space``, ``index`` and the ``name`` of a function, or None.
+        ``fills``. The others are items, with ``space``, ``index`` and the ``name`` of a function, or None. Where imports are
+        asked for, they have ``only``: whether each path to any of these imports goes through the item, and it is none of them.
     """
     given = {"wasm": bytes(wasm), "exports": _names(exports), "imports": _names(imports)}
     found: list[dict[str, Any]] = json.loads(call("paths", given).content)["ways"]

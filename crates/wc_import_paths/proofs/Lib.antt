@@ -5,5 +5,6 @@ pub mod AskedLemmas
 pub mod FollowedLemmas
 pub mod ItemLemmas
 pub mod WayLemmas
+pub mod MarkLemmas
 pub mod JsonLemmas
 pub mod FunctionNameLemmas

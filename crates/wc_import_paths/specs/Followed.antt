@@ -8,7 +8,9 @@ use Rattle.wc_read.specs.Reading.Names.{AreFunctionNames}
 use Rattle.wc_segments.specs.Segments.{segments_value}
 use Rattle.wc_paths.specs.Paths.{ArePaths}
 use Rattle.wc_paths.specs.Roots.{AreImportItems, import_item}
+use Rattle.wc_why.specs.MarkedPaths.{Marking}
 use Rattle.wc_why.specs.Paths.{PathView}
+use Rattle.wc_import_paths.specs.AskedMarks.{AreMarks}
 use Rattle.wc_import_paths.specs.Following.{FollowedView, IsFollowed, first_in, graph_in, second_in}
 use Rattle.wc_import_paths.specs.JsonPaths.{IsJson, IsPathTo, IsUnreached}
 use Rattle.wc_import_paths.specs.FunctionNames.{AreNamesOn}
@@ -50,3 +52,7 @@ IsPathIn f position answer =
 -- the text of the paths in it, as JSON
 abbrev pub IsJsonIn : Followed → List PatternView → List ℕ → Type 0
 IsJsonIn f patterns text = (names : List GlobalNameValue) → AreNamesIn f names → IsJson (followed_view f names) patterns text
+
+-- whatever names the functions have, these are the marks
+abbrev pub AreMarksIn : Followed → List PatternView → Marking → Type 0
+AreMarksIn f patterns marks = (names : List GlobalNameValue) → AreMarks (followed_view f names) patterns marks

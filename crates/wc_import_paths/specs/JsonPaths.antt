@@ -12,8 +12,9 @@ use Rattle.wc_paths.specs.Paths.{IsPathFrom, IsReachedIn}
 use Rattle.wc_paths.specs.Roots.{import_item}
 use Rattle.wc_paths.specs.declared.items.PathItem.{PathItem}
 use Rattle.wc_why.specs.Joined.{AreJoined}
-use Rattle.wc_why.specs.JsonPaths.{paths_json}
+use Rattle.wc_why.specs.MarkedPaths.{Marking, marked_paths_json}
 use Rattle.wc_why.specs.Paths.{PathView, begun, named, path_step}
+use Rattle.wc_import_paths.specs.AskedMarks.{AreMarks}
 use Rattle.wc_import_paths.specs.Following.{FollowedView, IsFollowed, first_in, graph_in, second_in}
 use Rattle.wc_import_paths.specs.Patterns.{PatternView, is_shown}
 
@@ -47,12 +48,14 @@ IsWayOf f patterns position i paths =
 abbrev pub IsWayAt : FollowedView → List PatternView → ℕ → List PathView → Type 0
 IsWayAt f patterns position paths = (i : ImportValue) → slice_get f.code.imports position ≡ Some i → IsWayOf f patterns position i paths
 
--- the text of the paths to all imports, in order, as JSON in a line: it is read back
+-- the text of the paths to all imports, in order, with their marks, as JSON in a line: it is read back
 pub record IsJson (f : FollowedView) (patterns : List PatternView) (text : List ℕ) : Type 0 where
   pub paths : List PathView
   pub are : AreJoined (length f.code.imports) (IsWayAt f patterns) paths
-  pub is : text ≡ print (json_tokens (paths_json paths)) ++ codes "\n"
-  pub back : tokens (print (json_tokens (paths_json paths))) ≡ json_tokens (paths_json paths)
+  pub marks : Marking
+  pub marked : AreMarks f patterns marks
+  pub is : text ≡ print (json_tokens (marked_paths_json marks paths)) ++ codes "\n"
+  pub back : tokens (print (json_tokens (marked_paths_json marks paths))) ≡ json_tokens (marked_paths_json marks paths)
 
 -- the text is that of the paths in the module that these bytes spell, from these exports to these imports
 pub record IsPathsText (bytes : List ℕ) (exports : List (List ℕ)) (patterns : List PatternView) (text : List ℕ) : Type 0 where

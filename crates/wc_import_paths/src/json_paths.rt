@@ -1,14 +1,16 @@
 //! The paths to imports as JSON.
 
 ghost use Rattle.std.specs.Prelude.{◌<◌, length, map, IfErr, IfOk, OnOk};
+ghost use Rattle.wc_why.specs.MarkedPaths.{marking_of};
 ghost use Rattle.wc_why.specs.Paths.{text_of};
 ghost use Rattle.wc_import_paths.specs.Following.{IsRefusal};
 ghost use Rattle.wc_import_paths.specs.JsonPaths.{IsPathsText};
 ghost use Rattle.wc_import_paths.specs.Patterns.{pattern_view};
-ghost use Rattle.wc_import_paths.specs.Followed.{HasPaths, IsJsonIn};
-ghost use Rattle.wc_import_paths.specs.Private.Followed.{IsWrittenAt};
+ghost use Rattle.wc_import_paths.specs.Followed.{AreMarksIn, HasPaths, IsJsonIn};
+ghost use Rattle.wc_import_paths.specs.Private.Followed.{IsPathWritten};
 
 use crate::asked::Asked;
+use crate::asked_marks::marks_for;
 use crate::followed::{Followed, Refusal, follow};
 use crate::import_paths::reached_path;
 use crate::patterns::ImportPattern;
@@ -16,13 +18,15 @@ use json::Writer;
 use std::alloc::{AllocError, Global};
 use wc_gc::GcFault;
 use wc_maps::Seed;
+use wc_paths::Dominators;
 use wc_texts::Refused;
-use wc_why::{PathPrinter, begin_paths, end_paths};
+use wc_why::{begin_paths, end_paths, put_marked_path};
 
 /// The paths to those imports of the module with these bytes that `imports` ask for, or to all, where there are none, as
 /// JSON in a line (`wc_why::begin_paths`). Of each import, in the order of the module, it is the one path to its item
 /// (`wc_paths`): where it begins, and its items, functions with the names that the module gives them. An import to which no
-/// path leads is left out; so is what the module does not import.
+/// path leads is left out; so is what the module does not import. Where imports are asked for, items have marks: whether
+/// each path to any of them goes through the item (`marks_for`).
 ///
 /// Paths begin at its exports of the names `exports`, in their order, or at all, where there are none, in the order of the
 /// module, and then at the start function; only where none of these leads to an import, they begin at an active segment.
@@ -79,8 +83,8 @@ fn asked_text(
     }
 }
 
-/// The paths to the imports that are asked for, in order, as JSON in a line (`wc_why::begin_paths`). An import to which no
-/// path leads is left out.
+/// The paths to the imports that are asked for, in order, as JSON in a line (`wc_why::begin_paths`), with marks where
+/// something is asked for (`wc_why::put_marked_path`). An import to which no path leads is left out.
 ///
 /// # Errors
 ///
@@ -93,30 +97,47 @@ pub fn json_text(
     requires { HasPaths followed.now }
     ensures { IfOk result (λ v. IsJsonIn followed.now asked.now v.items) }
 {
+    let marks = marks_for(alloc, asked, followed)?;
+    marked_text(alloc, asked, followed, &marks)
+}
+
+/// The paths with these marks.
+fn marked_text(
+    alloc: Global,
+    asked: &Asked<'_, '_>,
+    followed: &Followed<'_>,
+    marks: &Option<Dominators>,
+) -> Result<Vec<u8>, AllocError>
+    requires paths { HasPaths followed.now }
+    requires marks { AreMarksIn followed.now asked.now (marking_of marks.now) }
+    ensures { IfOk result (λ v. IsJsonIn followed.now asked.now v.items) }
+{
     let mut out = begin_paths(alloc)?;
     for position in 0..followed.code.imports.len() {
-        write_import(alloc, asked, followed, position, &mut out)?;
+        let import = &followed.code.imports[position];
+        if !asked.is_shown(import) {
+            continue;
+        }
+        write_path(alloc, followed, marks, position, &mut out)?;
     }
     end_paths(out)
 }
 
-/// Writes the path to the import at a position, if it is asked for and a path leads there.
-fn write_import(
+/// Writes the path to the import at a position, if one leads there.
+fn write_path(
     alloc: Global,
-    asked: &Asked<'_, '_>,
     followed: &Followed<'_>,
+    marks: &Option<Dominators>,
     position: usize,
     out: &mut Writer,
 ) -> Result<(), AllocError>
     requires paths { HasPaths followed.now }
     requires there { position < length followed.now.code.imports.items }
-    ensures { OnOk result (IsWrittenAt followed.now asked.now position out.old out.new) }
+    ensures { OnOk result (IsPathWritten followed.now (marking_of marks.now) position out.old
+        out.new) }
 {
-    if !asked.is_shown(&followed.code.imports[position]) {
-        return Ok(());
-    }
     match reached_path(alloc, followed, position)? {
-        Some(path) => out.path(alloc, &path),
+        Some(path) => put_marked_path(out, &path, marks),
         None => Ok(()),
     }
 }

@@ -6,6 +6,7 @@
 #![tactic(auto)]
 
 mod asked;
+mod asked_marks;
 mod followed;
 mod function_names;
 mod import_paths;
@@ -14,6 +15,7 @@ mod patterns;
 mod roots;
 
 pub use asked::Asked;
+pub use asked_marks::marks_for;
 pub use followed::{Followed, Refusal, follow};
 pub use import_paths::reached_path;
 pub use json_paths::{json_text, paths_to_json};

@@ -7,6 +7,11 @@ pub mod NumberingLemmas
 pub mod NumbersLemmas
 pub mod NamesLemmas
 pub mod PathLemmas
+pub mod WayLemmas
+pub mod StopLemmas
+pub mod ChainWayLemmas
+pub mod TargetLemmas
+pub mod DominatorLemmas
 pub mod ImportLemmas
 pub mod ChainMarkLemmas
 pub mod ChainFrontLemmas

@@ -29,7 +29,7 @@ module _ {X : Type 0} (num : X → ℕ) (back : ℕ → X) (P : X → Type 0) (s
   named_back : (x : X) → P x → numbers (num x) ≡ map num (names x)
   named_back x p = ap (λ y. map num (names y)) (same x p)
 
-  number_one : (x y : X) → P x → P y → num x ≡ num y → x ≡ y
+  pub number_one : (x y : X) → P x → P y → num x ≡ num y → x ≡ y
   number_one x y p q e = sym (same x p) ∙ (ap back e ∙ same y q)
 
   -- a path of things is one of their numbers
@@ -53,7 +53,7 @@ module _ {X : Type 0} (num : X → ℕ) (back : ℕ → X) (P : X → Type 0) (s
   none_hold : All P []
   none_hold k d lt = absurd (omega (arith, lt))
 
-  more_hold : (x : X) (xs : List X) → P x → All P xs → All P (x ∷ xs)
+  pub more_hold : (x : X) (xs : List X) → P x → All P xs → All P (x ∷ xs)
   more_hold x xs p all zero d lt = p
   more_hold x xs p all (suc k) d lt = all k d (omega (arith, lt))
 
@@ -103,7 +103,7 @@ module _ {X : Type 0} (num : X → ℕ) (back : ℕ → X) (P : X → Type 0) (s
         | inr r ↦ inr (before_things choices x y all p r)
       ]
 
-  path_holds : (x : X) (path : List X) (y : X) → P x → IsPath names x path y → All P path
+  pub path_holds : (x : X) (path : List X) (y : X) → P x → IsPath names x path y → All P path
   path_holds x [] y p w = none_hold
   path_holds x (z ∷ zs) y p w = let q = kept x z p w.0 in more_hold z zs q (path_holds z zs y q w.1)
 

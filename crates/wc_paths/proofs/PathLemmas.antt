@@ -31,7 +31,7 @@ use Rattle.wc_paths.proofs.NumbersLemmas.{item_back, number_below}
 abbrev pub numbers_parts : CountsValue → List PathItem → List ℕ
 numbers_parts c xs = map (number_of c) (filter (has_item c) xs)
 
-numbers_join : (c : CountsValue) (xs ys : List PathItem) → numbers_parts c (xs ++ ys) ≡ numbers_parts c xs ++ numbers_parts c ys
+pub numbers_join : (c : CountsValue) (xs ys : List PathItem) → numbers_parts c (xs ++ ys) ≡ numbers_parts c xs ++ numbers_parts c ys
 numbers_join c xs ys =
     ap (map (number_of c)) (filter-append (has_item c) xs ys) ∙ map-append (number_of c) (filter (has_item c) xs) (filter (has_item c) ys)
 
@@ -91,10 +91,10 @@ not_closed g (Data n) e = both_ways true e refl
 abbrev pub IsThere : GraphValue → PathItem → Type 0
 IsThere g x = has_item (counts_of g) x ≡ true
 
-named_there : (g : GraphValue) (x y : PathItem) → IsThere g x → Contains (names_in g x) y → IsThere g y
+pub named_there : (g : GraphValue) (x y : PathItem) → IsThere g x → Contains (names_in g x) y → IsThere g y
 named_there g x y p c = All-contains (λ z. has_item (counts_of g) z ≡ true) (names_in g x) y (filter_passes (has_item (counts_of g)) (items_of g x)) c
 
-roots_there : (g : GraphValue) (roots : List PathItem) → All (λ z. has_item (counts_of g) z ≡ true) (present g roots)
+pub roots_there : (g : GraphValue) (roots : List PathItem) → All (λ z. has_item (counts_of g) z ≡ true) (present g roots)
 roots_there g roots = filter_passes (has_item (counts_of g)) roots
 
 path_there : (g : GraphValue) (x : PathItem) (path : List PathItem) (y : PathItem) → IsThere g x → IsPath (names_in g) x path y → IsThere g y

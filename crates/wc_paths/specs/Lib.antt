@@ -11,4 +11,5 @@ pub mod Roots
 pub mod PathRoots
 pub mod Paths
 pub mod OnPaths
+pub mod Dominators
 pub mod Private

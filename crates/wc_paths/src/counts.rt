@@ -9,7 +9,7 @@ ghost use Rattle.wc_paths.specs.Items.{counts_of, has_item};
 ghost use Rattle.wc_paths.specs.Numbers.{item_at, item_count, number_of};
 
 use crate::items::PathItem;
-use std::alloc::AllocError;
+use std::alloc::{AllocError, Global};
 use wc_read::{Module, Space};
 use wc_segments::Segments;
 
@@ -163,4 +163,19 @@ pub fn put_numbers(
         there &= put_number(counts, *item, out)?;
     }
     Ok(there)
+}
+
+/// The numbers of items that are there.
+pub fn numbers_of(
+    alloc: Global,
+    counts: &Counts,
+    items: &[PathItem],
+) -> Result<Vec<usize>, AllocError>
+    requires { item_count (counts_value counts.now) < 2 ^ 64 }
+    ensures { IfOk result (λ v. v.items ≡ map (number_of (counts_value counts.now))
+        (filter (has_item (counts_value counts.now)) items.now)) }
+{
+    let mut numbers = Vec::new(alloc);
+    put_numbers(counts, items, &mut numbers)?;
+    Ok(numbers)
 }

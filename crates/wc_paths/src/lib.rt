@@ -4,6 +4,8 @@
 mod chain_marks;
 mod chains;
 mod counts;
+mod dominators;
+mod fronts;
 mod graph;
 mod items;
 mod names;
@@ -18,6 +20,7 @@ mod tree;
 pub use chain_marks::on_chains;
 pub use chains::Chains;
 pub use counts::{Counts, counts_of, has_item, item_at, item_count, number_of};
+pub use dominators::Dominators;
 pub use graph::ModuleGraph;
 pub use items::PathItem;
 pub use on_paths::OnPaths;

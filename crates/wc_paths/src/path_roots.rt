@@ -77,6 +77,13 @@ impl<'a> PathRoots<'a> {
         })
     }
 
+    /// The exports, in their order.
+    pub fn exports(&self) -> &[Export<'a>]
+        ensures { map export_value result.now ≡ self.now }
+    {
+        self.exports.as_slice()
+    }
+
     /// Where a path begins, of which the first list of roots are the items of these exports, in their order, and then the start
     /// function, and the second list are the active segments (`second_roots`): at the first of these exports that has the path's
     /// first item, or else at the start function; and a path from the second list at what its first item fills.

@@ -42,8 +42,8 @@ impl From<AllocError> for PathFault {
 #[derive(Drop)]
 pub struct Paths {
     pub(crate) counts: Counts,
-    first: Chains,
-    second: Chains,
+    pub(crate) first: Chains,
+    pub(crate) second: Chains,
     ghost fits: { item_count (counts_value counts) < 2 ^ 64 },
     ghost first_sized: { length first.places.items ≡ item_count (counts_value counts) },
     ghost second_sized: { length second.places.items ≡ item_count (counts_value counts) },

@@ -9,7 +9,7 @@ use Rattle.wc_read.specs.declared.types.ValType.{ValType}
 use Rattle.wc_read.specs.declared.types.ValType.TheVariants.{I32, I64, F32, F64, V128, FuncRef, ExternRef, FuncRefNonNull, ExternRefNonNull, TypeRef}
 use Rattle.wc_read.specs.declared.types.FuncType.{FuncType}
 use Rattle.wc_read.specs.declared.types.FuncTypes.{FuncTypes}
-use Rattle.wc_read.specs.declared.types.FuncTypes.TheVariants.{Short, Long}
+use Rattle.wc_read.specs.declared.types.FuncTypes.TheVariants.{Short, Long, Shared}
 use Rattle.wc_read.specs.declared.short_types.ShortTypes.{ShortTypes}
 use Rattle.wc_read.specs.declared.types.GlobalType.{GlobalType}
 
@@ -28,10 +28,18 @@ short_results s = take s.results (drop s.params s.types)
 
 abbrev pub types_value : FuncTypes → FuncTypeValue
 types_value (Short s) = record { params = short_params s; results = short_results s }
-types_value (Long params results) = record { params = params.items; results = results.items }
+types_value (Long types) = record { params = types.params.items; results = types.results.items }
+types_value (Shared types) = record { params = types.value.params.items; results = types.value.results.items }
 
 abbrev pub func_type_value : FuncType → FuncTypeValue
 func_type_value f = types_value f.types
+
+-- the types of a function's parameters, and of its results
+abbrev pub params_of : FuncType → List ValType
+params_of f = (func_type_value f).params
+
+abbrev pub results_of : FuncType → List ValType
+results_of f = (func_type_value f).results
 
 -- references to functions of any type, and to values of the host: with null, or without
 

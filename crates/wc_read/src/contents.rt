@@ -92,7 +92,7 @@ impl<'a> Reader<'a> {
         }
         let params = self.val_types(alloc)?;
         let results = self.val_types(alloc)?;
-        Ok(FuncType::new(params, results))
+        Ok(FuncType::shared(alloc, params, results)?)
     }
 }
 

@@ -14,6 +14,7 @@ use crate::reader::{Reader, Spelled};
 use crate::short_types::ShortTypes;
 use std::alloc::{AllocError, Global};
 use std::fmt::{self, Debug, Formatter};
+use std::rc::Rc;
 
 /// A value type (2.3.1 to 2.3.4, and the proposal of typed function references): a number of 32 or 64 bits, a
 /// vector of 128 bits, or a reference. References to functions are of any type or of one, by its index among the
@@ -118,21 +119,27 @@ pub struct Import<'a> {
     pub ty: ImportType,
 }
 
-/// A function type (2.3.6): a function's parameters and results.
-#[derive(PartialEq, Eq, Drop)]
+/// A function type (2.3.6): a function's parameters and results. Copies of a type that was read share them.
+#[derive(Drop)]
 pub struct FuncType {
     types: FuncTypes,
 }
 
 /// The types of parameters and results. Most are few, which take no memory of their own.
-#[derive(PartialEq, Eq, Drop)]
+#[derive(Drop)]
 enum FuncTypes {
     Short(ShortTypes),
     /// More than `Short` holds.
-    Long {
-        params: Vec<ValType>,
-        results: Vec<ValType>,
-    },
+    Long(LongTypes),
+    /// More than `Short` holds, for a type and its copies.
+    Shared(Rc<LongTypes>),
+}
+
+/// The types of any parameters and results.
+#[derive(Drop)]
+struct LongTypes {
+    params: Vec<ValType>,
+    results: Vec<ValType>,
 }
 
 impl FuncType {
@@ -147,9 +154,28 @@ impl FuncType {
         match ShortTypes::of(&params, &results) {
             Some(types) => FuncType::of_short(types),
             None => FuncType {
-                types: FuncTypes::Long { params, results },
+                types: FuncTypes::Long(LongTypes { params, results }),
             },
         }
+    }
+
+    /// The type of functions with these parameters and results (2.3.6). Copies of it share them.
+    ///
+    /// # Errors
+    ///
+    /// `AllocError`: an allocation failed.
+    pub(crate) fn shared(
+        alloc: Global,
+        params: Vec<ValType>,
+        results: Vec<ValType>,
+    ) -> Result<FuncType, AllocError>
+        ensures params { IfOk result (λ f. (func_type_value f).params ≡ params.items) }
+        ensures results { IfOk result (λ f. (func_type_value f).results ≡ results.items) }
+    {
+        let types = Rc::new(alloc, LongTypes { params, results })?;
+        Ok(FuncType {
+            types: FuncTypes::Shared(types),
+        })
     }
 
     /// The type of functions with few parameters and results.
@@ -167,7 +193,8 @@ impl FuncType {
     {
         match &self.types {
             FuncTypes::Short(types) => types.params(),
-            FuncTypes::Long { params, .. } => params.as_slice(),
+            FuncTypes::Long(types) => types.params.as_slice(),
+            FuncTypes::Shared(types) => types.params.as_slice(),
         }
     }
 
@@ -177,11 +204,12 @@ impl FuncType {
     {
         match &self.types {
             FuncTypes::Short(types) => types.results(),
-            FuncTypes::Long { results, .. } => results.as_slice(),
+            FuncTypes::Long(types) => types.results.as_slice(),
+            FuncTypes::Shared(types) => types.results.as_slice(),
         }
     }
 
-    /// Copies this function type into new memory.
+    /// A copy of this function type.
     ///
     /// # Errors
     ///
@@ -191,15 +219,42 @@ impl FuncType {
     {
         match &self.types {
             FuncTypes::Short(types) => Ok(FuncType::of_short(*types)),
-            FuncTypes::Long { params, results } => {
-                let params = Vec::from_slice(alloc, params)?;
-                let results = Vec::from_slice(alloc, results)?;
-                Ok(FuncType {
-                    types: FuncTypes::Long { params, results },
-                })
+            FuncTypes::Long(types) => {
+                let params = Vec::from_slice(alloc, &types.params)?;
+                let results = Vec::from_slice(alloc, &types.results)?;
+                FuncType::shared(alloc, params, results)
             }
+            FuncTypes::Shared(types) => Ok(FuncType {
+                types: FuncTypes::Shared(types.clone()?),
+            }),
         }
     }
+}
+
+impl PartialEq for FuncType {
+    ghost use Rattle.std.specs.Cmp.{and_per, on_per};
+    ghost use Rattle.std.specs.Ordering.{eq_of_both, on};
+    ghost use Rattle.std.specs.Cmp.Lexicographic.{lists_per, pointwise};
+    ghost use Rattle.wc_read.specs.Types.{params_of, results_of};
+    ghost use Rattle.wc_read.specs.contracts.types.ValTypePartialEq.TheImpl.{eq-value as val_eq};
+    ghost use Rattle.wc_read.specs.contracts.types.ValTypePartialEq.TheImpl.Laws.{laws-law};
+
+    ghost eq = { eq_of_both (on params_of (pointwise val_eq.it)) (on results_of (pointwise val_eq.it)) };
+
+    ghost laws = { and_per (on_per params_of (lists_per laws-law)) (on_per results_of (lists_per laws-law)) };
+
+    fn eq(&self, other: &FuncType) -> bool {
+        self.params() == other.params() && self.results() == other.results()
+    }
+}
+
+impl Eq for FuncType {
+    ghost use Rattle.std.specs.Cmp.{and_equiv, on_equiv};
+    ghost use Rattle.std.specs.Cmp.Lexicographic.{lists_equiv};
+    ghost use Rattle.wc_read.specs.Types.{params_of, results_of};
+    ghost use Rattle.wc_read.specs.contracts.types.ValTypeEq.TheImpl.Laws.{laws-law};
+
+    ghost laws = { and_equiv (on_equiv params_of (lists_equiv laws-law)) (on_equiv results_of (lists_equiv laws-law)) };
 }
 
 impl Debug for FuncType {

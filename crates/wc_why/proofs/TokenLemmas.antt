@@ -87,14 +87,21 @@ pub kept_of : {E : Type 0} (a b : Written) (xs : List Token) (r : Result (Unit {
 kept_of a b xs (Ok u) p = p.before
 kept_of a b xs (Err e) p = tt
 
--- the tokens of the object of a list of paths
+-- the tokens of the object of a list, each of which is written as JSON
+module _ {V : Type 0} (json : V → Json) where
+  of_map : (vs : List V) → flat_map (λ v. json_tokens (json v)) vs ≡ flat_map json_tokens (map json vs)
+  of_map [] = refl
+  of_map (v ∷ vs) = ap (λ z. json_tokens (json v) ++ z) (of_map vs)
+
+  pub ways_tokens : (vs : List V) → ended_tokens (begun_tokens ++ flat_map (λ v. json_tokens (json v)) vs)
+      ≡ json_tokens (object_of ((codes "ways", array_of (map json vs)) ∷ []))
+  unfolding object_of
+  ways_tokens vs =
+      ap (λ z. begin_object ∷ key (codes "ways") ∷ z)
+      (ap (λ z. begin_array ∷ z) (ap (λ z. z ++ end_array ∷ end_object ∷ []) (of_map vs)
+      ∙ sym (append_assoc (flat_map json_tokens (map json vs)) (end_array ∷ []) (end_object ∷ [])))
+      ∙ ap (λ z. z ++ end_object ∷ []) (sym (array_are (map json vs))))
+
+-- of paths
 pub paths_tokens : (paths : List PathView) → ended_tokens (begun_tokens ++ flat_map (λ p. json_tokens (path_json p)) paths) ≡ json_tokens (paths_json paths)
-unfolding object_of
-paths_tokens paths =
-    ap (λ z. begin_object ∷ key (codes "ways") ∷ z)
-    (ap (λ z. begin_array ∷ z) (ap (λ z. z ++ end_array ∷ end_object ∷ []) (of_map paths)
-    ∙ sym (append_assoc (flat_map json_tokens (map path_json paths)) (end_array ∷ []) (end_object ∷ [])))
-    ∙ ap (λ z. z ++ end_object ∷ []) (sym (array_are (map path_json paths)))) where
-      of_map : (ps : List PathView) → flat_map (λ p. json_tokens (path_json p)) ps ≡ flat_map json_tokens (map path_json ps)
-      of_map [] = refl
-      of_map (p ∷ ps) = ap (λ z. json_tokens (path_json p) ++ z) (of_map ps)
+paths_tokens paths = ways_tokens path_json paths

@@ -3,6 +3,7 @@ pub mod Texts
 pub mod Paths
 pub mod Lines
 pub mod JsonPaths
+pub mod MarkedPaths
 pub mod Joined
 pub mod Marks
 pub mod Graph

@@ -143,7 +143,7 @@ fn put_steps(out: &mut Writer, steps: &[Step<'_>]) -> Result<(), AllocError>
 }
 
 /// Writes a step.
-fn put_step(out: &mut Writer, step: Step<'_>) -> Result<(), AllocError>
+pub(crate) fn put_step(out: &mut Writer, step: Step<'_>) -> Result<(), AllocError>
     ensures { OnOk result (Puts out.old out.new (json_tokens (step_json (step_view step.entry)))) }
 {
     match step {
@@ -272,7 +272,7 @@ fn put_item(
 }
 
 /// Writes a member that is a text, or null for none.
-fn put_text_or_null(out: &mut Writer, name: &str, text: Option<&str>) -> Result<(), AllocError>
+pub fn put_text_or_null(out: &mut Writer, name: &str, text: Option<&str>) -> Result<(), AllocError>
     ensures { OnOk result (Puts out.old out.new
         (key name.now ∷ json_tokens (text_or_null (option_map text_of text.entry)))) }
 {
@@ -283,7 +283,7 @@ fn put_text_or_null(out: &mut Writer, name: &str, text: Option<&str>) -> Result<
 }
 
 /// Writes a member that is a text.
-fn put_text(out: &mut Writer, name: &str, text: &str) -> Result<(), AllocError>
+pub fn put_text(out: &mut Writer, name: &str, text: &str) -> Result<(), AllocError>
     ensures { OnOk result (Puts out.old out.new (key name.now ∷ string text.now ∷ [])) }
 {
     out.key(name)?;
@@ -291,7 +291,7 @@ fn put_text(out: &mut Writer, name: &str, text: &str) -> Result<(), AllocError>
 }
 
 /// Writes a member that is a number.
-fn put_number(out: &mut Writer, name: &str, number: usize) -> Result<(), AllocError>
+pub fn put_number(out: &mut Writer, name: &str, number: usize) -> Result<(), AllocError>
     ensures { OnOk result (Puts out.old out.new
         (key name.now ∷ json_tokens (number_json number))) }
 {
@@ -300,7 +300,7 @@ fn put_number(out: &mut Writer, name: &str, number: usize) -> Result<(), AllocEr
 }
 
 /// Writes a member that is null.
-fn put_null(out: &mut Writer, name: &str) -> Result<(), AllocError>
+pub fn put_null(out: &mut Writer, name: &str) -> Result<(), AllocError>
     ensures { OnOk result (Puts out.old out.new (key name.now ∷ null ∷ [])) }
 {
     out.key(name)?;
@@ -308,14 +308,14 @@ fn put_null(out: &mut Writer, name: &str) -> Result<(), AllocError>
 }
 
 /// Writes `{`: the writer's call, with a contract in this crate's words.
-fn begin_object(out: &mut Writer) -> Result<(), AllocError>
+pub fn begin_object(out: &mut Writer) -> Result<(), AllocError>
     ensures { OnOk result (Puts out.old out.new (begin_object ∷ [])) }
 {
     out.begin_object()
 }
 
 /// Writes `}`: the writer's call, with a contract in this crate's words.
-fn end_object(out: &mut Writer) -> Result<(), AllocError>
+pub fn end_object(out: &mut Writer) -> Result<(), AllocError>
     ensures { OnOk result (Puts out.old out.new (end_object ∷ [])) }
 {
     out.end_object()

@@ -12,6 +12,7 @@ mod graph;
 mod json_paths;
 mod keys;
 mod lines;
+mod marked_paths;
 mod marks;
 mod paths;
 mod texts;
@@ -19,12 +20,16 @@ mod texts;
 pub use graph::{
     NodeNames, Tree, arrow_text, export_id, item_id, item_nodes, target_box, target_node,
 };
-pub use json_paths::{begin_paths, end_paths};
+pub use json_paths::{
+    begin_object, begin_paths, end_object, end_paths, put_null, put_number, put_text,
+    put_text_or_null,
+};
 pub use keys::{asks_about, package_of, package_text, unversioned, version_of};
 pub use lines::{
     importer_text, item_text, main_root_text, push_path, root_text, segment_text, target_text,
     unfollowed_text,
 };
+pub use marked_paths::{push_marked_path, put_marked_path};
 pub use marks::marks_of;
 pub use paths::{
     Path, PathPrinter, SegmentKind, Step, Target, Unfollowed, push_items, push_path_items,

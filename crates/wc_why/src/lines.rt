@@ -108,7 +108,7 @@ fn push_steps(alloc: Global, steps: &[Step<'_>], text: &mut String) -> Result<()
 }
 
 /// The line of a step.
-fn step_line(alloc: Global, step: Step<'_>) -> Result<String, AllocError>
+pub(crate) fn step_line(alloc: Global, step: Step<'_>) -> Result<String, AllocError>
     ensures { IfOk result (λ s. string_bytes s ≡ step_line (step_view step.entry)) }
 {
     match step {

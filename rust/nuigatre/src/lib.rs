@@ -111,7 +111,7 @@ pub use imports::{Import, ImportInstance, ImportMap, PayloadInfo, PayloadType};
 pub use module_import_map::{ModuleImportMap, Rename};
 pub use ordered_map::{Iter, Keys, Lookup, OrderedMap};
 pub use ordered_set::OrderedSet;
-pub use paths::{ImportPath, PathItem, PathRoot, paths};
+pub use paths::{ImportPath, PathItem, PathItemKind, PathRoot, paths};
 pub use place::{Place, Subject, TypeDifference};
 pub use plan::{Plan, Use, UsedImport};
 pub use refused::Refused;

@@ -34,9 +34,26 @@ impl Display for PathRoot {
     }
 }
 
-/// An item on a path. Its text is as `func 3 write_all`, `elem 0` or `data 0`.
+/// An item on a path. Its text is that of its kind.
 #[derive(Clone, Debug, PartialEq, Eq, Hash)]
-pub enum PathItem {
+#[non_exhaustive]
+pub struct PathItem {
+    /// The item or segment.
+    pub kind: PathItemKind,
+    /// Where imports are asked for, whether it is marked: each path to any of them goes through it, and it is none of them
+    /// itself. So without it no path is left to any of them. `None` where no imports are asked for.
+    pub only: Option<bool>,
+}
+
+impl Display for PathItem {
+    fn fmt(&self, f: &mut Formatter<'_>) -> fmt::Result {
+        self.kind.fmt(f)
+    }
+}
+
+/// A kind of item on a path: of an index space, or a segment. Its text is as `func 3 write_all`, `elem 0` or `data 0`.
+#[derive(Clone, Debug, PartialEq, Eq, Hash)]
+pub enum PathItemKind {
     /// An item of an index space.
     Item {
         /// The item.
@@ -50,16 +67,16 @@ pub enum PathItem {
     Data(u32),
 }
 
-impl Display for PathItem {
+impl Display for PathItemKind {
     fn fmt(&self, f: &mut Formatter<'_>) -> fmt::Result {
         match self {
-            PathItem::Item { item, name: None } => write!(f, "{item}"),
-            PathItem::Item {
+            PathItemKind::Item { item, name: None } => write!(f, "{item}"),
+            PathItemKind::Item {
                 item,
                 name: Some(name),
             } => write!(f, "{item} {name}"),
-            PathItem::Elements(index) => write!(f, "elem {index}"),
-            PathItem::Data(index) => write!(f, "data {index}"),
+            PathItemKind::Elements(index) => write!(f, "elem {index}"),
+            PathItemKind::Data(index) => write!(f, "data {index}"),
         }
     }
 }
@@ -103,6 +120,8 @@ const MORE: usize = 1 << 16;
 /// assert_eq!(items, ["func 2", "func 1 inner", "func 0"]);
 /// # Ok::<(), nuigatre::Error>(())
 /// ```
+///
+/// Where texts ask for imports, items are [marked](PathItem::only).
 ///
 /// # Errors
 ///
@@ -193,13 +212,45 @@ fn filled(value: &Value<'_>) -> Result<PathRoot, Unread> {
 
 impl Read for PathItem {
     fn read(value: &Value<'_>) -> Result<Self, Unread> {
+        Ok(PathItem {
+            kind: PathItemKind::read(value)?,
+            only: value.find("only").map(bool::read).transpose()?,
+        })
+    }
+}
+
+impl Read for PathItemKind {
+    fn read(value: &Value<'_>) -> Result<Self, Unread> {
         Ok(match value.get("space")?.as_str()? {
-            "elem" => PathItem::Elements(member(value, "index")?),
-            "data" => PathItem::Data(member(value, "index")?),
-            _ => PathItem::Item {
+            "elem" => PathItemKind::Elements(member(value, "index")?),
+            "data" => PathItemKind::Data(member(value, "index")?),
+            _ => PathItemKind::Item {
                 item: ItemIndex::read(value)?,
                 name: optional_member(value, "name")?,
             },
         })
+    }
+}
+
+#[cfg(test)]
+mod tests {
+    use super::read_paths;
+    use crate::read::Unread;
+
+    /// A text of paths, with this member after the others of an item.
+    fn with(member: &str) -> String {
+        let item = r#"{"kind":"item","space":"func","index":1,"name":null"#;
+        let steps = format!(r#"[{{"kind":"start"}},{item}{member}}}]"#);
+        format!(r#"{{"ways":[{{"interface":"env","name":"f","steps":{steps}}}]}}"#)
+    }
+
+    /// Items with a mark, and without one.
+    #[test]
+    fn marks_of_items() {
+        let only = |member| Ok(read_paths(with(member).as_bytes())?[0].items[0].only);
+        assert_eq!(only(r#","only":true"#), Ok(Some(true)));
+        assert_eq!(only(r#","only":false"#), Ok(Some(false)));
+        assert_eq!(only(""), Ok(None));
+        assert_eq!(only(r#","only":null"#), Err(Unread::Unknown));
     }
 }

@@ -147,6 +147,19 @@ fn paths_to_imports() {
     assert_eq!(error.place().expect("a byte").to_string(), "byte 12");
 }
 
+/// Items are marked where imports are asked for.
+#[test]
+fn marks_on_paths() {
+    let marks = |wasm, imports: &[&str]| {
+        let paths = paths(wasm, &[], imports).expect("paths");
+        paths[0].items.iter().map(|it| it.only).collect::<Vec<_>>()
+    };
+    let before = [Some(true), Some(true), Some(false)];
+    assert_eq!(marks(IMPORTS, &["env"]), before);
+    assert_eq!(marks(TABLE, &["a:b/c"]), before);
+    assert_eq!(marks(IMPORTS, &[]), [None; 3]);
+}
+
 /// Names of any collection of texts.
 #[test]
 fn collections_of_names() {

@@ -1,7 +1,7 @@
 -- Why a module can't be followed, step by step, and what is written of one that is followed.
 use Rattle.std.specs.Prelude.{◌≡◌, ⊤, ℕ, List, [], ◌∷◌, ◌++◌, MatchOption, Option, Some, None, string_bytes}
 use Rattle.std.specs.List.{flat_map}
-use Rattle.std.specs.Option.{option_map}
+use Rattle.std.specs.Option.{option_map, option_to_list}
 use Rattle.json.specs.Tree.{json_tokens}
 use Rattle.json.specs.Written.{Written}
 use Rattle.wc_read.specs.Exports.{ExportValue}
@@ -28,9 +28,9 @@ use Rattle.wc_paths.specs.declared.items.PathItem.{PathItem}
 use Rattle.wc_paths.specs.declared.on_paths.OnPaths.{OnPaths}
 use Rattle.wc_paths.specs.declared.paths.Path.{Path}
 use Rattle.wc_paths.specs.declared.paths.PathFault.TheVariants.{LiveBody as live_body}
-use Rattle.wc_why.specs.JsonPaths.{path_json}
+use Rattle.wc_why.specs.MarkedPaths.{Marking, marked_json}
 use Rattle.wc_why.specs.Paths.{PathView}
-use Rattle.wc_import_paths.specs.Followed.{AreNamesIn, followed_view}
+use Rattle.wc_import_paths.specs.Followed.{AreNamesIn, IsPathIn, followed_view}
 use Rattle.wc_import_paths.specs.FunctionNames.{AreNamesOn}
 use Rattle.wc_import_paths.specs.Following.{body_place, section_id}
 use Rattle.wc_import_paths.specs.JsonPaths.{IsWayAt, import_path}
@@ -67,10 +67,16 @@ IsPathsRefusal g first second LiveBody place = (n : ℕ) × IsPathFault g first 
 IsPathsRefusal g first second f place = ⊥
 
 -- the paths to the import at a position were written
-abbrev pub IsWrittenAt : Followed → List PatternView → ℕ → Written → Written → Type 0
-IsWrittenAt f patterns position old new =
+abbrev pub IsWrittenAt : Followed → Marking → List PatternView → ℕ → Written → Written → Type 0
+IsWrittenAt f marks patterns position old new =
     (paths : List PathView) × ((names : List GlobalNameValue) → AreNamesIn f names → IsWayAt (followed_view f names) patterns position paths)
-    × (new.before ≡ old.before) × (new.tokens ≡ old.tokens ++ flat_map (λ p. json_tokens (path_json p)) paths)
+    × (new.before ≡ old.before) × (new.tokens ≡ old.tokens ++ flat_map (λ p. json_tokens (marked_json marks p)) paths)
+
+-- the path to the import at a position, where one leads there, was written
+abbrev pub IsPathWritten : Followed → Marking → ℕ → Written → Written → Type 0
+IsPathWritten f marks position old new =
+    (path : Option PathView) × IsPathIn f position path
+    × (new.before ≡ old.before) × (new.tokens ≡ old.tokens ++ flat_map (λ p. json_tokens (marked_json marks p)) (option_to_list path))
 
 -- the path by which a path in the module is shown
 abbrev pub IsShownPath : Followed → ImportValue → Path → PathView → Type 0

@@ -1,6 +1,7 @@
 use Rattle.std.proofs.Common.{◌∙◌, ap, subst, sym}
 use Rattle.std.specs.Option.{option_map}
 use Rattle.wc_read.specs.Imports.{import_value}
+use Rattle.wc_why.specs.MarkedPaths.{marking_of}
 use Rattle.wc_why.specs.Paths.{path_view}
 use Rattle.wc_import_paths.specs.Followed.{IsPathIn}
 use Rattle.wc_import_paths.proofs.ItemLemmas.{followed_import}
@@ -12,7 +13,7 @@ returns-in-Some c =
     let f = c.args.followed.now in
     let i = c.index-import.result.now in
     reached_lines f c.args.position (import_value i) (followed_import f c.args.position i c.requires.there c.index-import.ensures) c.args.asked.now c.path_text.result
-    (path_view c.in-Some.path) (sym c.is_shown.ensures ∙ c.if-not-is_shown.false)
+    (path_view c.in-Some.path) (marking_of c.args.marks.now) c.requires.marks (sym c.is_shown.ensures ∙ c.if-not-is_shown.false)
     (subst (IsPathIn f c.args.position) (ap (option_map path_view) c.in-Some.is) c.in_ok-path.ensures) c.path_text.ensures
 
 pub returns-in-None : goal.returns-in-None
