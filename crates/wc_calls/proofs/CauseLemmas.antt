@@ -23,7 +23,6 @@ use Rattle.wc_resolve.specs.WellFormed.{IsWellFormed}
 use Rattle.wc_resolve.specs.Kinds.{ResolveView}
 use Rattle.wc_resolve.specs.Fault.{IsResolveCause}
 use Rattle.wc_resolve.specs.Explain.{IsPlace}
-use Rattle.wc_resolve.specs.Refusals.{IsRefusal, Refusal}
 use Rattle.wc_resolve.specs.declared.explain.Part.{Part}
 use Rattle.wc_resolve.specs.declared.fault.ResolveFault.{ResolveFault}
 use Rattle.wc_resolve.specs.declared.fault.ResolveFault.TheVariants.{Memory as resolve_memory}
@@ -35,12 +34,12 @@ use Rattle.wc_selection.specs.Requests.{given_keys}
 use Rattle.wc_selection.specs.TaskHook.{no_task_hook}
 use Rattle.wc_selection.specs.Worlds.{IsWorldCause}
 use Rattle.wc_selection.specs.declared.fault.RequestFault.{RequestFault}
-use Rattle.wc_selection.specs.declared.fault.RequestFault.TheVariants.{Memory as request_memory, PackageRange, UnknownWorld, SeveralWorlds}
+use Rattle.wc_selection.specs.declared.fault.RequestFault.TheVariants.{PackageRange, UnknownWorld, SeveralWorlds}
 use Rattle.wc_calls.specs.AskedKeys.{keys_in, request_of}
 use Rattle.wc_calls.specs.Encoders.{AreChosen, AreExporters, IsMessage, IsPartsOf, IsWorldNamed}
 use Rattle.wc_calls.specs.MessageFault.{AreKeysKnown, IsAskedCause, IsKeyCause, IsNameCause, IsNoEncoderCause, IsOfChosen, IsPartsCause, IsWorldNameCause, of_dedupe, of_encoder, of_json, of_resolve}
 use Rattle.wc_calls.specs.Private.AskedKeys.{IsExportersCause}
-use Rattle.wc_calls.specs.Private.Refusals.{AreNoParts, IsMainRefused, IsNamePlaced, IsNameRefusal, IsNoEncoder, IsPartsRefused, IsPlaced, IsPlacedIn, IsTextRefused, IsUnselected, IsWithoutPlace, IsWorldNameRefusal, IsWorldRequest, RefusedMessage}
+use Rattle.wc_calls.specs.Private.Refusals.{AreNoParts, IsMainRefused, IsModulesRefusal, IsNamePlaced, IsNameRefusal, IsNoEncoder, IsPartsRefused, IsPlaced, IsPlacedIn, IsTextRefused, IsUnselected, IsWithoutPlace, IsWorldNameRefusal, IsWorldRequest, RefusedMessage}
 use Rattle.wc_calls.specs.declared.message_fault.MessageFault.{MessageFault}
 use Rattle.wc_calls.specs.declared.message_fault.MessageFault.TheVariants.{Memory, NotText, Json, UnknownWorld as unknown_world, Lengths, Resolve, AdapterTwice, Dedupe, World, SeveralWorlds as several_worlds, PackageRange as package_range, UnknownKey, SeveralKeys, RepeatedKey, Plan}
 use Rattle.wc_calls.specs.declared.refusals.MessagePlace.{MessagePlace}
@@ -200,6 +199,11 @@ module _ (m : MessageView) (modules main others : List ℕ) (world : ℕ) (chose
   main_refused required adapters x made (own, cause, there, (fault, at)) =
       refused_for m modules x (of_dedupe own.fault) (option_map place.Bytes own.place) fault at (main_cause required adapters own.fault made cause)
       (main_placed own.fault own.place there)
+
+  pub modules_refused : (x : RefusedMessage) → IsModulesRefusal r world m.exports m.adapters main others x → AreNoParts m modules x
+  modules_refused x (inl memory) = memory_refused m modules x memory
+  modules_refused x (inr (inl (f, cause, is))) = exporters_refused f x cause is
+  modules_refused x (inr (inr (keys, adapters, made, refused))) = main_refused keys adapters x made refused
 
   encoder_cause : (e : EncoderView) (f : EncoderFault) → IsPartsOf m modules e → IsEncoderCause e f → IsPartsCause m modules (of_encoder f)
   encoder_cause e encoder_memory made h = tt

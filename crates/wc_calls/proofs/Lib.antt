@@ -8,6 +8,7 @@ mod TrimmingLemmas
 mod AskedKeyLemmas
 mod FaultAnswerLemmas
 mod FaultTextLemmas
+mod HeapLemmas
 mod ModuleLemmas
 mod ModulePathLemmas
 mod OptionTableLemmas

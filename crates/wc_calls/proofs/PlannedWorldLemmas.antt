@@ -1,32 +1,24 @@
 -- What the call that makes a component's world and its plan answers.
-use Rattle.std.proofs.Common.{◌≡◌, ◌++◌, ◌⊎◌, ℕ, List, Option, Result, Ok, Err, IfOk, IfErr, length, ap, refl, subst}
+use Rattle.std.proofs.Common.{◌≡◌, ◌++◌, ℕ, List, Option, Result, Ok, Err, IfOk, IfErr, length, ap, refl, subst}
 use Rattle.wc_encoder.specs.EncoderParts.{EncoderView}
-use Rattle.std.specs.Option.{option_map}
 use Rattle.wc_plan.specs.Fault.{HasNoFault}
 use Rattle.wc_plan.specs.Plans.{plan_of}
 use Rattle.wc_record.specs.Texts.{planned_world_text}
 use Rattle.wc_uses.specs.Views.{UseView}
-use Rattle.wc_world.specs.Causes.{IsComponentWorldCause, IsMemory}
 use Rattle.wc_world.specs.Options.{OptionsOf}
-use Rattle.wc_world.specs.Refused.{IsPlaceOrNone}
 use Rattle.wc_world.specs.Views.{ComponentWorldView}
 use Rattle.wc_world.specs.World.{IsWorldOf}
-use Rattle.wc_world.specs.declared.fault.WorldFault.{WorldFault}
-use Rattle.wc_world.specs.declared.fault.WorldFault.TheVariants.{Memory as world_memory}
-use Rattle.wc_world.specs.declared.places.WorldPlace.{WorldPlace}
 use Rattle.wc_calls.specs.ComponentWorlds.{modules_text}
 use Rattle.wc_calls.specs.Encoders.{AreOptionsOf, IsEncoderOf}
-use Rattle.wc_calls.specs.MessageFault.{of_world}
 use Rattle.wc_calls.specs.PlannedWorlds.{IsPlannedText, IsPlannedWorldAnswer}
-use Rattle.wc_calls.specs.Private.EncoderAnswers.{IsPlanFaultFor}
+use Rattle.wc_calls.specs.Private.EncoderAnswers.{IsFaultFor, IsPlanFaultFor}
 use Rattle.wc_calls.specs.Private.PlannedAnswers.{IsPlanFaultOf, IsPlanPlacedOf, IsPlanRefusalOf, IsPlannedFor}
-use Rattle.wc_calls.specs.Private.Refusals.{IsPlanPlacedFor, IsWithoutPlace, RefusedMessage}
+use Rattle.wc_calls.specs.Private.Refusals.{IsPlacedFor, IsPlanPlacedFor, IsWithoutPlace, RefusedMessage}
 use Rattle.wc_calls.specs.declared.component_worlds.WorldAnswer.{WorldAnswer}
 use Rattle.wc_calls.specs.declared.message_fault.MessageFault.{MessageFault}
-use Rattle.wc_calls.specs.declared.message_fault.MessageFault.TheVariants.{Memory, Plan}
+use Rattle.wc_calls.specs.declared.message_fault.MessageFault.TheVariants.{Memory, Plan, World}
 use Rattle.wc_calls.specs.declared.refusals.MessagePlace.{MessagePlace}
-use Rattle.wc_calls.specs.declared.refusals.MessagePlace.TheVariants as place
-use Rattle.wc_calls.proofs.RefusalLemmas.{memory_as, world_at}
+use Rattle.wc_calls.proofs.RefusalLemmas.{memory_as}
 
 -- what is answered for a world with this plan
 
@@ -75,9 +67,10 @@ pub memory_of_plan : {A : Type 0} (w : ComponentWorldView) (r : Result A Refused
 memory_of_plan w r is = memory_as (λ f p. IsPlanFaultOf w f × IsPlanPlacedOf w f p) r (tt, refl) is
 
 -- and where there is none
-pub no_world_for : (options : OptionsOf) (e : EncoderView) (f : WorldFault) → IsMemory e f ⊎ IsComponentWorldCause e f → IsPlanFaultFor options e (of_world f)
-no_world_for options e world_memory h = tt
-no_world_for options e f h = ((λ same. cc), h)
+pub world_fault_of_plan : (options : OptionsOf) (e : EncoderView) (f : MessageFault) → IsFaultFor e f → IsPlanFaultFor options e f
+world_fault_of_plan options e Memory h = tt
+world_fault_of_plan options e (World f) h = h
+world_fault_of_plan options e f h = absurd h
 
 -- the same for a message
 pub planned_to : (message modules : List ℕ) (options : OptionsOf) (e : EncoderView) (module_length : ℕ) → IsEncoderOf message modules e
@@ -87,7 +80,7 @@ planned_to message modules options e module_length encodes given text is =
     record { encoder = e; encodes = encodes; options = options; given = given; world = is.world; made = is.made; is = is.is }
 
 -- a fault of the world is about the same where a plan is wanted
-pub no_world_placed : (options : OptionsOf) (e : EncoderView) (f : WorldFault) (p : Option WorldPlace) → IsPlaceOrNone e f p
-    → IsPlanPlacedFor options e (of_world f) (option_map place.World p)
-no_world_placed options e world_memory p h = world_at e world_memory p h
-no_world_placed options e f p h = world_at e f p h
+pub world_place_of_plan : (options : OptionsOf) (e : EncoderView) (f : MessageFault) (p : Option MessagePlace) → IsFaultFor e f → IsPlacedFor e f p
+    → IsPlanPlacedFor options e f p
+world_place_of_plan options e (Plan f) p h at = absurd h
+world_place_of_plan options e f p h at = at

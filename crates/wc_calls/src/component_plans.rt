@@ -15,9 +15,10 @@ ghost use Rattle.wc_calls.specs.Private.PlannedAnswers.{IsPlanRefusalOf};
 ghost use Rattle.wc_calls.specs.Private.Refusals.{IsPlanPlacedFor};
 
 use crate::answers::{Answer, put};
+use crate::component_worlds::made_world;
 use crate::encoders::{WorldInput, world_input};
 use crate::explained::answer_refused;
-use crate::refusals::{RefusedMessage, plan_refusal, world_refusal};
+use crate::refusals::{RefusedMessage, plan_refusal};
 use std::alloc::Global;
 use wc_maps::Seed;
 use wc_plan::laws::worlds_nameable;
@@ -48,9 +49,9 @@ fn answer_of_input(alloc: Global, input: &WorldInput) -> Result<Vec<u8>, Refused
         input.now.encoder x.fault x.place) }
 {
     worlds_nameable(&input.encoder);
-    match ComponentWorld::new_explained(alloc, &input.encoder, &input.options) {
+    match made_world(alloc, input) {
         Ok(world) => answer_of_world(alloc, &world),
-        Err(refused) => Err(world_refusal(refused)),
+        Err(refused) => Err(refused),
     }
 }
 
@@ -73,7 +74,7 @@ fn plan_for(alloc: Global, input: &WorldInput, out: &mut [u8]) -> Answer
 {
     match answer_of_input(alloc, input) {
         Ok(answer) => put(&[], &answer, out),
-        Err(refused) => answer_refused(alloc, &refused, out),
+        Err(refused) => answer_refused(alloc, refused, out),
     }
 }
 
@@ -105,6 +106,6 @@ pub fn plan(alloc: Global, seed: Seed, message: &[u8], modules: &[u8], out: &mut
 {
     match world_input(alloc, seed, message, modules) {
         Ok(input) => plan_for(alloc, &input, out),
-        Err(refused) => answer_refused(alloc, &refused, out),
+        Err(refused) => answer_refused(alloc, refused, out),
     }
 }

@@ -1,6 +1,7 @@
 //! The call that makes a component's world.
 
 ghost use Rattle.std.specs.Prelude.{◌≡◌, ◌≢◌, ◌++◌, ◌≤◌, IfErr, IfOk, length};
+ghost use Rattle.wc_world.specs.World.{IsWorldOf};
 ghost use Rattle.wc_world.specs.WorldViews.{world_view};
 ghost use Rattle.wc_calls.specs.Answers.{AreOthersOfTextZero, IsPut, IsTextStatus, IsTooLong, bad_argument, done, failed, same, too_small};
 ghost use Rattle.wc_record.specs.Texts.{world_text};
@@ -14,6 +15,7 @@ ghost use Rattle.wc_calls.specs.declared.message_fault.MessageFault.TheVariants.
 use crate::answers::{Answer, put};
 use crate::encoders::{WorldInput, world_input};
 use crate::explained::answer_refused;
+use crate::heap::heaped;
 use crate::refusals::{RefusedMessage, world_refusal};
 use std::alloc::{AllocError, Global};
 use wc_maps::Seed;
@@ -38,6 +40,22 @@ pub(crate) fn modules_of(alloc: Global, world: &ComponentWorld<'_>) -> Result<Ve
     Ok(modules)
 }
 
+/// The component's world of an encoder and options, on the heap.
+pub(crate) fn made_world<'a>(
+    alloc: Global,
+    input: &'a WorldInput,
+) -> Result<Box<ComponentWorld<'a>>, RefusedMessage>
+    ensures world { IfOk result (λ w. IsWorldOf (table_options input.now.options)
+        input.now.encoder (world_view w.value)) }
+    ensures fault { IfErr result (λ x. IsFaultFor input.now.encoder x.fault) }
+    ensures place { IfErr result (λ x. IsPlacedFor input.now.encoder x.fault x.place) }
+{
+    match ComponentWorld::new_explained(alloc, &input.encoder, &input.options) {
+        Ok(world) => heaped(alloc, world),
+        Err(refused) => Err(world_refusal(refused)),
+    }
+}
+
 /// The answer for an encoder and options.
 fn answer_of_input(alloc: Global, input: &WorldInput) -> Result<WorldAnswer, RefusedMessage>
     ensures answer { IfOk result (λ a. IsAnswerFor (table_options input.now.options)
@@ -45,9 +63,9 @@ fn answer_of_input(alloc: Global, input: &WorldInput) -> Result<WorldAnswer, Ref
     ensures fault { IfErr result (λ x. IsFaultFor input.now.encoder x.fault) }
     ensures place { IfErr result (λ x. IsPlacedFor input.now.encoder x.fault x.place) }
 {
-    match ComponentWorld::new_explained(alloc, &input.encoder, &input.options) {
+    match made_world(alloc, input) {
         Ok(world) => answer_of_world(alloc, &world),
-        Err(refused) => Err(world_refusal(refused)),
+        Err(refused) => Err(refused),
     }
 }
 
@@ -78,7 +96,7 @@ fn world_for(alloc: Global, input: &WorldInput, out: &mut [u8]) -> Answer
 {
     match answer_of_input(alloc, input) {
         Ok(answer) => put(&answer.modules, &answer.json, out),
-        Err(refused) => answer_refused(alloc, &refused, out),
+        Err(refused) => answer_refused(alloc, refused, out),
     }
 }
 
@@ -137,6 +155,6 @@ pub fn world(alloc: Global, seed: Seed, message: &[u8], modules: &[u8], out: &mu
 {
     match world_input(alloc, seed, message, modules) {
         Ok(input) => world_for(alloc, &input, out),
-        Err(refused) => answer_refused(alloc, &refused, out),
+        Err(refused) => answer_refused(alloc, refused, out),
     }
 }

@@ -18,9 +18,10 @@ ghost use Rattle.wc_calls.specs.MessageFault.{IsAdaptersCause};
 ghost use Rattle.wc_calls.specs.Places.{world_names};
 ghost use Rattle.wc_calls.specs.Private.AskedKeys.{IsExportersCause};
 ghost use Rattle.wc_calls.specs.Private.OptionTables.{table_options};
-ghost use Rattle.wc_calls.specs.Private.Refusals.{AreNoParts, AreWorldsAt, IsMainRefused, IsNameRefusal, IsNoEncoder, IsPartsRefused, IsTextRefused, IsUnselected, IsWorldNameRefusal};
+ghost use Rattle.wc_calls.specs.Private.Refusals.{AreNoParts, AreWorldsAt, IsMainRefused, IsModulesRefusal, IsNameRefusal, IsNoEncoder, IsPartsRefused, IsTextRefused, IsUnselected, IsWorldNameRefusal};
 
 use crate::asked_keys::{AskedWorld, adapter_keys, asked_of};
+use crate::heap::heaped;
 use crate::import_options::OptionTable;
 use crate::message_fault::MessageFault;
 use crate::refusals::{
@@ -289,6 +290,54 @@ struct ModuleBytes<'a> {
     others: &'a [u8],
 }
 
+/// The adapters and the task hook that a message gives.
+#[derive(Drop)]
+struct GivenModules {
+    adapters: Vec<AdapterMessage>,
+    hook: Option<String>,
+}
+
+/// The parts of an encoder that are made of modules: those that export keys, the main module, and the name of its task hook.
+#[derive(Drop)]
+struct ModuleParts {
+    exporters: Exporters,
+    main: MainModule,
+    hook: String,
+}
+
+/// The parts of an encoder that are made of modules.
+fn module_parts(
+    alloc: Global,
+    seed: Seed,
+    world: AskedWorld<'_>,
+    given: GivenModules,
+    bytes: ModuleBytes<'_>,
+) -> Result<ModuleParts, RefusedMessage>
+    ensures exporters { IfOk result (λ p. AreExporters world.entry.resolve.now
+        world.entry.world.0 (exports_view world.entry.exports.now)
+        (map adapter_message_view given.adapters.items) bytes.entry.others.now
+        (map key_view p.exporters.main.keys) (map adapter_entry p.exporters.adapters.entries)) }
+    ensures main { IfOk result (λ p. IsDeduped bytes.entry.main.now p.main.wasm.items
+        (renames_in p.main.import_map)) }
+    ensures hook { IfOk result (λ p. string_bytes p.hook
+        ≡ unwrap_or (option_map string_bytes given.hook) no_task_hook) }
+    ensures fault { IfErr result (IsModulesRefusal world.entry.resolve.now world.entry.world.0
+        (exports_view world.entry.exports.now) (map adapter_message_view given.adapters.items)
+        bytes.entry.main.now bytes.entry.others.now) }
+{
+    let GivenModules { adapters, hook } = given;
+    let hook = hook_name(alloc, hook)?;
+    let exporters = exporters_of(alloc, seed, world, adapters, bytes.others)?;
+    match main_module(alloc, bytes.main) {
+        Ok(main) => Ok(ModuleParts {
+            exporters,
+            main,
+            hook,
+        }),
+        Err(refused) => Err(refused),
+    }
+}
+
 /// The encoder of a message, for the world at an index, with the bytes of its modules.
 fn encoder_for(
     alloc: Global,
@@ -322,20 +371,22 @@ fn encoder_for(
         world,
         exports: &exports,
     };
-    let exporters = exporters_of(alloc, seed, asked, adapters, bytes.others)?;
-    let main = main_module(alloc, bytes.main)?;
+    let given = GivenModules {
+        adapters,
+        hook: task_hook,
+    };
+    let made = module_parts(alloc, seed, asked, given, bytes)?;
     let rejects = reject_legacy_names.unwrap_or(false);
     let grows = realloc_via_memory_grow.unwrap_or(false);
-    let hook = hook_name(alloc, task_hook)?;
     let parts = EncoderParts {
-        module: main.wasm,
-        module_import_map: main.import_map,
+        module: made.main.wasm,
+        module_import_map: made.main.import_map,
         metadata: Metadata { resolve, world },
-        main_module_exports: exporters.main,
-        adapters: exporters.adapters,
+        main_module_exports: made.exporters.main,
+        adapters: made.exporters.adapters,
         reject_legacy_names: rejects,
         realloc_via_memory_grow: grows,
-        task_hook: hook,
+        task_hook: made.hook,
     };
     match ComponentEncoder::build(alloc, parts) {
         Ok(encoder) => Ok(encoder),
@@ -381,7 +432,7 @@ pub(crate) struct WorldInput {
 
 /// The encoder of the text of a message, with the bytes of its modules, and the options of lowered functions. `seed`: the
 /// seed of the maps that are made.
-pub(crate) fn world_input(
+fn input_of(
     alloc: Global,
     seed: Seed,
     message: &[u8],
@@ -398,4 +449,22 @@ pub(crate) fn world_input(
     let options = OptionTable::listed(alloc, seed, &message.options)?;
     let encoder = encoder_with(alloc, seed, message, modules)?;
     Ok(WorldInput { encoder, options })
+}
+
+/// The encoder and the options of a message (`input_of`), on the heap.
+pub(crate) fn world_input(
+    alloc: Global,
+    seed: Seed,
+    message: &[u8],
+    modules: &[u8],
+) -> Result<Box<WorldInput>, RefusedMessage>
+    ensures encoder { IfOk result (λ i. IsEncoderOf message.now modules.now i.value.encoder) }
+    ensures options { IfOk result (λ i. AreOptionsOf message.now
+        (table_options i.value.options)) }
+    ensures fault { IfErr result (IsNoEncoder message.now modules.now) }
+{
+    match input_of(alloc, seed, message, modules) {
+        Ok(input) => heaped(alloc, input),
+        Err(refused) => Err(refused),
+    }
 }

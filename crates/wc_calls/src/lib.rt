@@ -37,6 +37,7 @@ mod explained;
 mod export_names;
 mod fault_answers;
 mod fault_texts;
+mod heap;
 mod import_chains;
 mod import_options;
 mod memory_faults;

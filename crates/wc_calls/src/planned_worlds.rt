@@ -16,10 +16,10 @@ ghost use Rattle.wc_calls.specs.Private.Refusals.{IsPlanPlacedFor, IsWithoutPlac
 ghost use Rattle.wc_calls.specs.declared.message_fault.MessageFault.TheVariants.{Memory};
 
 use crate::answers::{Answer, put};
-use crate::component_worlds::{WorldAnswer, modules_of};
+use crate::component_worlds::{WorldAnswer, made_world, modules_of};
 use crate::encoders::{WorldInput, world_input};
 use crate::explained::answer_refused;
-use crate::refusals::{RefusedMessage, plan_refusal, world_refusal};
+use crate::refusals::{RefusedMessage, plan_refusal};
 use std::alloc::Global;
 use wc_maps::Seed;
 use wc_plan::laws::worlds_nameable;
@@ -67,9 +67,9 @@ fn answer_of_input(alloc: Global, input: &WorldInput) -> Result<WorldAnswer, Ref
         input.now.encoder x.fault x.place) }
 {
     worlds_nameable(&input.encoder);
-    match ComponentWorld::new_explained(alloc, &input.encoder, &input.options) {
+    match made_world(alloc, input) {
         Ok(world) => answer_of_world(alloc, &world),
-        Err(refused) => Err(world_refusal(refused)),
+        Err(refused) => Err(refused),
     }
 }
 
@@ -90,7 +90,7 @@ fn planned_world_for(alloc: Global, input: &WorldInput, out: &mut [u8]) -> Answe
 {
     match answer_of_input(alloc, input) {
         Ok(answer) => put(&answer.modules, &answer.json, out),
-        Err(refused) => answer_refused(alloc, &refused, out),
+        Err(refused) => answer_refused(alloc, refused, out),
     }
 }
 
@@ -126,6 +126,6 @@ pub fn planned_world(
 {
     match world_input(alloc, seed, message, modules) {
         Ok(input) => planned_world_for(alloc, &input, out),
-        Err(refused) => answer_refused(alloc, &refused, out),
+        Err(refused) => answer_refused(alloc, refused, out),
     }
 }

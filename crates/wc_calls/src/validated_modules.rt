@@ -66,7 +66,7 @@ fn answer_main(alloc: Global, encoder: &ComponentEncoder, out: &mut [u8]) -> Ans
 {
     match main_text(alloc, encoder) {
         Ok(text) => put(&[], &text, out),
-        Err(refused) => answer_refused(alloc, &refused, out),
+        Err(refused) => answer_refused(alloc, refused, out),
     }
 }
 
@@ -96,7 +96,7 @@ fn answer_input(alloc: Global, input: AdapterInput<'_>, out: &mut [u8]) -> Answe
 {
     match input_text(alloc, input) {
         Ok(json) => put(&[], &json, out),
-        Err(refused) => answer_refused(alloc, &refused, out),
+        Err(refused) => answer_refused(alloc, refused, out),
     }
 }
 
@@ -319,6 +319,6 @@ pub fn validated_module(
 {
     match world_input(alloc, seed, message, modules) {
         Ok(input) => answer_for(alloc, &input.encoder, adapter, required, out),
-        Err(refused) => answer_refused(alloc, &refused, out),
+        Err(refused) => answer_refused(alloc, refused, out),
     }
 }

@@ -18,6 +18,7 @@ ghost use Rattle.wc_calls.specs.Validation.{IsModuleValid, IsNoModule, IsNoModul
 use crate::answers::{Answer, BAD_ARGUMENT, DONE, MEMORY, answer_without_bytes};
 use crate::encoders::world_input;
 use crate::explained::answer_refused;
+use crate::heap::heaped;
 use crate::refusals::{RefusedMessage, world_refusal};
 use std::alloc::Global;
 use std::str;
@@ -44,7 +45,7 @@ struct ValidMain<'a> {
 }
 
 /// Validates the main module, and returns its record.
-pub(crate) fn main_record(
+fn main_validated(
     alloc: Global,
     encoder: &ComponentEncoder,
 ) -> Result<ValidatedModule, RefusedMessage>
@@ -60,8 +61,23 @@ pub(crate) fn main_record(
     }
 }
 
+/// Validates the main module, and returns its record on the heap.
+pub(crate) fn main_record(
+    alloc: Global,
+    encoder: &ComponentEncoder,
+) -> Result<Box<ValidatedModule>, RefusedMessage>
+    ensures recorded { IfOk result (λ v. IsMainRecord encoder.now (module_record v.value)) }
+    ensures fault { IfErr result (λ x. IsMainCause encoder.now x.fault) }
+    ensures place { IfErr result (λ x. IsPlacedFor encoder.now x.fault x.place) }
+{
+    match main_validated(alloc, encoder) {
+        Ok(module) => heaped(alloc, module),
+        Err(refused) => Err(refused),
+    }
+}
+
 /// Validates an adapter or a library, and returns its record.
-pub(crate) fn input_record(
+fn input_validated(
     alloc: Global,
     input: AdapterInput<'_>,
 ) -> Result<ValidatedModule, RefusedMessage>
@@ -82,6 +98,20 @@ pub(crate) fn input_record(
     }
 }
 
+/// Validates an adapter or a library, and returns its record on the heap.
+pub(crate) fn input_record(
+    alloc: Global,
+    input: AdapterInput<'_>,
+) -> Result<Box<ValidatedModule>, RefusedMessage>
+    ensures recorded { IfOk result (λ v. IsInputRecord input.entry (module_record v.value)) }
+    ensures fault { IfErr result (IsInputRefusal input.entry) }
+{
+    match input_validated(alloc, input) {
+        Ok(module) => heaped(alloc, module),
+        Err(refused) => Err(refused),
+    }
+}
+
 /// Answers whether an adapter or a library is valid.
 fn validate_input(alloc: Global, input: AdapterInput<'_>, out: &mut [u8]) -> Answer
     ensures done { result.status ≡ done → IsInputValid input.entry }
@@ -93,7 +123,7 @@ fn validate_input(alloc: Global, input: AdapterInput<'_>, out: &mut [u8]) -> Ans
 {
     match input_record(alloc, input) {
         Ok(_record) => answer_without_bytes(DONE),
-        Err(refused) => answer_refused(alloc, &refused, out),
+        Err(refused) => answer_refused(alloc, refused, out),
     }
 }
 
@@ -236,10 +266,10 @@ fn validate_for(
 {
     match main_record(alloc, encoder) {
         Ok(module) => {
-            let validated = &module;
+            let validated: &ValidatedModule = &module;
             validate_other(alloc, ValidMain { encoder, validated }, adapter, out)
         }
-        Err(refused) => answer_refused(alloc, &refused, out),
+        Err(refused) => answer_refused(alloc, refused, out),
     }
 }
 
@@ -279,6 +309,6 @@ pub fn validate(
 {
     match world_input(alloc, seed, message, modules) {
         Ok(input) => validate_for(alloc, &input.encoder, adapter, out),
-        Err(refused) => answer_refused(alloc, &refused, out),
+        Err(refused) => answer_refused(alloc, refused, out),
     }
 }

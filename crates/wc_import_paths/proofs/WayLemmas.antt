@@ -5,6 +5,7 @@ use Rattle.std.specs.List.{slice_get}
 use Rattle.wc_read.specs.Imports.{ImportValue}
 use Rattle.wc_read.specs.Modules.{module_value}
 use Rattle.wc_read.specs.Names.{GlobalNameValue}
+use Rattle.wc_paths.specs.Callers.{calling_of}
 use Rattle.wc_paths.specs.Paths.{IsAnswer, IsPathAnswer}
 use Rattle.wc_paths.specs.Roots.{import_item}
 use Rattle.wc_paths.specs.declared.items.PathItem.{PathItem}
@@ -28,7 +29,7 @@ module _ (f : Followed) (position : ℕ) (j : ImportValue) (at : slice_get (modu
     path_is p shown is (root, begins, same) names named i e =
         let leads = subst (IsAnswer (graph_in (followed_view f names)) (first_in (followed_view f names)) (second_in (followed_view f names)) x) is (found_here names) in
         let here : IsPathTo (followed_view f names) j x shown =
-        record { is_second = p.is_second; items = p.items.items; leads = leads; root = root; begins = begins; is = same names named } in
+        record { is_second = p.is_second; items = p.items.items; leads = leads; root = root; begins = begins; calling = calling_of f.callers; calls = h.calling; is = same names named } in
         subst (λ k. IsPathTo (followed_view f names) k (import_item (module_value f.code).imports position k) shown) (same_Some j i (sym at ∙ e))
         (subst (λ y. IsPathTo (followed_view f names) j y shown) item here)
 

@@ -6,6 +6,7 @@ use Rattle.wc_read.specs.Modules.{module_value}
 use Rattle.wc_read.specs.Names.{GlobalNameValue, name_entries}
 use Rattle.wc_read.specs.Reading.Names.{AreFunctionNames}
 use Rattle.wc_segments.specs.Segments.{segments_value}
+use Rattle.wc_paths.specs.Callers.{IsCalling, calling_of}
 use Rattle.wc_paths.specs.Paths.{ArePaths}
 use Rattle.wc_paths.specs.Roots.{AreImportItems, import_item}
 use Rattle.wc_why.specs.MarkedPaths.{Marking}
@@ -30,11 +31,13 @@ followed_view f names = record {
 abbrev pub AreNamesIn : Followed → List GlobalNameValue → Type 0
 AreNamesIn f names = AreFunctionNames f.bytes.now names
 
--- the paths in it, the items of its imports, and the names of the functions on the paths that are shown
+-- the paths in it, the functions that may call through tables, the items of its imports, and the names of the functions on
+-- the paths that are shown, and of those that may call
 pub record HasPaths (f : Followed) : Type 0 where
   pub paths : ArePaths (graph_in (followed_view f [])) (first_in (followed_view f [])) (second_in (followed_view f [])) f.paths
+  pub calling : IsCalling (graph_in (followed_view f [])) (first_in (followed_view f [])) (second_in (followed_view f [])) (calling_of f.callers)
   pub items : AreImportItems (module_value f.code).imports f.items.items
-  pub named : AreNamesOn f.bytes.now f.shown (name_entries f.names)
+  pub named : AreNamesOn f.bytes.now f.shown f.callers (name_entries f.names)
 
 -- it is the module with these bytes, followed from its exports of these names
 pub record IsSource (bytes : List ℕ) (exports : List (List ℕ)) (f : Followed) : Type 0 where

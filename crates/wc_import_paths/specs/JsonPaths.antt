@@ -1,5 +1,5 @@
 -- The paths to the imports of a module, as JSON.
-use Rattle.std.specs.Prelude.{◌≡◌, ◌⊎◌, ℕ, Bool, true, false, List, [], ◌∷◌, ◌++◌, length, map, codes, Some}
+use Rattle.std.specs.Prelude.{◌≡◌, ◌⊎◌, ℕ, Bool, true, false, List, [], ◌∷◌, ◌++◌, length, codes, Some}
 use Rattle.std.specs.List.{slice_get}
 use Rattle.json.specs.Lex.{tokens}
 use Rattle.json.specs.Print.{print}
@@ -7,20 +7,22 @@ use Rattle.json.specs.Tree.{json_tokens}
 use Rattle.wc_read.specs.Imports.{ImportValue}
 use Rattle.wc_read.specs.Names.{GlobalNameValue}
 use Rattle.wc_read.specs.Reading.Names.{AreFunctionNames}
+use Rattle.wc_paths.specs.Callers.{Calling, IsCalling}
 use Rattle.wc_paths.specs.PathRoots.{IsPathRoot, RootView}
 use Rattle.wc_paths.specs.Paths.{IsPathFrom, IsReachedIn}
 use Rattle.wc_paths.specs.Roots.{import_item}
 use Rattle.wc_paths.specs.declared.items.PathItem.{PathItem}
 use Rattle.wc_why.specs.Joined.{AreJoined}
 use Rattle.wc_why.specs.MarkedPaths.{Marking, marked_paths_json}
-use Rattle.wc_why.specs.Paths.{PathView, begun, named, path_step}
+use Rattle.wc_why.specs.Paths.{PathView, begun, named, path_steps}
 use Rattle.wc_import_paths.specs.AskedMarks.{AreMarks}
 use Rattle.wc_import_paths.specs.Following.{FollowedView, IsFollowed, first_in, graph_in, second_in}
 use Rattle.wc_import_paths.specs.Patterns.{PatternView, is_shown}
 
--- the path to an import: where it begins, and its items
-abbrev pub import_path : List GlobalNameValue → ImportValue → RootView → List PathItem → PathView
-import_path names i root items = record { interface = i.module_name; target = named i.name; steps = begun false root ∷ map (path_step names) items }
+-- the path to an import: where it begins, and its items, with those that may call what they put in tables
+abbrev pub import_path : List GlobalNameValue → Calling → ImportValue → RootView → List PathItem → PathView
+import_path names calling i root items =
+    record { interface = i.module_name; target = named i.name; steps = begun false root ∷ path_steps names calling items }
 
 -- the one path to an import, whose item this is
 pub record IsPathTo (f : FollowedView) (i : ImportValue) (x : PathItem) (p : PathView) : Type 0 where
@@ -29,7 +31,9 @@ pub record IsPathTo (f : FollowedView) (i : ImportValue) (x : PathItem) (p : Pat
   pub leads : IsPathFrom (graph_in f) (first_in f) (second_in f) x is_second items
   pub root : RootView
   pub begins : IsPathRoot f.exports f.segments is_second items root
-  pub is : p ≡ import_path f.names i root items
+  pub calling : Calling
+  pub calls : IsCalling (graph_in f) (first_in f) (second_in f) calling
+  pub is : p ≡ import_path f.names calling i root items
 
 -- no path leads to an item from either list of roots
 abbrev pub IsUnreached : FollowedView → PathItem → Type 0

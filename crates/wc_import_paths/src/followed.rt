@@ -22,7 +22,7 @@ use std::alloc::{AllocError, Global};
 use wc_gc::{GcFault, TrimPlace};
 use wc_maps::{OrderedMap, Seed};
 use wc_paths::{
-    OnPaths, PathFault, PathItem, PathRoots, Paths, import_items, roots_of, second_roots,
+    Callers, OnPaths, PathFault, PathItem, PathRoots, Paths, import_items, roots_of, second_roots,
 };
 use wc_read::codes::{DATA_COUNT_ID, DATA_ID, ELEMENT_ID};
 use wc_read::{Export, Module, ReadFault, ReadPlace, read_module_explained};
@@ -42,11 +42,13 @@ pub struct Followed<'r> {
     pub roots: PathRoots<'r>,
     /// The paths from these, the start function and the active segments.
     pub paths: Paths,
+    /// The functions that may call through tables.
+    pub callers: Callers,
     /// For each import its item.
     pub items: Vec<PathItem>,
     /// The items on the paths to the imports that are asked for.
     pub shown: OnPaths,
-    /// The names of the functions among these.
+    /// The names of the functions among these, and of those that may call through tables.
     pub names: OrderedMap<u32, &'r str>,
 }
 
@@ -85,15 +87,17 @@ pub fn follow<'r>(
     let exports = asked_exports(alloc, asked.seed(), export_names, &code)?;
     let paths = paths_from(alloc, &code, &segments, &exports)?;
     let roots = PathRoots::new(alloc, &paths, exports)?;
+    let callers = Callers::find(alloc, asked.seed(), &code, &segments, &paths)?;
     let items = import_items(alloc, &code.imports)?;
     let shown = shown_on(alloc, asked, &code.imports, &items, &paths)?;
-    let names = names_on(alloc, bytes, &shown)?;
+    let names = names_on(alloc, bytes, &shown, &callers)?;
     Ok(Followed {
         bytes,
         code,
         segments,
         roots,
         paths,
+        callers,
         items,
         shown,
         names,

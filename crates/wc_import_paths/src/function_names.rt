@@ -11,7 +11,7 @@ ghost use Rattle.wc_import_paths.specs.Private.FunctionNames.{asked_item, asked_
 use crate::asked::Asked;
 use std::alloc::{AllocError, Global};
 use wc_maps::OrderedMap;
-use wc_paths::{OnPaths, PathItem, Paths};
+use wc_paths::{Callers, OnPaths, PathItem, Paths};
 use wc_read::{Import, function_names_at};
 
 /// The items on the paths to the imports that are asked for. `items` has for each import its item.
@@ -65,15 +65,19 @@ fn asked_item(
     }
 }
 
-/// The names of the functions among some items of the module with these bytes.
+/// The names of the functions among some items of the module with these bytes, and of those that may call through
+/// tables.
 pub(crate) fn names_on<'r>(
     alloc: Global,
     bytes: &'r [u8],
     shown: &OnPaths,
+    callers: &Callers,
 ) -> Result<OrderedMap<u32, &'r str>, AllocError>
-    ensures { IfOk result (λ m. AreNamesOn bytes.now shown.now (name_entries m)) }
+    ensures { IfOk result (λ m. AreNamesOn bytes.now shown.now callers.now (name_entries m)) }
 {
-    let wanted = shown.functions(alloc)?;
+    let mut wanted = shown.functions(alloc)?;
+    let calling = callers.functions(alloc)?;
+    wanted.extend_from_slice(&calling)?;
     match function_names_at(alloc, bytes, &wanted) {
         Ok(names) => Ok(names),
         // The bytes are those of a module: there is no fault but that memory runs out.

@@ -4,6 +4,7 @@ ghost use Rattle.std.specs.Prelude.{◌≡◌, ◌<◌, length, IfOk, Some};
 ghost use Rattle.std.specs.Option.{option_map};
 ghost use Rattle.wc_read.specs.Imports.{import_value};
 ghost use Rattle.wc_read.specs.Names.{name_entries};
+ghost use Rattle.wc_paths.specs.Callers.{calling_of};
 ghost use Rattle.wc_paths.specs.PathRoots.{root_view};
 ghost use Rattle.wc_paths.specs.Paths.{IsPathAnswer};
 ghost use Rattle.wc_why.specs.Paths.{path_view};
@@ -15,12 +16,12 @@ use crate::followed::Followed;
 use crate::function_names::{has_all, names_on};
 use std::alloc::{AllocError, Global};
 use wc_maps::OrderedMap;
-use wc_paths::{Path as ModulePath, PathItem, PathRoot};
+use wc_paths::{Callers, Path as ModulePath, PathItem, PathRoot};
 use wc_read::Import;
 use wc_why::{Path, Step, Target, push_path_items};
 
-/// The path to the import at a position: where it begins, and its items, functions with their names; `None` where none leads
-/// there. It takes time and memory for this path alone if the import is one of those for which the module was followed, and
+/// The path to the import at a position: where it begins, and its items, functions with their names; after an active element
+/// segment those that may call the function that follows; `None` where none leads there. It takes time and memory for this path alone if the import is one of those for which the module was followed, and
 /// else linear in the module, since the names on its path have to be found.
 ///
 /// # Errors
@@ -61,14 +62,21 @@ fn shown_path<'r>(
 {
     let root = followed.roots.root(&followed.segments, path);
     if has_all(&followed.shown, &path.items) {
-        import_path(alloc, &followed.names, import, root, &path.items)
+        import_path(
+            alloc,
+            &followed.names,
+            &followed.callers,
+            import,
+            root,
+            &path.items,
+        )
     } else {
         let names = names_to(alloc, followed, item)?;
-        import_path(alloc, &names, import, root, &path.items)
+        import_path(alloc, &names, &followed.callers, import, root, &path.items)
     }
 }
 
-/// The names of the functions on the path to an item.
+/// The names of the functions on the path to an item, and of those that may call through tables.
 fn names_to<'r>(
     alloc: Global,
     followed: &Followed<'r>,
@@ -77,26 +85,27 @@ fn names_to<'r>(
     ensures { IfOk result (λ m. AreNamesTo followed.now item (name_entries m)) }
 {
     let shown = followed.paths.on_paths(alloc, &[item])?;
-    names_on(alloc, followed.bytes, &shown)
+    names_on(alloc, followed.bytes, &shown, &followed.callers)
 }
 
-/// The path to an import: where it begins, and its items.
+/// The path to an import: where it begins, and its items, with those that may call what they put in tables.
 fn import_path<'r>(
     alloc: Global,
     names: &OrderedMap<u32, &'r str>,
+    callers: &Callers,
     import: &Import<'r>,
     root: PathRoot<'r>,
     items: &[PathItem],
 ) -> Result<Path<'r>, AllocError>
     ensures { IfOk result (λ p. path_view p ≡ import_path (name_entries names.now)
-        (import_value import.now) (root_view root.entry) items.now) }
+        (calling_of callers.now) (import_value import.now) (root_view root.entry) items.now) }
 {
     let mut steps = Vec::new(alloc);
     steps.push(Step::Begin {
         of_main: false,
         root,
     })?;
-    push_path_items(names, items, &mut steps)?;
+    push_path_items(names, callers, items, &mut steps)?;
     Ok(Path {
         interface: import.module,
         target: Target::Name(import.name),

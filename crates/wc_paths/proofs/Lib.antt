@@ -17,3 +17,6 @@ pub mod ChainMarkLemmas
 pub mod ChainFrontLemmas
 pub mod OnChainLemmas
 pub mod OnPathLemmas
+pub mod CallListLemmas
+pub mod EqualTypeLemmas
+pub mod CallerLemmas

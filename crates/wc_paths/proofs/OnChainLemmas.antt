@@ -13,7 +13,8 @@ use Rattle.wc_gc.proofs.OneChainLemmas.{one_chain}
 use Rattle.wc_paths.specs.ChainMarks.{AreOnChains, IsOnChain, here, is_set}
 use Rattle.wc_paths.specs.OnChains.{IsOnChainTo}
 use Rattle.wc_paths.specs.Tree.{ArePlaces}
-use Rattle.wc_paths.specs.Private.Places.{is_missing, is_missing_at, mark_by, place_at, place_by}
+use Rattle.wc_paths.specs.Callers.{entry_by}
+use Rattle.wc_paths.specs.Private.Places.{is_missing, is_missing_at, mark_by, place_at}
 use Rattle.wc_paths.proofs.ChainFrontLemmas.{IsThingOn, chain_on, chain_to, on_front}
 
 -- lists without `None`
@@ -85,7 +86,7 @@ ends_at order finder k x chain e (at_root n y is root) = (zero, omega arith, sam
 ends_at order finder k x chain e (at_named n j y front is by differ rest) =
     subst (Contains (front ++ y ∷ [])) (same_Some y x (sym is ∙ e)) (Contains-push front y)
 
-pub at_place : (o : Option (Option ℕ)) (k : ℕ) → place_by o ≡ Some k → o ≡ Some (Some k)
+pub at_place : (o : Option (Option ℕ)) (k : ℕ) → entry_by o ≡ Some k → o ≡ Some (Some k)
 at_place None k e = absurd cc
 at_place (Some place) k e = ap Some e
 
@@ -113,7 +114,7 @@ module _ (names : ℕ → List ℕ) (roots order finder : List ℕ) (reached : (
     where
       by : (place : Option ℕ) → slice_get places x ≡ Some place → (k : ℕ) × (place_at places x ≡ Some k)
       by None e = absurd (placed.at x None e c)
-      by (Some k) e = (k, ap place_by e)
+      by (Some k) e = (k, ap entry_by e)
 
   -- an item that has none is not reached
   pub missing_unreached : (x : ℕ) → x < size → is_missing_at places x ≡ true → ¬ (IsReachedFrom names roots x)
@@ -189,4 +190,4 @@ module _ (names : ℕ → List ℕ) (roots order finder : List ℕ) (reached : (
             from : (o : Option (Option ℕ)) → slice_get places x ≡ o → option_map (mark_by marks) o ≡ Some true → IsOnChainTo names roots items x
             from None e h = absurd cc
             from (Some None) e h = absurd (let both : Some false ≡ Some true = h in cc)
-            from (Some (Some k)) e h = on_chain x k (ap place_by e) (same_Some (is_set marks k) true h)
+            from (Some (Some k)) e h = on_chain x k (ap entry_by e) (same_Some (is_set marks k) true h)

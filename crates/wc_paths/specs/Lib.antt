@@ -10,6 +10,8 @@ pub mod Graph
 pub mod Roots
 pub mod PathRoots
 pub mod Paths
+pub mod CallLists
+pub mod Callers
 pub mod OnPaths
 pub mod Dominators
 pub mod Private

@@ -8,3 +8,6 @@ pub mod PathRoots
 pub mod ChainMarks
 pub mod Places
 pub mod OnPaths
+pub mod CallLists
+pub mod EqualTypes
+pub mod Callers

@@ -6,7 +6,7 @@ ghost use Rattle.wc_gc.specs.Reached.{IsReachedFrom};
 ghost use Rattle.wc_paths.specs.Search.{IsSearchFault};
 
 use crate::chain_marks::on_chains;
-use crate::places::{marks_by, missing_of, positions_at};
+use crate::places::{is_missing_at, marks_by, missing_of, positions_at};
 use crate::search::{Graph, SearchFault, find_all};
 use crate::tree::Tree;
 use std::alloc::{AllocError, Global};
@@ -21,7 +21,7 @@ pub struct Chains {
 }
 
 impl Chains {
-    ghost use Rattle.std.specs.Prelude.{filter};
+    ghost use Rattle.std.specs.Prelude.{filter, not};
     ghost use Rattle.wc_paths.specs.Chains.{AreChains, IsChainAnswer};
     ghost use Rattle.wc_paths.specs.OnChains.{AreMarkedTo};
     ghost use Rattle.wc_paths.specs.Private.Places.{is_missing_at};
@@ -58,6 +58,13 @@ impl Chains {
         let targets = positions_at(alloc, &self.places, items)?;
         let marks = on_chains(alloc, &self.tree.finder, &targets)?;
         marks_by(alloc, &self.places, &marks)
+    }
+
+    /// Whether a chain leads to an item.
+    pub(crate) fn has(&self, item: usize) -> bool
+        ensures { result ≡ not (is_missing_at self.now.places.items item) }
+    {
+        !is_missing_at(&self.places, item)
     }
 
     /// Those of some items to which no chain leads, in order.

@@ -1,10 +1,13 @@
 //! Paths through a core WebAssembly module: the shortest path from a root to an item, and of several the first.
 #![tactic(auto)]
 
+mod call_lists;
+mod callers;
 mod chain_marks;
 mod chains;
 mod counts;
 mod dominators;
+mod equal_types;
 mod fronts;
 mod graph;
 mod items;
@@ -17,6 +20,7 @@ mod roots;
 mod search;
 mod tree;
 
+pub use callers::Callers;
 pub use chain_marks::on_chains;
 pub use chains::Chains;
 pub use counts::{Counts, counts_of, has_item, item_at, item_count, number_of};

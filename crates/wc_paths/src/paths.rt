@@ -62,6 +62,7 @@ impl Paths {
     ghost use Rattle.wc_paths.specs.Graph.{graph_value};
     ghost use Rattle.wc_paths.specs.OnPaths.{AreOnPaths};
     ghost use Rattle.wc_paths.specs.Paths.{AreChainsFrom, AreClosed, ArePaths, graph_in, IsFaultFrom, IsPathAnswer, IsPathFault, IsReachedIn, IsReachedInAny};
+    ghost use Rattle.wc_paths.specs.Private.Callers.{is_reached, leads_to};
 
     /// Finds what two lists of roots reach in a module, with its segments. A root that is not there leads nowhere.
     ///
@@ -172,6 +173,20 @@ impl Paths {
                 None => Ok(None),
             },
         }
+    }
+
+    /// Whether a root of either list leads to an item. It takes constant time.
+    pub(crate) fn is_reached(&self, item: PathItem) -> bool
+        ensures { result ≡ is_reached self.now item }
+    {
+        has_item(&self.counts, item) && self.leads_to(number_of(&self.counts, item))
+    }
+
+    /// Whether a root of either list leads to the item of a number.
+    fn leads_to(&self, number: usize) -> bool
+        ensures { result ≡ leads_to self.now number }
+    {
+        self.first.has(number) || self.second.has(number)
     }
 
     /// Which items are on the paths to some items, as `path` returns them. It takes time and memory linear in the module and in

@@ -18,7 +18,7 @@ fn place_at(places: &[Option<usize>], item: usize) -> Option<usize>
 }
 
 /// Whether an item was not found.
-fn is_missing_at(places: &[Option<usize>], item: usize) -> bool
+pub(crate) fn is_missing_at(places: &[Option<usize>], item: usize) -> bool
     ensures { result ≡ is_missing_at places.now item }
 {
     match place_at(places, item) {

@@ -12,6 +12,7 @@ use Rattle.wc_read.specs.Modules.{ModuleValue}
 use Rattle.wc_read.specs.Names.{GlobalNameValue, name_entries}
 use Rattle.wc_read.specs.declared.types.Import.{Import}
 use Rattle.wc_segments.specs.Segments.{segments_value}
+use Rattle.wc_paths.specs.Callers.{calling_of}
 use Rattle.wc_paths.specs.Items.{graph_of}
 use Rattle.wc_paths.specs.PathRoots.{IsPathRoot}
 use Rattle.wc_paths.specs.Paths.{IsAnswer, IsPathAnswer}
@@ -49,6 +50,8 @@ steps_by f names x answer p steps found is (root, begins, are) = λ m h.
       leads = subst (answers_in m f x) is (found (graph_of m s) (first_roots m) (second_roots s) h.paths);
       root = root;
       begins = subst (λ es. IsPathRoot es s p.is_second p.items.items root) h.roots begins;
+      calling = calling_of f.callers;
+      calls = h.calling;
       are = are;
     })
 

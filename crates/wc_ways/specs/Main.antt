@@ -1,6 +1,6 @@
 -- Why the main module of a component's world imports something: the paths in it. It is never trimmed, so that paths begin at all of
 -- its exports and at its start function; and where none of these leads to an import, at its active segments.
-use Rattle.std.specs.Prelude.{◌≡◌, ◌⊎◌, ℕ, Bool, true, List, [], ◌∷◌, map, Some}
+use Rattle.std.specs.Prelude.{◌≡◌, ◌⊎◌, ℕ, Bool, true, List, [], ◌∷◌, Some}
 use Rattle.std.specs.List.{slice_get}
 use Rattle.wc_read.specs.Imports.{ImportValue}
 use Rattle.wc_read.specs.Modules.{ModuleValue, SpellsModule}
@@ -8,13 +8,14 @@ use Rattle.wc_read.specs.Names.{GlobalNameValue}
 use Rattle.wc_read.specs.Reading.Names.{AreFunctionNames}
 use Rattle.wc_read.specs.declared.fault.ReadFault.{ReadFault}
 use Rattle.wc_segments.specs.Segments.{IsRefused, SegmentsValue, SpellsSegments}
+use Rattle.wc_paths.specs.Callers.{Calling, IsCalling}
 use Rattle.wc_paths.specs.Items.{graph_of}
 use Rattle.wc_paths.specs.PathRoots.{IsPathRoot, RootView}
 use Rattle.wc_paths.specs.Paths.{AreClosed, IsPathFault, IsPathFrom, IsReachedIn, IsReachedInAny}
 use Rattle.wc_paths.specs.Roots.{first_roots, import_item, second_roots}
 use Rattle.wc_paths.specs.declared.items.PathItem.{PathItem}
 use Rattle.wc_paths.specs.declared.paths.PathFault.TheVariants.{LiveBody}
-use Rattle.wc_why.specs.Paths.{StepView, begun, path_step, unfollowed}
+use Rattle.wc_why.specs.Paths.{StepView, begun, path_steps, unfollowed}
 use Rattle.wc_why.specs.declared.paths.Unfollowed.{Unfollowed}
 use Rattle.wc_why.specs.declared.paths.Unfollowed.TheVariants.{Unreached, Body, Section}
 
@@ -29,14 +30,16 @@ IsUnfollowed wasm m (Body n) =
     (s : SegmentsValue) × SpellsSegments m wasm s × IsPathFault (graph_of m s) (first_roots m) (second_roots s) (LiveBody n)
 IsUnfollowed wasm m (Section section) = (f : ReadFault) × IsRefused m wasm f (Some section)
 
--- the steps to an item: where the path to it begins, and its items
+-- the steps to an item: where the path to it begins, and its items, with those that may call what they put in tables
 pub record ArePathStepsTo (m : ModuleValue) (s : SegmentsValue) (names : List GlobalNameValue) (x : PathItem) (steps : List StepView) : Type 0 where
   pub is_second : Bool
   pub items : List PathItem
   pub leads : IsPathFrom (graph_of m s) (first_roots m) (second_roots s) x is_second items
   pub root : RootView
   pub begins : IsPathRoot m.exports s is_second items root
-  pub are : steps ≡ begun true root ∷ map (path_step names) items
+  pub calling : Calling
+  pub calls : IsCalling (graph_of m s) (first_roots m) (second_roots s) calling
+  pub are : steps ≡ begun true root ∷ path_steps names calling items
 
 -- or that none leads there
 abbrev pub AreNoStepsTo : ModuleValue → SegmentsValue → PathItem → List StepView → Type 0

@@ -14,7 +14,7 @@ step_words (exported adapter name) = []
 step_words (begun of_main root) = codes "main begins " ++ root_text root
 step_words (unfollowed why) = unfollowed_text why
 step_words (passed space index name) = codes "main " ++ item_text space index None
-step_words (segment kind index) = codes "main " ++ segment_text kind index
+step_words (segment kind index called) = codes "main " ++ segment_text kind index
 
 abbrev pub step_id : StepView → List ℕ
 step_id s = text_id (step_words s)
@@ -26,7 +26,7 @@ step_label (exported adapter name) = []
 step_label (begun of_main root) = main_root_text root
 step_label (unfollowed why) = unfollowed_text why
 step_label (passed space index name) = item_text space index name
-step_label (segment kind index) = segment_text kind index
+step_label (segment kind index called) = segment_text kind index
 
 -- a step as a node of an identifier, and the arrow to it from the node before
 abbrev pub step_node : List ℕ → List ℕ → StepView → List ℕ

@@ -174,7 +174,7 @@ fn step_words(alloc: Global, step: Step<'_>) -> Result<String, AllocError>
             let text = item_text(alloc, space, index, None)?;
             format!(in alloc; "main {text}")
         }
-        Step::Segment { kind, index } => {
+        Step::Segment { kind, index, .. } => {
             let text = segment_text(alloc, kind, index)?;
             format!(in alloc; "main {text}")
         }
@@ -191,7 +191,7 @@ fn step_label(alloc: Global, step: Step<'_>) -> Result<String, AllocError>
         Step::Begin { root, .. } => main_root_text(alloc, root),
         Step::Unfollowed(why) => unfollowed_text(alloc, why),
         Step::Item { space, index, name } => item_text(alloc, space, index, name),
-        Step::Segment { kind, index } => segment_text(alloc, kind, index),
+        Step::Segment { kind, index, .. } => segment_text(alloc, kind, index),
         Step::Import { .. } | Step::Export { .. } => Ok(String::new(alloc)),
     }
 }

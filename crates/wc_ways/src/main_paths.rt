@@ -6,16 +6,18 @@ ghost use Rattle.wc_read.specs.Modules.{SpellsModule, module_value};
 ghost use Rattle.wc_read.specs.Names.{name_entries};
 ghost use Rattle.wc_read.specs.Reading.Names.{AreFunctionNames};
 ghost use Rattle.wc_segments.specs.Segments.{SpellsSegments, segments_value};
+ghost use Rattle.wc_paths.specs.Callers.{calling_of};
 ghost use Rattle.wc_paths.specs.PathRoots.{root_view};
 ghost use Rattle.wc_paths.specs.Paths.{AreClosed, ArePaths, IsPathFault, IsReachedInAny, graph_in};
 ghost use Rattle.wc_paths.specs.Roots.{first_roots, second_roots};
-ghost use Rattle.wc_why.specs.Paths.{begun, path_step, step_view, unfollowed};
+ghost use Rattle.wc_why.specs.Paths.{begun, path_steps, step_view, unfollowed};
 ghost use Rattle.wc_ways.specs.Private.MainPaths.{AreItemSteps, AreMainPaths, AreStepsIn, ArePathSteps, HasPlaces, IsFollowing, IsRefusedAt, is_key};
 
 use std::alloc::{AllocError, Global};
 use wc_maps::{Map, OrderedMap, Seed};
 use wc_paths::{
-    Path, PathFault, PathItem, PathRoot, PathRoots, Paths, first_roots, import_items, second_roots,
+    Callers, Path, PathFault, PathItem, PathRoot, PathRoots, Paths, first_roots, import_items,
+    second_roots,
 };
 use wc_read::{Module, function_names, read_module};
 use wc_segments::{SegmentSection, Segments, read_segments};
@@ -29,6 +31,8 @@ pub(crate) struct Followed<'r> {
     roots: PathRoots<'r>,
     /// The paths from its exports, its start function and its active segments.
     paths: Paths,
+    /// The functions that may call through tables.
+    callers: Callers,
 }
 
 /// Whether a main module is followed.
@@ -97,7 +101,7 @@ fn paths_of<'r>(
     requires { SpellsModule wasm.now (module_value code.now) }
     ensures { IfOk result (AreMainPaths wasm.now) }
 {
-    let following = follow(alloc, wasm, code)?;
+    let following = follow(alloc, seed, wasm, code)?;
     let names = names_of(alloc, wasm)?;
     let places = import_places(alloc, seed, code)?;
     Ok(MainPaths {
@@ -119,11 +123,16 @@ fn names_of(alloc: Global, wasm: &[u8]) -> Result<OrderedMap<u32, &str>, AllocEr
 }
 
 /// Follows a module with these bytes, as far as it can be read.
-fn follow<'r>(alloc: Global, wasm: &'r [u8], code: &Module<'r>) -> Result<Following<'r>, AllocError>
+fn follow<'r>(
+    alloc: Global,
+    seed: Seed,
+    wasm: &'r [u8],
+    code: &Module<'r>,
+) -> Result<Following<'r>, AllocError>
     ensures { IfOk result (IsFollowing wasm.now (module_value code.now)) }
 {
     match read_segments(alloc, wasm, code) {
-        Ok(segments) => follow_with(alloc, wasm, code, segments),
+        Ok(segments) => follow_with(alloc, seed, wasm, code, segments),
         Err(refused) => without_segments(wasm, code, refused.place),
     }
 }
@@ -148,6 +157,7 @@ fn without_segments<'r>(
 /// Follows a module with these segments.
 fn follow_with<'r>(
     alloc: Global,
+    seed: Seed,
     wasm: &[u8],
     code: &Module<'r>,
     segments: Segments<'r>,
@@ -159,10 +169,12 @@ fn follow_with<'r>(
         Ok(paths) => {
             let exports = Vec::from_slice(alloc, &code.exports)?;
             let roots = PathRoots::new(alloc, &paths, exports)?;
+            let callers = Callers::find(alloc, seed, code, &segments, &paths)?;
             Ok(Following::Whole(Followed {
                 segments,
                 roots,
                 paths,
+                callers,
             }))
         }
         Err(PathFault::Memory) => Err(AllocError),
@@ -239,25 +251,26 @@ fn path_steps<'r>(
         (map step_view v.items)) }
 {
     let root = followed.roots.root(&followed.segments, path);
-    begun_steps(alloc, names, root, &path.items)
+    begun_steps(alloc, names, &followed.callers, root, &path.items)
 }
 
-/// The steps of a path: where it begins, and its items.
+/// The steps of a path: where it begins, and its items, with those that may call what they put in tables.
 fn begun_steps<'r>(
     alloc: Global,
     names: &OrderedMap<u32, &'r str>,
+    callers: &Callers,
     root: PathRoot<'r>,
     items: &[PathItem],
 ) -> Result<Vec<Step<'r>>, AllocError>
     ensures { IfOk result (λ v. map step_view v.items ≡ begun true (root_view root.entry)
-        ∷ map (path_step (name_entries names.now)) items.now) }
+        ∷ path_steps (name_entries names.now) (calling_of callers.now) items.now) }
 {
     let mut steps = Vec::new(alloc);
     steps.push(Step::Begin {
         of_main: true,
         root,
     })?;
-    push_path_items(names, items, &mut steps)?;
+    push_path_items(names, callers, items, &mut steps)?;
     Ok(steps)
 }
 

@@ -34,7 +34,8 @@ use wc_world::ComponentWorld;
 ///   it begins: `main exports NAME`, `main start`, `main fills table T` or `main fills memory M`; and a line for each item of
 ///   the shortest path to it (`wc_paths::Paths::path`), from its exports and its start function, or, where none leads there,
 ///   from its active segments. `main reaches it nowhere` stands for a path that isn't there, and `main is not followed: PART`
-///   where PART can't be read: `body of function N`, `element section`, `data section` or `data count section`;
+///   where PART can't be read: `body of function N`, `element section`, `data section` or `data count section`. After `elem N`, an
+///   active segment, come those that may call the function after it: `called by func N NAME`, at most three, and `called by N more`;
 /// - of an adapter the same lines to `main imports ADAPTER EXPORT`, if the main module imports the export where the path
 ///   begins; `adapter ADAPTER exports EXPORT`; a line for each item that leads from it to the import, in the adapter as the encoder
 ///   has it, by the shortest chain (`wc_gc::why_imports`) of the exports for which it was trimmed; and

@@ -64,7 +64,7 @@ step_json (exported adapter name) = export_json (Some adapter) name
 step_json (begun of_main root) = root_json root
 step_json (unfollowed why) = unfollowed_json why
 step_json (passed space index name) = item_json (space_name space) index name
-step_json (segment kind index) = item_json (kind_name kind) index None
+step_json (segment kind index called) = item_json (kind_name kind) index None
 
 -- a path: the interface, what of it the path leads to, and its steps
 

@@ -1,12 +1,12 @@
 -- Paths as lines. Each text from outside is a word, or ends its line, so that a line has one reading.
-use Rattle.std.specs.Prelude.{ℕ, Bool, true, false, List, [], ◌++◌, codes, decimal, Option, Some, None}
+use Rattle.std.specs.Prelude.{ℕ, ◌==◌, Bool, true, false, cond, List, [], ◌++◌, codes, decimal, Option, Some, None}
 use Rattle.std.specs.List.{flat_map}
 use Rattle.wc_json.specs.Escape.{escaped}
 use Rattle.wc_read.specs.declared.operators.Space.{Space}
 use Rattle.wc_read.specs.declared.operators.Space.TheVariants.{Types, Funcs, Tables, Memories, Globals}
 use Rattle.wc_segments.specs.Segments.{segment_section_name}
 use Rattle.wc_paths.specs.PathRoots.{RootView, by_export, by_start, by_table, by_memory}
-use Rattle.wc_why.specs.Paths.{PathView, StepView, TargetView, named, typed, imported, exported, begun, unfollowed, passed, segment}
+use Rattle.wc_why.specs.Paths.{CalledByView, CallerView, PathView, StepView, TargetView, named, typed, imported, exported, begun, unfollowed, passed, segment}
 use Rattle.wc_why.specs.Texts.{two_words, word}
 use Rattle.wc_why.specs.declared.paths.SegmentKind.{SegmentKind}
 use Rattle.wc_why.specs.declared.paths.SegmentKind.TheVariants.{Elements, Data}
@@ -79,13 +79,23 @@ segment_text kind index = kind_name kind ++ (codes " " ++ decimal index)
 abbrev pub line_of : List ℕ → List ℕ
 line_of text = codes "  " ++ (text ++ codes "\n")
 
+-- `called by func N NAME`, of a function that may call; and how many more there are
+abbrev pub caller_line : CallerView → List ℕ
+caller_line c = codes "  called by " ++ (item_text Funcs c.0 c.1 ++ codes "\n")
+
+abbrev pub more_line : ℕ → List ℕ
+more_line n = cond (n == 0) [] (codes "  called by " ++ (decimal n ++ codes " more\n"))
+
+abbrev pub called_by_lines : CalledByView → List ℕ
+called_by_lines c = flat_map caller_line c.callers ++ more_line c.more
+
 abbrev pub step_line : StepView → List ℕ
 step_line (imported adapter from name) = import_line adapter from name
 step_line (exported adapter name) = export_line adapter name
 step_line (begun of_main root) = line_of (begin_text of_main root)
 step_line (unfollowed why) = line_of (unfollowed_text why)
 step_line (passed space index name) = line_of (item_text space index name)
-step_line (segment kind index) = line_of (segment_text kind index)
+step_line (segment kind index called) = line_of (segment_text kind index) ++ called_by_lines called
 
 -- `INTERFACE: for its types, used by INTERFACE`
 abbrev pub used_text : Option (List ℕ) → List ℕ

@@ -8,7 +8,7 @@ use Rattle.wc_paths.specs.Dominators.{MarksValue, is_marked}
 use Rattle.wc_paths.specs.declared.items.PathItem.{PathItem}
 use Rattle.wc_paths.specs.declared.items.PathItem.TheVariants.{Item as path_item, Elements as path_elements, Data as path_data}
 use Rattle.wc_why.specs.JsonPaths.{step_json, text_or_null}
-use Rattle.wc_why.specs.Lines.{item_text, kind_name, segment_text, space_name, step_line, target_text}
+use Rattle.wc_why.specs.Lines.{called_by_lines, item_text, kind_name, segment_text, space_name, step_line, target_text}
 use Rattle.wc_why.specs.Paths.{PathView, StepView, TargetView, named, typed, imported, exported, begun, unfollowed, passed, segment}
 use Rattle.wc_why.specs.declared.paths.SegmentKind.{SegmentKind}
 use Rattle.wc_why.specs.declared.paths.SegmentKind.TheVariants.{Elements, Data}
@@ -28,7 +28,7 @@ segment_item Data index = path_data index
 
 abbrev pub step_mark : Marking → StepView → Option Bool
 step_mark marks (passed space index name) = marks (path_item space index)
-step_mark marks (segment kind index) = marks (segment_item kind index)
+step_mark marks (segment kind index called) = marks (segment_item kind index)
 step_mark marks (imported adapter from name) = None
 step_mark marks (exported adapter name) = None
 step_mark marks (begun of_main root) = None
@@ -41,7 +41,7 @@ marked_text text = codes "* " ++ (text ++ codes "\n")
 -- the line of a step that is marked: an item, or a segment
 abbrev pub marked_line : StepView → List ℕ
 marked_line (passed space index name) = marked_text (item_text space index name)
-marked_line (segment kind index) = marked_text (segment_text kind index)
+marked_line (segment kind index called) = marked_text (segment_text kind index) ++ called_by_lines called
 marked_line (imported adapter from name) = step_line (imported adapter from name)
 marked_line (exported adapter name) = step_line (exported adapter name)
 marked_line (begun of_main root) = step_line (begun of_main root)
@@ -69,7 +69,7 @@ marked_item_json space index name only =
 
 abbrev pub marked_step_json : Bool → StepView → Json
 marked_step_json only (passed space index name) = marked_item_json (space_name space) index name only
-marked_step_json only (segment kind index) = marked_item_json (kind_name kind) index None only
+marked_step_json only (segment kind index called) = marked_item_json (kind_name kind) index None only
 marked_step_json only (imported adapter from name) = step_json (imported adapter from name)
 marked_step_json only (exported adapter name) = step_json (exported adapter name)
 marked_step_json only (begun of_main root) = step_json (begun of_main root)

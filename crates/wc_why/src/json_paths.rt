@@ -156,7 +156,7 @@ pub(crate) fn put_step(out: &mut Writer, step: Step<'_>) -> Result<(), AllocErro
         Step::Begin { root, .. } => put_root(out, root),
         Step::Unfollowed(why) => put_unfollowed(out, why),
         Step::Item { space, index, name } => put_item(out, space_name(space), index, name),
-        Step::Segment { kind, index } => put_item(out, kind_name(kind), index, None),
+        Step::Segment { kind, index, .. } => put_item(out, kind_name(kind), index, None),
     }
 }
 

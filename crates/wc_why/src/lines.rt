@@ -1,13 +1,13 @@
 //! Paths as lines.
 
-ghost use Rattle.std.specs.Prelude.{◌≡◌, ◌++◌, IfOk, OnOk, map, string_bytes};
+ghost use Rattle.std.specs.Prelude.{◌≡◌, [], ◌++◌, IfOk, OnOk, map, string_bytes};
 ghost use Rattle.std.specs.List.{flat_map};
-ghost use Rattle.std.specs.Option.{option_map};
+ghost use Rattle.std.specs.Option.{option_map, option_map_or};
 ghost use Rattle.wc_paths.specs.PathRoots.{root_view};
-ghost use Rattle.wc_why.specs.Lines.{begin_text, export_line, import_line, importer_text, item_text, kind_name, line_of, main_root_text, path_lines, root_text, segment_text, space_name, step_line, target_text, types_text, unfollowed_text, used_text};
-ghost use Rattle.wc_why.specs.Paths.{path_view, step_view, target_view, text_of};
+ghost use Rattle.wc_why.specs.Lines.{begin_text, called_by_lines, caller_line, export_line, import_line, importer_text, item_text, kind_name, line_of, main_root_text, more_line, path_lines, root_text, segment_text, space_name, step_line, target_text, types_text, unfollowed_text, used_text};
+ghost use Rattle.wc_why.specs.Paths.{called_by_view, caller_view, path_view, step_view, target_view, text_of};
 
-use crate::paths::{Path, PathPrinter, SegmentKind, Step, Target, Unfollowed};
+use crate::paths::{CalledBy, Caller, Path, PathPrinter, SegmentKind, Step, Target, Unfollowed};
 use crate::texts::{two_words, word};
 use std::alloc::{AllocError, Global};
 use wc_json::escaped;
@@ -38,7 +38,8 @@ impl PathPrinter for String {
 /// - `adapter ADAPTER exports NAME`;
 /// - where a path begins in the main module, as `main_root_text` has it, or in a module that stands alone, as `root_text`
 ///   has it; or why no path through the main module is shown (`unfollowed_text`);
-/// - an item as `item_text` has it, a segment as `segment_text` has it.
+/// - an item as `item_text` has it, a segment as `segment_text` has it. After a segment come those that may call the function
+///   of the next step (`CalledBy`): `called by func N NAME` for each, and `called by N more`, if there are more.
 ///
 /// Texts from outside are escaped (`wc_json::escaped`), and a blank in them is `\u{20}`; but in the name of an item, and of
 /// an export of a module that stands alone, which end their lines, it stays.
@@ -130,11 +131,54 @@ pub(crate) fn step_line(alloc: Global, step: Step<'_>) -> Result<String, AllocEr
             let text = item_text(alloc, space, index, name)?;
             line_of(alloc, &text)
         }
-        Step::Segment { kind, index } => {
+        Step::Segment {
+            kind,
+            index,
+            called_by,
+        } => {
             let text = segment_text(alloc, kind, index)?;
-            line_of(alloc, &text)
+            let line = line_of(alloc, &text)?;
+            let callers = called_by_lines(alloc, called_by)?;
+            format!(in alloc; "{line}{callers}")
         }
     }
+}
+
+/// The lines of those that may call a function: `called by func N NAME` for each, and `called by N more`, if there are
+/// more.
+pub(crate) fn called_by_lines(alloc: Global, called_by: CalledBy<'_>) -> Result<String, AllocError>
+    ensures { IfOk result (λ s. string_bytes s
+        ≡ called_by_lines (called_by_view called_by.entry)) }
+{
+    let first = caller_line(alloc, called_by.first)?;
+    let second = caller_line(alloc, called_by.second)?;
+    let third = caller_line(alloc, called_by.third)?;
+    let more = more_line(alloc, called_by.more)?;
+    format!(in alloc; "{first}{second}{third}{more}")
+}
+
+/// The line of a function that may call, if there is one.
+fn caller_line(alloc: Global, caller: Option<Caller<'_>>) -> Result<String, AllocError>
+    ensures { IfOk result (λ s. string_bytes s
+        ≡ option_map_or caller_line (option_map caller_view caller.entry) []) }
+{
+    match caller {
+        Some(Caller { index, name }) => {
+            let text = item_text(alloc, Space::Funcs, index, name)?;
+            format!(in alloc; "  called by {text}\n")
+        }
+        None => Ok(String::new(alloc)),
+    }
+}
+
+/// The line of how many more may call, if there are more.
+fn more_line(alloc: Global, more: usize) -> Result<String, AllocError>
+    ensures { IfOk result (λ s. string_bytes s ≡ more_line more) }
+{
+    if more == 0 {
+        return Ok(String::new(alloc));
+    }
+    format!(in alloc; "  called by {more} more\n")
 }
 
 /// A text as a line, after two blanks.

@@ -13,7 +13,9 @@ ghost use Rattle.wc_why.specs.Private.Tokens.{Puts};
 use crate::json_paths::{
     begin_object, end_object, put_null, put_number, put_step, put_text, put_text_or_null,
 };
-use crate::lines::{item_text, kind_name, segment_text, space_name, step_line, target_text};
+use crate::lines::{
+    called_by_lines, item_text, kind_name, segment_text, space_name, step_line, target_text,
+};
 use crate::paths::{Path, SegmentKind, Step, Target};
 use json::Writer;
 use std::alloc::{AllocError, Global};
@@ -79,7 +81,7 @@ fn step_mark(step: Step<'_>, marks: &Option<Dominators>) -> Option<bool>
 {
     match step {
         Step::Item { space, index, .. } => item_mark(marks, PathItem::Item(space, index)),
-        Step::Segment { kind, index } => item_mark(marks, segment_item(kind, index)),
+        Step::Segment { kind, index, .. } => item_mark(marks, segment_item(kind, index)),
         Step::Import { .. } => None,
         Step::Export { .. } => None,
         Step::Begin { .. } => None,
@@ -116,9 +118,15 @@ fn marked_line(alloc: Global, step: Step<'_>) -> Result<String, AllocError>
             let text = item_text(alloc, space, index, name)?;
             format!(in alloc; "* {text}\n")
         }
-        Step::Segment { kind, index } => {
+        Step::Segment {
+            kind,
+            index,
+            called_by,
+        } => {
             let text = segment_text(alloc, kind, index)?;
-            format!(in alloc; "* {text}\n")
+            let line = format!(in alloc; "* {text}\n")?;
+            let callers = called_by_lines(alloc, called_by)?;
+            format!(in alloc; "{line}{callers}")
         }
         Step::Import { .. } => step_line(alloc, step),
         Step::Export { .. } => step_line(alloc, step),
@@ -241,7 +249,7 @@ fn put_marked_step(out: &mut Writer, step: Step<'_>, only: bool) -> Result<(), A
         Step::Item { space, index, name } => {
             put_marked_item(out, space_name(space), index, name, only)
         }
-        Step::Segment { kind, index } => {
+        Step::Segment { kind, index, .. } => {
             put_marked_item(out, kind_name(kind), index, None, only)
         }
         Step::Import { .. } => put_step(out, step),

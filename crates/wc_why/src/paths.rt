@@ -1,13 +1,17 @@
 //! Paths to imports, by their steps, and what prints them.
 
-ghost use Rattle.std.specs.Prelude.{◌≡◌, ◌++◌, ℕ, List, OnOk, map};
-ghost use Rattle.std.specs.Option.{option_map};
+ghost use Rattle.std.specs.Prelude.{◌≡◌, ◌<◌, ◌+◌, ◌++◌, ℕ, List, OnOk, Some, length, map};
+ghost use Rattle.std.specs.List.{slice_get};
+ghost use Rattle.wc_read.specs.declared.operators.Space.TheVariants.{Funcs};
+ghost use Rattle.wc_paths.specs.declared.items.PathItem.{PathItem as path_item};
+ghost use Rattle.std.specs.Option.{option_copied, option_map};
 ghost use Rattle.wc_read.specs.Names.{name_entries};
-ghost use Rattle.wc_why.specs.Paths.{PathView, item_step, name_in, name_of, path_step, path_view, step_view, text_of};
+ghost use Rattle.wc_paths.specs.Callers.{calling_of};
+ghost use Rattle.wc_why.specs.Paths.{PathView, called_by, called_by_view, caller_view, callers_after, item_step, name_in, name_of, path_step, path_steps, path_view, step_view, text_of};
 
 use std::alloc::{AllocError, Global};
 use wc_maps::OrderedMap;
-use wc_paths::{PathItem, PathRoot};
+use wc_paths::{Callers, PathItem, PathRoot};
 use wc_read::Space;
 use wc_segments::SegmentSection;
 
@@ -54,7 +58,31 @@ pub enum Step<'a> {
         kind: SegmentKind,
         /// Its index among those of its kind.
         index: usize,
+        /// Those that may call the function of the next step, which the segment puts in a table.
+        called_by: CalledBy<'a>,
     },
+}
+
+/// Functions that may call a function: the first by their indices, three at most, and how many more there are.
+#[derive(Clone, Copy, Debug, PartialEq, Eq)]
+pub struct CalledBy<'a> {
+    /// The first of them, if there is one.
+    pub first: Option<Caller<'a>>,
+    /// The second.
+    pub second: Option<Caller<'a>>,
+    /// The third.
+    pub third: Option<Caller<'a>>,
+    /// How many there are after the third.
+    pub more: usize,
+}
+
+/// A function that may call a function.
+#[derive(Clone, Copy, Debug, PartialEq, Eq)]
+pub struct Caller<'a> {
+    /// Its index.
+    pub index: usize,
+    /// Its name, if it has one.
+    pub name: Option<&'a str>,
 }
 
 /// The kind of a segment.
@@ -168,27 +196,87 @@ pub(crate) fn name_in<'r>(names: &OrderedMap<u32, &'r str>, item: (Space, u32)) 
 }
 
 /// Appends a step for each item of a path of `wc_paths`, in order. A function has the one of these names that its index has.
+/// An active element segment has those of `callers` that may call the function after it.
 ///
 /// # Errors
 ///
 /// `AllocError`: an allocation failed. Some of the steps may have been appended.
 pub fn push_path_items<'r>(
     names: &OrderedMap<u32, &'r str>,
+    callers: &Callers,
     items: &[PathItem],
     steps: &mut Vec<Step<'r>>,
 ) -> Result<(), AllocError>
     ensures { OnOk result (map step_view steps.new.items ≡ map step_view steps.old.items
-        ++ map (path_step (name_entries names.now)) items.now) }
+        ++ path_steps (name_entries names.now) (calling_of callers.now) items.now) }
 {
-    for item in items {
-        steps.push(path_step(names, *item))?;
+    for position in 0..items.len() {
+        steps.push(step_at(names, callers, items, position))?;
     }
     Ok(())
 }
 
-/// The step of an item of a path.
-fn path_step<'r>(names: &OrderedMap<u32, &'r str>, item: PathItem) -> Step<'r>
-    ensures { step_view result ≡ path_step (name_entries names.now) item }
+/// The step of the item at a position of a path.
+fn step_at<'r>(
+    names: &OrderedMap<u32, &'r str>,
+    callers: &Callers,
+    items: &[PathItem],
+    position: usize,
+) -> Step<'r>
+    requires { position < length items.now }
+    ensures { (x : path_item) → slice_get items.now position ≡ Some x → step_view result
+        ≡ path_step (name_entries names.now) (called_by (name_entries names.now)
+        (callers_after (calling_of callers.now) x (slice_get items.now (position + 1)))) x }
+{
+    let item = items[position];
+    let functions = callers_after(callers, item, items.get(position + 1));
+    path_step(names, item, called_by(names, functions))
+}
+
+/// Those that may call what comes after an item.
+fn callers_after<'c>(callers: &'c Callers, item: PathItem, next: Option<&PathItem>) -> &'c [usize]
+    ensures { result.now ≡ callers_after (calling_of callers.now) item (option_copied next.entry) }
+{
+    match next {
+        Some(next) => callers.between(item, *next),
+        None => &[],
+    }
+}
+
+/// The first three of some functions, with their names, and how many more there are.
+fn called_by<'r>(names: &OrderedMap<u32, &'r str>, functions: &[usize]) -> CalledBy<'r>
+    ensures { called_by_view result ≡ called_by (name_entries names.now) functions.now }
+{
+    CalledBy {
+        first: caller_of(names, functions.first()),
+        second: caller_of(names, functions.get(1)),
+        third: caller_of(names, functions.get(2)),
+        more: functions.len().saturating_sub(3),
+    }
+}
+
+/// A function with its name.
+fn caller_of<'r>(names: &OrderedMap<u32, &'r str>, function: Option<&usize>) -> Option<Caller<'r>>
+    ensures { option_map caller_view result
+        ≡ option_map (λ n. (n, name_of (name_entries names.now) Funcs n)) (option_copied function.entry) }
+{
+    match function {
+        Some(index) => Some(Caller {
+            index: *index,
+            name: name_of(names, Space::Funcs, *index),
+        }),
+        None => None,
+    }
+}
+
+/// The step of an item of a path. `called_by`: those that may call what comes after it.
+fn path_step<'r>(
+    names: &OrderedMap<u32, &'r str>,
+    item: PathItem,
+    called_by: CalledBy<'r>,
+) -> Step<'r>
+    ensures { step_view result
+        ≡ path_step (name_entries names.now) (called_by_view called_by.entry) item }
 {
     match item {
         PathItem::Item(space, index) => {
@@ -198,10 +286,12 @@ fn path_step<'r>(names: &OrderedMap<u32, &'r str>, item: PathItem) -> Step<'r>
         PathItem::Elements(index) => Step::Segment {
             kind: SegmentKind::Elements,
             index,
+            called_by,
         },
         PathItem::Data(index) => Step::Segment {
             kind: SegmentKind::Data,
             index,
+            called_by,
         },
     }
 }

@@ -2,13 +2,14 @@
 -- Why a message is refused, and what that is about.
 use Rattle.std.specs.Prelude.{◌≡◌, ◌⊎◌, ℕ, List, [], map, Option, Some, None, ⊤, string_bytes}
 use Rattle.std.specs.Option.{option_map}
+use Rattle.wc_adapters.specs.Adapters.{AdapterView}
 use Rattle.wc_dedupe.specs.Dedupe.{IsDedupeCause, IsDedupePlace}
 use Rattle.wc_dedupe.specs.declared.fault.DedupeFault.{DedupeFault}
 use Rattle.wc_encoder.specs.EncoderParts.{EncoderView}
 use Rattle.json.specs.Json.{document}
 use Rattle.wc_json.specs.Document.{DocumentView}
 use Rattle.wc_json.specs.FromJson.{IsCauseOf}
-use Rattle.wc_json.specs.Messages.{MessageView, WorldNameView, message}
+use Rattle.wc_json.specs.Messages.{AdapterMessageView, KeyMessageView, MessageView, WorldNameView, message}
 use Rattle.wc_json.specs.Places.{IsFaultPlace}
 use Rattle.wc_json.specs.declared.fault.JsonFault.{JsonFault}
 use Rattle.wc_json.specs.declared.places.JsonPlace.{JsonPlace}
@@ -20,6 +21,7 @@ use Rattle.json.specs.Json.{Json as json_value}
 use Rattle.wc_resolve.specs.Explain.{IsPlace}
 use Rattle.wc_read.specs.declared.place.ReadPlace.{ReadPlace}
 use Rattle.wc_resolve.specs.Kinds.{ResolveView}
+use Rattle.wc_resolve.specs.Views.{KeyView}
 use Rattle.wc_resolve.specs.Refusals.{IsRefusal, Refusal}
 use Rattle.wc_resolve.specs.declared.fault.ResolveFault.{ResolveFault}
 use Rattle.wc_selection.specs.declared.fault.RequestFault.{RequestFault}
@@ -30,9 +32,10 @@ use Rattle.wc_world.specs.Refused.{IsPlaceOrNone}
 use Rattle.wc_world.specs.Views.{ComponentWorldView}
 use Rattle.wc_world.specs.World.{IsWorldOf}
 use Rattle.wc_world.specs.declared.fault.WorldFault.{WorldFault}
-use Rattle.wc_calls.specs.Encoders.{IsMessage}
+use Rattle.wc_calls.specs.Encoders.{AreExporters, IsMessage}
 use Rattle.wc_calls.specs.MessageFault.{IsNameCause, IsNoEncoderCause, IsOfChosen, IsPartsCause, IsWorldNameCause, of_dedupe, of_json, of_resolve}
 use Rattle.wc_calls.specs.Places.{IsPlanPlace, unplaced_world_text, world_names}
+use Rattle.wc_calls.specs.Private.AskedKeys.{IsExportersCause}
 use Rattle.wc_calls.specs.declared.message_fault.MessageFault.{MessageFault}
 use Rattle.wc_calls.specs.declared.message_fault.MessageFault.TheVariants.{AdapterTwice, Dedupe, Json, Memory, NotText, PackageRange, Plan, RepeatedKey, Resolve, SeveralKeys, SeveralWorlds, UnknownKey, UnknownWorld, World}
 use Rattle.wc_calls.specs.declared.refusals.MessagePlace.{MessagePlace}
@@ -101,6 +104,12 @@ abbrev pub IsMainRefused : List ℕ → RefusedMessage → Type 0
 IsMainRefused bytes x =
     (r : Refused DedupeFault ReadPlace) × IsDedupeCause bytes r.fault × IsDedupePlace bytes r.fault r.place
     × IsRefusalOf of_dedupe place.Bytes r x
+
+-- why there are no parts of an encoder that are made of modules: no exporters, or no main module
+abbrev pub IsModulesRefusal : ResolveView → ℕ → Option (List KeyMessageView) → List AdapterMessageView → List ℕ → List ℕ → RefusedMessage → Type 0
+IsModulesRefusal r world exports ms main others x =
+    IsWithoutPlace Memory x ⊎ ((f : MessageFault) × IsExportersCause r world exports ms others f × IsWithoutPlace f x)
+    ⊎ ((keys : List KeyView) × (adapters : List (List ℕ × AdapterView)) × AreExporters r world exports ms others keys adapters × IsMainRefused main x)
 
 -- the part of these that a fault is about; the byte of the main module
 abbrev pub IsPartAt : ResolveView → ResolveFault → Option MessagePlace → Type 0

@@ -20,6 +20,7 @@ use Rattle.wc_gc.specs.declared.trim_place.TrimPlace.{TrimPlace}
 use Rattle.wc_gc.specs.declared.trim_place.TrimPlace.TheVariants.{Bytes, Section}
 use Rattle.wc_segments.specs.Segments.{IsRefused, segments_value}
 use Rattle.wc_segments.specs.declared.segments.SegmentSection.{SegmentSection}
+use Rattle.wc_paths.specs.Callers.{calling_of}
 use Rattle.wc_paths.specs.Items.{GraphValue}
 use Rattle.wc_paths.specs.OnPaths.{AreOnPaths}
 use Rattle.wc_paths.specs.PathRoots.{IsPathRoot, RootView}
@@ -82,8 +83,8 @@ IsPathWritten f marks position old new =
 abbrev pub IsShownPath : Followed → ImportValue → Path → PathView → Type 0
 IsShownPath f i p shown =
     (root : RootView) × IsPathRoot f.roots (segments_value f.segments) p.is_second p.items.items root
-    × ((names : List GlobalNameValue) → AreNamesIn f names → shown ≡ import_path names i root p.items.items)
+    × ((names : List GlobalNameValue) → AreNamesIn f names → shown ≡ import_path names (calling_of f.callers) i root p.items.items)
 
--- the names of the functions on the path to an item
+-- the names of the functions on the path to an item, and of those that may call
 abbrev pub AreNamesTo : Followed → PathItem → List GlobalNameValue → Type 0
-AreNamesTo f x names = (o : OnPaths) × AreOnPaths f.paths (x ∷ []) o × AreNamesOn f.bytes.now o names
+AreNamesTo f x names = (o : OnPaths) × AreOnPaths f.paths (x ∷ []) o × AreNamesOn f.bytes.now o f.callers names

@@ -2,15 +2,12 @@
 use Rattle.std.specs.Prelude.{ℕ, Bool, true, false, ◌||◌, List, Option, Some, None}
 use Rattle.std.specs.List.{slice_get}
 use Rattle.std.specs.Option.{option_map_or}
+use Rattle.wc_paths.specs.Callers.{entry_by}
 use Rattle.wc_paths.specs.ChainMarks.{is_set}
 
 -- the position of an item, if it was found
-abbrev pub place_by : Option (Option ℕ) → Option ℕ
-place_by None = None
-place_by (Some place) = place
-
 abbrev pub place_at : List (Option ℕ) → ℕ → Option ℕ
-place_at places x = place_by (slice_get places x)
+place_at places x = entry_by (slice_get places x)
 
 -- whether an item was not found
 abbrev pub is_missing : Option ℕ → Bool

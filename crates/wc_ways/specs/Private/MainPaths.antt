@@ -1,5 +1,5 @@
 -- A main module as the code follows it.
-use Rattle.std.specs.Prelude.{◌≡◌, ℕ, Bool, ◌&&◌, ◌<◌, List, ◌∷◌, length, map, true, Option, Some, None}
+use Rattle.std.specs.Prelude.{◌≡◌, ℕ, Bool, ◌&&◌, ◌<◌, List, ◌∷◌, length, true, Option, Some, None}
 use Rattle.std.specs.Borrow.{Bor}
 use Rattle.std.specs.List.{slice_get}
 use Rattle.std.specs.Map.{lookup}
@@ -11,23 +11,25 @@ use Rattle.wc_read.specs.Reading.Names.{AreFunctionNames}
 use Rattle.wc_read.specs.declared.fault.ReadFault.{ReadFault}
 use Rattle.wc_segments.specs.Segments.{IsRefused, segments_value}
 use Rattle.wc_segments.specs.declared.segments.SegmentSection.{SegmentSection}
+use Rattle.wc_paths.specs.Callers.{IsCalling, calling_of}
 use Rattle.wc_paths.specs.Items.{graph_of}
 use Rattle.wc_paths.specs.PathRoots.{IsPathRoot, RootView}
 use Rattle.wc_paths.specs.Paths.{ArePaths}
 use Rattle.wc_paths.specs.Roots.{first_roots, import_item, second_roots}
 use Rattle.wc_paths.specs.declared.items.PathItem.{PathItem}
 use Rattle.wc_paths.specs.declared.paths.Path.{Path}
-use Rattle.wc_why.specs.Paths.{StepView, begun, path_step}
+use Rattle.wc_why.specs.Paths.{StepView, begun, path_steps}
 use Rattle.wc_ways.specs.Main.{AreMainSteps, AreStepsTo, IsFollowed, IsNamed, IsUnfollowed}
 use Rattle.wc_ways.specs.declared.main_paths.Followed.{Followed}
 use Rattle.wc_ways.specs.declared.main_paths.Following.{Following}
 use Rattle.wc_ways.specs.declared.main_paths.Following.TheVariants.{Whole, Unread}
 use Rattle.wc_ways.specs.declared.main_paths.MainPaths.{MainPaths}
 
--- the paths in a module, which begin at its exports
+-- the paths in a module, which begin at its exports, and the functions that may call through tables
 pub record HasPathsOf (m : ModuleValue) (f : Followed) : Type 0 where
   pub paths : ArePaths (graph_of m (segments_value f.segments)) (first_roots m) (second_roots (segments_value f.segments)) f.paths
   pub roots : f.roots ≡ m.exports
+  pub calling : IsCalling (graph_of m (segments_value f.segments)) (first_roots m) (second_roots (segments_value f.segments)) (calling_of f.callers)
 
 -- a module is followed, or why it is not
 abbrev pub IsFollowing : List ℕ → ModuleValue → Following → Type 0
@@ -67,7 +69,7 @@ pub record AreMainPaths (wasm : List ℕ) (p : MainPaths) : Type 0 where
 abbrev pub ArePathSteps : Followed → List GlobalNameValue → Path → List StepView → Type 0
 ArePathSteps f names p steps =
     (root : RootView) × IsPathRoot f.roots (segments_value f.segments) p.is_second p.items.items root
-    × (steps ≡ begun true root ∷ map (path_step names) p.items.items)
+    × (steps ≡ begun true root ∷ path_steps names (calling_of f.callers) p.items.items)
 
 -- in whatever module these are the paths, the steps to an item; and to an import
 abbrev pub AreItemSteps : Followed → List GlobalNameValue → PathItem → List StepView → Type 0

@@ -3,30 +3,43 @@ use Rattle.wc_calls.specs.Private.OptionTables.{table_options}
 use Rattle.wc_calls.specs.Private.PlannedAnswers.{IsPlannedFor}
 use Rattle.wc_calls.proofs.FaultAnswerLemmas.{message_refused, plan_refused, put_by, too_long_by}
 use Rattle.wc_calls.proofs.PlannedWorldLemmas.{planned_to}
+use Rattle.wc_calls.proofs.HeapLemmas.{encoder_there, options_there}
 use Rattle.wc_calls.proofs.planned_worlds.planned_world.Goals as goal
 
 pub returns-in-Ok-clause-done : goal.returns-in-Ok-clause-done
 returns-in-Ok-clause-done c = λ is.
+    let encodes =
+    encoder_there c.args.message.now c.args.modules.now c.in-Ok.input.value c.deref.result.now c.deref.ensures
+    c.in-Ok.ensures.encoder in
+    let given = options_there c.args.message.now c.in-Ok.input.value c.deref.result.now c.deref.ensures c.in-Ok.ensures.options in
     let r = c.planned_world_for.result in
-    let options = table_options c.in-Ok.input.options in
-    let e = c.in-Ok.input.encoder in
+    let options = table_options c.deref.result.now.options in
+    let e = c.deref.result.now.encoder in
     put_by (IsPlannedFor options e r.module_length) (IsPlannedWorldAnswer c.args.message.now c.args.modules.now r.module_length) r.length c.args.out.now
-    c.planned_world_for.new.out (planned_to c.args.message.now c.args.modules.now options e r.module_length c.in-Ok.ensures.encoder c.in-Ok.ensures.options)
+    c.planned_world_for.new.out (planned_to c.args.message.now c.args.modules.now options e r.module_length encodes given)
     (c.planned_world_for.ensures.done is)
 
 pub returns-in-Ok-clause-too_small : goal.returns-in-Ok-clause-too_small
 returns-in-Ok-clause-too_small c = λ is.
+    let encodes =
+    encoder_there c.args.message.now c.args.modules.now c.in-Ok.input.value c.deref.result.now c.deref.ensures
+    c.in-Ok.ensures.encoder in
+    let given = options_there c.args.message.now c.in-Ok.input.value c.deref.result.now c.deref.ensures c.in-Ok.ensures.options in
     let r = c.planned_world_for.result in
-    let options = table_options c.in-Ok.input.options in
-    let e = c.in-Ok.input.encoder in
+    let options = table_options c.deref.result.now.options in
+    let e = c.deref.result.now.encoder in
     too_long_by (IsPlannedFor options e r.module_length) (IsPlannedWorldAnswer c.args.message.now c.args.modules.now r.module_length) r.length c.args.out.now
-    (planned_to c.args.message.now c.args.modules.now options e r.module_length c.in-Ok.ensures.encoder c.in-Ok.ensures.options)
+    (planned_to c.args.message.now c.args.modules.now options e r.module_length encodes given)
     (c.planned_world_for.ensures.too_small is)
 
 pub returns-in-Ok-clause-fault : goal.returns-in-Ok-clause-fault
 returns-in-Ok-clause-fault c = λ is.
-    plan_refused c.args.message.now c.args.modules.now (table_options c.in-Ok.input.options) c.in-Ok.input.encoder c.planned_world_for.result c.args.out.now
-    c.planned_world_for.new.out c.in-Ok.ensures.encoder c.in-Ok.ensures.options (c.planned_world_for.ensures.fault is)
+    let encodes =
+    encoder_there c.args.message.now c.args.modules.now c.in-Ok.input.value c.deref.result.now c.deref.ensures
+    c.in-Ok.ensures.encoder in
+    let given = options_there c.args.message.now c.in-Ok.input.value c.deref.result.now c.deref.ensures c.in-Ok.ensures.options in
+    plan_refused c.args.message.now c.args.modules.now (table_options c.deref.result.now.options) c.deref.result.now.encoder c.planned_world_for.result c.args.out.now
+    c.planned_world_for.new.out encodes given (c.planned_world_for.ensures.fault is)
 
 pub returns-in-Err-clause-fault : goal.returns-in-Err-clause-fault
 returns-in-Err-clause-fault c = λ is.

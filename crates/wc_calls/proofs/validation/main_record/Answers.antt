@@ -1,15 +1,18 @@
-use Rattle.std.specs.Option.{option_copied}
-use Rattle.wc_calls.proofs.ModuleLemmas.{main_cause, main_place}
+use Rattle.std.proofs.Common.{refl}
+use Rattle.wc_validate.specs.Validate.{module_record}
+use Rattle.wc_world.specs.World.{IsMainRecord}
+use Rattle.wc_calls.specs.Private.ModuleAnswers.{IsMainCause}
+use Rattle.wc_calls.specs.Private.Refusals.{IsPlacedFor}
+use Rattle.wc_calls.proofs.HeapLemmas.{boxed_as}
+use Rattle.wc_calls.proofs.RefusalLemmas.{memory_as, memory_fault}
 use Rattle.wc_calls.proofs.validation.main_record.Goals as goal
 
-pub returns-in-Err-clause-fault : goal.returns-in-Err-clause-fault
-returns-in-Err-clause-fault c =
-    main_cause c.args.encoder.now (option_copied c.module_import_map-import_map.result) c.module-bytes.result.now c.in-Err.refused c.main_refusal.result
-    c.world_refusal.result c.module_import_map-import_map.ensures c.module-bytes.ensures c.in-Err.ensures.fault c.in-Err.ensures.place c.main_refusal.ensures
-    c.world_refusal.ensures
+pub returns-in-Ok-clause-recorded : goal.returns-in-Ok-clause-recorded
+returns-in-Ok-clause-recorded c =
+    boxed_as (λ v. IsMainRecord c.args.encoder.now (module_record v)) c.heaped.result c.in-Ok.module c.heaped.ensures.value c.in-Ok.ensures.recorded
 
-pub returns-in-Err-clause-place : goal.returns-in-Err-clause-place
-returns-in-Err-clause-place c =
-    main_place c.args.encoder.now (option_copied c.module_import_map-import_map.result) c.module-bytes.result.now c.in-Err.refused c.main_refusal.result
-    c.world_refusal.result c.module_import_map-import_map.ensures c.module-bytes.ensures c.in-Err.ensures.fault c.in-Err.ensures.place c.main_refusal.ensures
-    c.world_refusal.ensures
+pub returns-in-Ok-clause-fault : goal.returns-in-Ok-clause-fault
+returns-in-Ok-clause-fault c = memory_fault (IsMainCause c.args.encoder.now) c.heaped.result tt c.heaped.ensures.fault
+
+pub returns-in-Ok-clause-place : goal.returns-in-Ok-clause-place
+returns-in-Ok-clause-place c = memory_as (IsPlacedFor c.args.encoder.now) c.heaped.result refl c.heaped.ensures.fault

@@ -1,7 +1,13 @@
 use Rattle.std.specs.Option.{option_map}
+use Rattle.wc_world.specs.World.{IsMainRecord}
 use Rattle.wc_calls.proofs.FaultAnswerLemmas.{fault_others}
+use Rattle.wc_calls.proofs.HeapLemmas.{record_there}
 use Rattle.wc_calls.proofs.ModuleLemmas.{main_refused}
 use Rattle.wc_calls.proofs.validation.validate_for.Goals as goal
+
+pub validate_other-requires : goal.validate_other-requires
+validate_other-requires c =
+    record_there (IsMainRecord c.args.encoder.now) c.in-Ok.module.value c.deref-validated.result.now c.deref-validated.ensures c.in-Ok.ensures.recorded
 
 pub returns-in-Err-clause-fault : goal.returns-in-Err-clause-fault
 returns-in-Err-clause-fault c = λ is.

@@ -5,7 +5,7 @@ use Rattle.wc_calls.proofs.ModuleLemmas.{input_answered}
 use Rattle.wc_calls.proofs.validation.validate_input.Goals as goal
 
 pub returns-in-Ok-clause-done : goal.returns-in-Ok-clause-done
-returns-in-Ok-clause-done c = λ is. (module_record c.in-Ok._record, c.in-Ok.ensures.recorded)
+returns-in-Ok-clause-done c = λ is. (module_record c.in-Ok._record.value, c.in-Ok.ensures.recorded)
 
 pub returns-in-Err-clause-fault : goal.returns-in-Err-clause-fault
 returns-in-Err-clause-fault c = λ is.

@@ -55,6 +55,9 @@ returns-clause-source c =
       has_paths = record {
         paths = subst (λ es. ArePaths g (roots_of es c.in_ok-code.code.start) second c.in_ok-paths.paths) same
             (rw c.deref.ensures.value at c.in_ok-paths.ensures.paths);
+        calling = c.in_ok-callers.ensures (roots_of c.in_ok-roots.roots c.in_ok-code.code.start) second
+            (subst (λ es. ArePaths g (roots_of es c.in_ok-code.code.start) second c.in_ok-paths.paths) same
+            (rw c.deref.ensures.value at c.in_ok-paths.ensures.paths));
         items = rw c.deref-2.ensures.value at c.in_ok-items.ensures;
         named = c.in_ok-names.ensures;
       };

@@ -1,5 +1,5 @@
 use Rattle.std.proofs.Common.{◌∙◌, refl}
-use Rattle.wc_calls.proofs.explained.answer_refused.Goals as goal
+use Rattle.wc_calls.proofs.explained.answer_refusal.Goals as goal
 
 pub returns-in-Ok-clause-fault : goal.returns-in-Ok-clause-fault
 returns-in-Ok-clause-fault c = λ is. (
