@@ -43,7 +43,9 @@ def parts(page):
     was_code = is_fenced = False
     for line in page.read_text(encoding="utf-8").split("\n") + [""]:
         is_fence = line.strip().startswith("```")
-        is_code = is_fenced or re.match(" {4,}", line) is not None and not re.match(r" +(?:[-*]|\d+\.) ", line)
+        # a line of code may begin as an item of a list does, as marked lines of `wcwhy` do, but not the first one
+        is_item = re.match(r" +(?:[-*]|\d+\.) ", line) and not (was_code and lines)
+        is_code = is_fenced or re.match(" {4,}", line) is not None and not is_item
         if is_fence or not line.strip() and not is_fenced:
             end(was_code)
             is_fenced ^= is_fence

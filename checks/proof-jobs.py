@@ -4,8 +4,8 @@
     RT_JOBS=$(checks/proof-jobs.py) rt ci
 
 For a proof of one of the large crates `rt ci` reckons with 9 to 14 GB, and so has one or two under way in 24 GB, or one in
-16; it takes at most 3. With RT_JOBS it reckons with no memory. From 28 GB on it does better without: it then gives a proof
-more than one processor.
+16. The largest took 4.5 GB with two processes, of which each had 2.5. With RT_JOBS `rt ci` gives each proof one process, and
+reckons with no memory. From 28 GB on it does better without: it then gives a proof more than one processor.
 """
 import argparse
 import importlib.machinery
@@ -13,8 +13,8 @@ import importlib.util
 import shutil
 import sys
 
-# what the largest proof takes at most, with a half more; and what is free where `rt ci` had best decide itself
-PROOF, AMPLE = 4.5e9, 28e9
+# what a proof with one process takes at most, with a half more; and what is free where `rt ci` had best decide itself
+PROOF, AMPLE = 3.5e9, 28e9
 
 
 def rt():
@@ -28,7 +28,8 @@ def rt():
 
 def jobs(processors, free):
     """How many proofs fit, or none where `rt ci` had best decide itself."""
-    return None if free >= AMPLE else max(1, min(processors, int(free / PROOF)))
+    found = min(processors, int(free / PROOF))
+    return found if found > 1 and free < AMPLE else None
 
 
 def main():
