@@ -35,7 +35,7 @@ _wcplan() {
         --why) what=(-W "all \\\$root $(_wcplan_keys)") ;;
         --out) what=(-d) ;;
     esac
-    [[ $word != -* ]] || what=(-W '--adapt --export --adapter-export --reject-legacy-names --realloc-via-memory-grow --task-hook --json --why --dot --out --help --version')
+    [[ $word != -* ]] || what=(-W '--adapt --export --adapter-export --reject-legacy-names --realloc-via-memory-grow --task-hook --json --why --dot --imports --out --help --version')
     mapfile -t COMPREPLY < <(compgen "${what[@]}" -- "$word")
     ! declare -F __ltrim_colon_completions >/dev/null || __ltrim_colon_completions "$word"
 }

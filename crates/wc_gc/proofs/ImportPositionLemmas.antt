@@ -130,7 +130,7 @@ at_by_space is s (Globals, n) r = ap (λ z. slice_get z n) r.globals
 
 -- lists in which one element is put
 
-set_same : {A : Type 0} (xs : List A) (i : ℕ) (v : A) → i < length xs → slice_get (set xs i v) i ≡ Some v
+pub set_same : {A : Type 0} (xs : List A) (i : ℕ) (v : A) → i < length xs → slice_get (set xs i v) i ≡ Some v
 set_same xs i v h = slice_get-get_or (set xs i v) i v (let l = length-set xs i v in omega (arith, l, h)) ∙ ap Some (get_or-set_same xs i v v h)
 
 -- where the items of imports are, among the first so many of some items

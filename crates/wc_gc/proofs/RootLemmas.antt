@@ -43,7 +43,7 @@ split : {A : Type 0} (x y : A) (xs : List A) → Contains (x ∷ xs) y → (x �
 split x y xs (zero, h, e) = inl e
 split x y xs (suc k, h, e) = inr (k, omega (arith, h), e)
 
-in_option : {A : Type 0} (o : Option A) (x : A) → Contains (option_to_list o) x → o ≡ Some x
+pub in_option : {A : Type 0} (o : Option A) (x : A) → Contains (option_to_list o) x → o ≡ Some x
 in_option None x c = absurd (let h = c.1 in omega (arith, h))
 in_option (Some y) x c = elim (split y x [] c) [ inl e ↦ ap Some e | inr r ↦ absurd (let h = r.1 in omega (arith, h)) ]
 

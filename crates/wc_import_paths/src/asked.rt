@@ -70,7 +70,7 @@ impl<'p, 'a> Asked<'p, 'a> {
     }
 
     /// The seed of the sets.
-    pub(crate) fn seed(&self) -> Seed {
+    pub fn seed(&self) -> Seed {
         *self.set.hasher()
     }
 

@@ -190,7 +190,7 @@ module _ (firsts : List ℕ) (q : CallKey) where
       ∙ and_from (nat_eq q.0 q.0) (nat_eq q.1 q.1) (nat_eq_same q.0) (nat_eq_same q.1))
 
 -- something that passes a test is there where some does
-any_found : {X : Type 0} (test : X → Bool) (xs : List X) → list_any test xs ≡ true → (x : X) × Contains xs x × (test x ≡ true)
+pub any_found : {X : Type 0} (test : X → Bool) (xs : List X) → list_any test xs ≡ true → (x : X) × Contains xs x × (test x ≡ true)
 any_found test [] h = absurd (let bad : ⊥ = cc h in bad)
 any_found {X} test (x ∷ xs) h =
     elim (or_cases (test x) (list_any test xs) h) [

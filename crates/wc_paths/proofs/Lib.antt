@@ -20,3 +20,5 @@ pub mod OnPathLemmas
 pub mod CallListLemmas
 pub mod EqualTypeLemmas
 pub mod CallerLemmas
+pub mod ChainTreeLemmas
+pub mod PathTreeLemmas

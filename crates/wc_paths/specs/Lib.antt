@@ -15,3 +15,5 @@ pub mod Callers
 pub mod OnPaths
 pub mod Dominators
 pub mod Private
+pub mod ChainTree
+pub mod PathTree

@@ -11,3 +11,5 @@ pub mod OnPaths
 pub mod CallLists
 pub mod EqualTypes
 pub mod Callers
+pub mod ChainTree
+pub mod PathTree

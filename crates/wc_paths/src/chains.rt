@@ -6,7 +6,7 @@ ghost use Rattle.wc_gc.specs.Reached.{IsReachedFrom};
 ghost use Rattle.wc_paths.specs.Search.{IsSearchFault};
 
 use crate::chain_marks::on_chains;
-use crate::places::{is_missing_at, marks_by, missing_of, positions_at};
+use crate::places::{is_missing_at, marks_by, missing_of, place_at, positions_at};
 use crate::search::{Graph, SearchFault, find_all};
 use crate::tree::Tree;
 use std::alloc::{AllocError, Global};
@@ -24,7 +24,7 @@ impl Chains {
     ghost use Rattle.std.specs.Prelude.{filter, not};
     ghost use Rattle.wc_paths.specs.Chains.{AreChains, IsChainAnswer};
     ghost use Rattle.wc_paths.specs.OnChains.{AreMarkedTo};
-    ghost use Rattle.wc_paths.specs.Private.Places.{is_missing_at};
+    ghost use Rattle.wc_paths.specs.Private.Places.{is_missing_at, place_at};
 
     /// The shortest chain from a root to an item, and of several the first, by the order of the roots, and then by that in
     /// which each item names others; `None` where none leads there. It takes time and memory for the items of this chain.
@@ -65,6 +65,27 @@ impl Chains {
         ensures { result ≡ not (is_missing_at self.now.places.items item) }
     {
         !is_missing_at(&self.places, item)
+    }
+
+    /// The items that roots reach, in the order in which they were found.
+    pub(crate) fn found(&self) -> &[usize]
+        ensures { result.now ≡ self.now.tree.order.items }
+    {
+        &self.tree.order
+    }
+
+    /// For each of them the position of its finder among them; that of a root is its own.
+    pub(crate) fn finders(&self) -> &[usize]
+        ensures { result.now ≡ self.now.tree.finder.items }
+    {
+        &self.tree.finder
+    }
+
+    /// The position of an item among them; `None` where no root reaches it.
+    pub(crate) fn place(&self, item: usize) -> Option<usize>
+        ensures { result ≡ place_at self.now.places.items item }
+    {
+        place_at(&self.places, item)
     }
 
     /// Those of some items to which no chain leads, in order.

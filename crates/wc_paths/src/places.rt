@@ -8,7 +8,7 @@ ghost use Rattle.wc_paths.specs.Private.Places.{is_missing_at, is_set_in, mark_b
 use std::alloc::{AllocError, Global};
 
 /// The position of an item; `None` where it was not found.
-fn place_at(places: &[Option<usize>], item: usize) -> Option<usize>
+pub(crate) fn place_at(places: &[Option<usize>], item: usize) -> Option<usize>
     ensures { result ≡ place_at places.now item }
 {
     match places.get(item) {

@@ -58,6 +58,7 @@ fn put_command(out: &mut Lines, command: &Command<'_>) {
     put_flag(out, "json", command.json);
     put_value(out, "why", command.why);
     put_flag(out, "dot", command.dot);
+    put_flag(out, "imports", command.imports);
     put_value(out, "out", command.out);
 }
 

@@ -4,7 +4,7 @@ use Rattle.std.specs.List.{flat_map}
 use Rattle.wc_ways.specs.Said.{AreEach, Says}
 use Rattle.wc_ways.proofs.WalkLemmas.{appended}
 
-each_more : {X A : Type 0} (Is : X → List A → Type 0) (xs : List X) (x : X) (parts more : List A) → AreEach Is xs parts → Is x more
+pub each_more : {X A : Type 0} (Is : X → List A → Type 0) (xs : List X) (x : X) (parts more : List A) → AreEach Is xs parts → Is x more
     → AreEach Is (xs ++ x ∷ []) (parts ++ more)
 each_more Is [] x parts more none is = (more, [], is, refl, ap (λ z. z ++ more) none ∙ sym (append-nil more))
 each_more Is (y ∷ ys) x parts more (first, rest, here, others, joined) is =

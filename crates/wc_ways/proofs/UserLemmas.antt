@@ -26,7 +26,7 @@ use Rattle.wc_ways.specs.Users.{Uses, first_user, live_types_in, types_in}
 
 -- what is found first in one list after another
 
-or_first : {X : Type 0} (x y z : Option X) → option_or (option_or x y) z ≡ option_or x (option_or y z)
+pub or_first : {X : Type 0} (x y z : Option X) → option_or (option_or x y) z ≡ option_or x (option_or y z)
 or_first None y z = refl
 or_first (Some x) y z = refl
 

@@ -9,4 +9,9 @@ pub mod Said
 pub mod Ways
 pub mod Nodes
 pub mod WaysFaults
+pub mod Summary
+pub mod SummaryLines
+pub mod SummaryJson
+pub mod Leads
+pub mod Imports
 pub mod Private

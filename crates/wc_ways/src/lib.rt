@@ -10,8 +10,11 @@
 
 mod adapters;
 mod asked;
+mod entries;
 mod forms;
 mod graph;
+mod imports;
+mod leads;
 mod main_graph;
 mod main_paths;
 mod main_ways;
@@ -19,8 +22,16 @@ mod modules;
 mod originals;
 mod paths;
 mod recorded;
+mod summary;
+mod summary_adapters;
+mod summary_json;
+mod summary_lines;
+mod summary_main;
+mod tags;
 mod types;
 mod users;
+mod uses;
 mod ways;
 
+pub use imports::{imports_json, imports_text};
 pub use ways::{ways_graph, ways_json, ways_text};

@@ -26,7 +26,7 @@ use wc_why::{Step, Unfollowed, push_path_items};
 /// A main module that is followed.
 #[derive(Drop)]
 pub(crate) struct Followed<'r> {
-    segments: Segments<'r>,
+    pub(crate) segments: Segments<'r>,
     /// Its exports, at which paths begin.
     roots: PathRoots<'r>,
     /// The paths from its exports, its start function and its active segments.
@@ -123,7 +123,7 @@ fn names_of(alloc: Global, wasm: &[u8]) -> Result<OrderedMap<u32, &str>, AllocEr
 }
 
 /// Follows a module with these bytes, as far as it can be read.
-fn follow<'r>(
+pub(crate) fn follow<'r>(
     alloc: Global,
     seed: Seed,
     wasm: &'r [u8],

@@ -141,7 +141,11 @@ pub(crate) fn asked_import<'a>(
 }
 
 /// The record of an import, by its module and its name.
-fn recorded_at<'a>(imports: &'a ImportMap, from: &str, name: &str) -> Option<&'a Recorded>
+pub(crate) fn recorded_at<'a>(
+    imports: &'a ImportMap,
+    from: &str,
+    name: &str,
+) -> Option<&'a Recorded>
     ensures { option_map (λ i. import_view i.now) result
         ≡ recorded_at imports.now from.now name.now }
 {

@@ -18,6 +18,7 @@ pub record CommandView : Type 0 where
   pub json : Bool
   pub why : Option (List ℕ)
   pub dot : Bool
+  pub imports : Bool
   pub out : Option (List ℕ)
 
 abbrev pub command_view : Command → CommandView
@@ -34,5 +35,6 @@ command_view c = record {
   json = c.json;
   why = option_map text_of c.why;
   dot = c.dot;
+  imports = c.imports;
   out = option_map text_of c.out;
 }

@@ -44,6 +44,7 @@ use Rattle.wc_world.specs.declared.fault.WorldFault.TheVariants.{Memory as world
 use Rattle.wc_gc.specs.declared.fault.GcFault.TheVariants.{Memory as gc_memory}
 use Rattle.wc_ways.specs.Ways.{IsWaysJson, IsWaysText}
 use Rattle.wc_ways.specs.WaysFaults.{IsWaysFault}
+use Rattle.wc_ways.specs.Imports.{IsImportsJson, IsImportsText}
 use Rattle.wc_ways.specs.Nodes.{IsWaysGraph}
 use Rattle.wc_selection.specs.KeyNames.{request_keys}
 use Rattle.wc_selection.specs.Keys.{NamedKey, texts_of}
@@ -177,9 +178,19 @@ IsPrintedWays true asks_json w key text = IsWaysGraph w key text
 IsPrintedWays false true w key text = IsWaysJson w key text
 IsPrintedWays false false w key text = IsWaysText w key text
 
--- what a command prints of its component's world: why the key is imported that it asks about; without one the text above
+-- what is imported of each interface, as it is printed: as JSON, if that is asked for; or in lines
+abbrev pub IsPrintedImports : Bool → ComponentWorldView → List ℕ → Type 0
+IsPrintedImports true w text = IsImportsJson w text
+IsPrintedImports false w text = IsImportsText w text
+
+-- what is printed where no key is asked about: what is imported of each interface, if that is asked for; or the text above
+abbrev pub IsPrintedWithoutKey : Bool → Bool → ComponentWorldView → List ℕ → Type 0
+IsPrintedWithoutKey true asks_json w text = IsPrintedImports asks_json w text
+IsPrintedWithoutKey false asks_json w text = text ≡ printed_text asks_json w
+
+-- what a command prints of its component's world: why the key is imported that it asks about; without one what is above
 abbrev pub IsPrintedText : CommandView → ComponentWorldView → List ℕ → Type 0
-IsPrintedText c w text = MatchOption c.why (text ≡ printed_text c.json w) (λ key. IsPrintedWays c.dot c.json w key text)
+IsPrintedText c w text = MatchOption c.why (IsPrintedWithoutKey c.imports c.json w text) (λ key. IsPrintedWays c.dot c.json w key text)
 
 -- `DIRECTORY/NAME.wasm`
 abbrev pub path_in : List ℕ → List ℕ → List ℕ

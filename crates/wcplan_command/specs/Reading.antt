@@ -23,6 +23,7 @@ option_table =
     ∷ record { name = codes "--json"; value = Nothing; repeats = false }
     ∷ record { name = codes "--why"; value = Key; repeats = false }
     ∷ record { name = codes "--dot"; value = Nothing; repeats = false }
+    ∷ record { name = codes "--imports"; value = Nothing; repeats = false }
     ∷ record { name = codes "--out"; value = Text; repeats = false }
     ∷ []
 
@@ -52,12 +53,15 @@ standard_inputs c = filter is_standard (c.worlds ∷ c.main ∷ second_parts c.a
 abbrev pub are_inputs_apart : CommandView → Bool
 are_inputs_apart c = nat_lt (length (standard_inputs c)) 2
 
--- a command whose options and files fit together: a graph is one of ways, and no JSON
+-- a command whose options and files fit together: either why a key is imported is printed or what is; a graph is one of ways, and
+-- no JSON
 abbrev pub fitting : CommandView → Reading CommandView
 fitting c =
-    cond (c.dot && not (is_some c.why)) (Err (wrong (missing (codes "--why"))))
+    cond (c.imports && is_some c.why) (Err (wrong (together (codes "--imports") (codes "--why"))))
+    (cond (c.imports && c.dot) (Err (wrong (together (codes "--imports") (codes "--dot"))))
+    (cond (c.dot && not (is_some c.why)) (Err (wrong (missing (codes "--why"))))
     (cond (c.dot && c.json) (Err (wrong (together (codes "--dot") (codes "--json"))))
-    (cond (not (are_inputs_apart c)) (Err (wrong (repeated_option (codes "-")))) (Ok c)))
+    (cond (not (are_inputs_apart c)) (Err (wrong (repeated_option (codes "-")))) (Ok c)))))
 
 -- the command with these paths, and this world, if one is named
 abbrev pub command_with : List TokenView → List ℕ → Option (List ℕ) → List ℕ → CommandView
@@ -74,6 +78,7 @@ command_with tokens worlds world main = record {
   json = is_given (codes "--json") tokens;
   why = first (values_of (codes "--why") tokens);
   dot = is_given (codes "--dot") tokens;
+  imports = is_given (codes "--imports") tokens;
   out = first (values_of (codes "--out") tokens);
 }
 

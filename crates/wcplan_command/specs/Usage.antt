@@ -5,7 +5,7 @@ use Rattle.std.specs.Prelude.{ℕ, List, ◌++◌, codes}
 abbrev pub usage_text : List ℕ
 usage_text =
     codes "usage: wcplan WORLDS.json [WORLD] MAIN.wasm [--adapt [NAME=]FILE]... [--export KEY]... [--adapter-export NAME=KEY]...\n"
-    ++ (codes "              [--reject-legacy-names] [--realloc-via-memory-grow] [--task-hook NAME] [--json] [--why KEY [--dot]] [--out DIR]\n"
+    ++ (codes "              [--reject-legacy-names] [--realloc-via-memory-grow] [--task-hook NAME] [--json] [--why KEY [--dot]] [--imports] [--out DIR]\n"
     ++ codes "       wcplan --help | --version\n")
 
 -- what each argument is
@@ -20,13 +20,14 @@ options_text =
     ++ (codes "  --reject-legacy-names      refuse names of the older scheme\n"
     ++ (codes "  --realloc-via-memory-grow  let adapters grow memory for themselves\n"
     ++ (codes "  --task-hook NAME           the export of MAIN.wasm that is the hook of tasks\n"
-    ++ (codes "  --json                     print the component's world and its plan as JSON; with --why the ways\n"
+    ++ (codes "  --json                     print the component's world and its plan as JSON; with --why the ways, with --imports these\n"
     ++ (codes "  --why KEY                  print why the interface KEY is imported; why each is, if KEY is `all`\n"
     ++ (codes "  --dot                      print that as a graph, in the language of Graphviz\n"
+    ++ (codes "  --imports                  print for each interface by which modules it is imported, and with what it goes\n"
     ++ (codes "  --out DIR                  write the modules to DIR, which is made if need be\n"
     ++ (codes "  -                          standard input, as WORLDS.json, MAIN.wasm or FILE\n"
     ++ (codes "  -h, --help                 print this text\n"
-    ++ codes "  --version                  print the version\n"))))))))))))))
+    ++ codes "  --version                  print the version\n")))))))))))))))
 
 abbrev pub help_text : List ℕ
 help_text = usage_text ++ options_text

@@ -41,12 +41,14 @@ pub struct Command<'a> {
     pub why: Option<&'a str>,
     /// Whether this is printed as a graph, in place of lines.
     pub dot: bool,
+    /// Whether what is imported of each interface is printed, in place of the lines of the plan.
+    pub imports: bool,
     /// The path of the directory that files are written to, if they are.
     pub out: Option<&'a str>,
 }
 
 /// The options.
-pub(crate) const OPTIONS: [ProgramOption; 10] = [
+pub(crate) const OPTIONS: [ProgramOption; 11] = [
     ProgramOption {
         name: "--adapt",
         value: Value::Text,
@@ -94,7 +96,7 @@ pub(crate) const OPTIONS: [ProgramOption; 10] = [
         value: Value::Nothing,
         repeats: false,
         usage: " [--json]",
-        help: "  --json                     print the component's world and its plan as JSON; with --why the ways\n",
+        help: "  --json                     print the component's world and its plan as JSON; with --why the ways, with --imports these\n",
     },
     ProgramOption {
         name: "--why",
@@ -109,6 +111,13 @@ pub(crate) const OPTIONS: [ProgramOption; 10] = [
         repeats: false,
         usage: "",
         help: "  --dot                      print that as a graph, in the language of Graphviz\n",
+    },
+    ProgramOption {
+        name: "--imports",
+        value: Value::Nothing,
+        repeats: false,
+        usage: " [--imports]",
+        help: "  --imports                  print for each interface by which modules it is imported, and with what it goes\n",
     },
     ProgramOption {
         name: "--out",
@@ -213,6 +222,7 @@ fn command_from<'a>(
         json: has_option(arguments, "--json"),
         why: option_value(arguments, "--why"),
         dot: has_option(arguments, "--dot"),
+        imports: has_option(arguments, "--imports"),
         out: option_value(arguments, "--out"),
     }
 }
@@ -292,6 +302,18 @@ fn pair_or(value: &str) -> (&str, &str)
 fn fitting<'a>(command: Command<'a>) -> Result<Command<'a>, NoCommand<'a>>
     ensures { IsReadWithoutMemory command_view result (fitting (command_view command.entry)) }
 {
+    if command.imports && command.why.is_some() {
+        return Err(NoCommand::Wrong(WrongArgument::Together {
+            option: "--imports",
+            other: "--why",
+        }));
+    }
+    if command.imports && command.dot {
+        return Err(NoCommand::Wrong(WrongArgument::Together {
+            option: "--imports",
+            other: "--dot",
+        }));
+    }
     if command.dot && command.why.is_none() {
         return Err(NoCommand::Wrong(WrongArgument::Missing("--why")));
     }

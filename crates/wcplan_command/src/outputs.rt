@@ -11,7 +11,7 @@ ghost use Rattle.wc_program.specs.Files.{FailsBy, FailsFrom, store_change};
 ghost use Rattle.wc_program.specs.Screen.{Becomes};
 ghost use Rattle.wc_ways.specs.WaysFaults.{IsWaysFault};
 ghost use Rattle.wcplan_command.specs.Arguments.{command_view};
-ghost use Rattle.wcplan_command.specs.Program.{IsFileFault, IsPrintedText, IsPrintedWays, WritesAll, file_view, files_of, path_in, printed_text, record_line};
+ghost use Rattle.wcplan_command.specs.Program.{IsFileFault, IsPrintedImports, IsPrintedText, IsPrintedWays, WritesAll, file_view, files_of, path_in, printed_text, record_line};
 ghost use Rattle.wcplan_command.specs.Private.Runs.{IsDescriptionFault, IsMakingFault, IsWritingFault};
 
 use crate::arguments::Command;
@@ -23,7 +23,7 @@ use wc_plan::Plan;
 use wc_program::{DirectoryStore, Screen, problem_of};
 use wc_record::planned_world_to_json;
 use wc_texts::PutFailed;
-use wc_ways::{ways_graph, ways_json, ways_text};
+use wc_ways::{imports_json, imports_text, ways_graph, ways_json, ways_text};
 use wc_world::ComponentWorld;
 
 /// The text that a command prints of its component's world, which has this plan.
@@ -41,7 +41,13 @@ pub(crate) fn description_of<'a>(
 {
     match command.why {
         Some(key) => Ok(ways_of(alloc, command.dot, command.json, world, key)?),
-        None => Ok(plan_text(alloc, command.json, world, plan)?),
+        None => {
+            if command.imports {
+                Ok(imports_of(alloc, command.json, world)?)
+            } else {
+                Ok(plan_text(alloc, command.json, world, plan)?)
+            }
+        }
     }
 }
 
@@ -81,6 +87,24 @@ fn ways_of(
         ways_json(alloc, world, key)
     } else {
         Ok(ways_text(alloc, world, key)?.into_bytes())
+    }
+}
+
+/// The imports of each interface: as JSON, if that is asked for, or in lines.
+fn imports_of(
+    alloc: Global,
+    asks_json: bool,
+    world: &ComponentWorld<'_>,
+) -> Result<Vec<u8>, GcFault>
+    requires { AreNameable (world_view world.now) }
+    ensures text { IfOk result (λ text. IsPrintedImports asks_json
+        (world_view world.now) text.items) }
+    ensures fault { IfErr result (IsWaysFault (world_view world.now)) }
+{
+    if asks_json {
+        imports_json(alloc, world)
+    } else {
+        Ok(imports_text(alloc, world)?.into_bytes())
     }
 }
 

@@ -1,0 +1,4 @@
+pub mod AloneLemmas
+pub mod LabelLemmas
+pub mod LeadLemmas
+pub mod MarkLemmas

@@ -1,0 +1,5 @@
+pub mod Alone
+pub mod Labels
+pub mod Leads
+pub mod Positions
+pub mod Private

@@ -1,0 +1,4 @@
+pub mod Alone
+pub mod Labels
+pub mod Leads
+pub mod Marks
