@@ -211,11 +211,11 @@ nuigatre_answer nuigatre_scan(const uint8_t *wasm, size_t wasm_length, uint8_t *
  * interfaces, as `wasi:io/error` and `wasi:io`, each with its version or without, and `KEY=NAME` for those of them that have
  * this name; KEY ends at the first `=`. Without texts all are asked for.
  *
- * NUIGATRE_DONE: `out` has a line of JSON, as `wcwhy --json` prints it: an object whose member `ways` lists the paths, in
- * the order of the imports. Each has the import's module as `interface`, its `name`, and its `steps`: where it begins, and
- * then items, functions with their names. It is the shortest, and of several the first. An import to which no path leads is
- * left out, and so is what the module does not import. Where texts ask for imports, each item has a last member `only`:
- * whether each path to any of these imports goes through it, and it is none of them.
+ * NUIGATRE_DONE: `out` has a line of JSON: an object whose member `ways` lists the paths, in the order of the imports. Each
+ * has the import's module as `interface`, its `name`, and its `steps`: where it begins, and then items, functions with their
+ * names. It is the shortest, and of several the first. An import to which no path leads is left out, and so is what the
+ * module does not import. Where texts ask for imports, each item has a last member `only`: whether each path to any of these
+ * imports goes through it, and it is none of them.
  * NUIGATRE_BAD_ARGUMENT: a name, or a text of `imports`, is not UTF-8.
  * NUIGATRE_FAULT: a fault of nuigatre_gc_fault: NUIGATRE_GC_READ, NUIGATRE_GC_MISSING_EXPORT or NUIGATRE_GC_LIVE_BODY. `out`
  * has a JSON object that says what it is about, or `length` is 0.

@@ -180,7 +180,7 @@ def instantiation():
 
 COLUMNS = ["components", "modules and formats", "programs", "tests"]
 ROOMS = dict(zip(COLUMNS, map(str.split, [
-    "wc_maps wc_resolve wc_adapters wc_names wc_validate wc_world wc_plan wc_why wc_import_paths wc_ways",
+    "wc_maps wc_resolve wc_adapters wc_names wc_validate wc_world wc_plan wc_why wc_tree wc_import_paths wc_ways",
     "wc_texts wc_read wc_write wc_uses wc_gc wc_dedupe wc_segments wc_paths wc_spread wc_encoder wc_json wc_selection wc_record wc_calls nuigatre",
     "wc_program wc_options wctrim_command wctrim wcwhy_command wcwhy wcplan_command wcplan",
     "wc_lines wc_rows wc_fixtures wc_name_rows wc_module_rows wc_component_rows wc_example_rows wc_tests"])))

@@ -118,7 +118,7 @@ module _ (bytes : List ℕ) (o : OnPaths) (c : Callers) (names : List GlobalName
       path_by i root steps = record { interface = i.module_name; target = named i.name; steps = begun false root ∷ steps }
 
 -- all of a path to an item is on the paths to it
-all_on : (o : OnPaths) (xs : List PathItem) → ((x : PathItem) → Contains xs x → is_on o x ≡ true) → list_all (is_on o) xs ≡ true
+pub all_on : (o : OnPaths) (xs : List PathItem) → ((x : PathItem) → Contains xs x → is_on o x ≡ true) → list_all (is_on o) xs ≡ true
 all_on o [] h = refl
 all_on o (x ∷ xs) h =
     and_from (is_on o x) (list_all (is_on o) xs) (h x (0, omega arith, refl)) (all_on o xs (λ y (k, lt, e). h y (suc k, omega (arith, lt), e)))

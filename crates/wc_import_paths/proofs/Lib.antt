@@ -8,3 +8,4 @@ pub mod WayLemmas
 pub mod MarkLemmas
 pub mod JsonLemmas
 pub mod FunctionNameLemmas
+pub mod ShownLemmas

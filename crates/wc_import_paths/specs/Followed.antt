@@ -1,21 +1,23 @@
 -- A module that is followed, and the paths in it.
-use Rattle.std.specs.Prelude.{◌≡◌, ℕ, List, [], MatchOption, Option, Some}
-use Rattle.std.specs.List.{slice_get}
+use Rattle.std.specs.Prelude.{◌≡◌, ℕ, Bool, true, List, [], MatchOption, Option, Some}
+use Rattle.std.specs.List.{list_all, slice_get}
 use Rattle.wc_read.specs.Imports.{ImportValue}
 use Rattle.wc_read.specs.Modules.{module_value}
 use Rattle.wc_read.specs.Names.{GlobalNameValue, name_entries}
 use Rattle.wc_read.specs.Reading.Names.{AreFunctionNames}
 use Rattle.wc_segments.specs.Segments.{segments_value}
 use Rattle.wc_paths.specs.Callers.{IsCalling, calling_of}
-use Rattle.wc_paths.specs.Paths.{ArePaths}
+use Rattle.wc_paths.specs.OnPaths.{is_on}
+use Rattle.wc_paths.specs.Paths.{ArePaths, IsPathFrom}
 use Rattle.wc_paths.specs.Roots.{AreImportItems, import_item}
+use Rattle.wc_paths.specs.declared.items.PathItem.{PathItem}
 use Rattle.wc_why.specs.MarkedPaths.{Marking}
 use Rattle.wc_why.specs.Paths.{PathView}
 use Rattle.wc_import_paths.specs.AskedMarks.{AreMarks}
 use Rattle.wc_import_paths.specs.Following.{FollowedView, IsFollowed, first_in, graph_in, second_in}
 use Rattle.wc_import_paths.specs.JsonPaths.{IsJson, IsPathTo, IsUnreached}
 use Rattle.wc_import_paths.specs.FunctionNames.{AreNamesOn}
-use Rattle.wc_import_paths.specs.Patterns.{PatternView}
+use Rattle.wc_import_paths.specs.Patterns.{PatternView, is_shown}
 use Rattle.wc_import_paths.specs.declared.followed.Followed.{Followed}
 
 -- the module that is followed, with some names of functions
@@ -38,6 +40,15 @@ pub record HasPaths (f : Followed) : Type 0 where
   pub calling : IsCalling (graph_in (followed_view f [])) (first_in (followed_view f [])) (second_in (followed_view f [])) (calling_of f.callers)
   pub items : AreImportItems (module_value f.code).imports f.items.items
   pub named : AreNamesOn f.bytes.now f.shown f.callers (name_entries f.names)
+
+-- all of the path to an import that is asked for is among the items that are shown
+abbrev pub AreShown : Followed → List PatternView → Type 0
+AreShown f patterns =
+    (position : ℕ) (i : ImportValue) → slice_get (module_value f.code).imports position ≡ Some i → is_shown patterns i ≡ true
+    → (is_second : Bool) (path : List PathItem)
+    → IsPathFrom (graph_in (followed_view f [])) (first_in (followed_view f [])) (second_in (followed_view f []))
+    (import_item (module_value f.code).imports position i) is_second path
+    → list_all (is_on f.shown) path ≡ true
 
 -- it is the module with these bytes, followed from its exports of these names
 pub record IsSource (bytes : List ℕ) (exports : List (List ℕ)) (f : Followed) : Type 0 where

@@ -12,7 +12,7 @@ ghost use Rattle.wc_paths.specs.Roots.{roots_of, second_roots};
 ghost use Rattle.wc_why.specs.Paths.{text_of};
 ghost use Rattle.wc_import_paths.specs.Following.{IsRefusal, body_place, section_id};
 ghost use Rattle.wc_import_paths.specs.Roots.{exports_for};
-ghost use Rattle.wc_import_paths.specs.Followed.{IsSource};
+ghost use Rattle.wc_import_paths.specs.Followed.{AreShown, IsSource};
 ghost use Rattle.wc_import_paths.specs.Private.Followed.{IsExportRefusal, IsPathsRefusal, IsReadRefusal, IsSegmentsRefusal, IsUnreadRefusal, IsUnreadSegments};
 
 use crate::asked::Asked;
@@ -79,6 +79,7 @@ pub fn follow<'r>(
     export_names: &[&str],
 ) -> Result<Followed<'r>, Refusal>
     ensures source { IfOk result (IsSource bytes.now (map text_of export_names.now)) }
+    ensures shown { IfOk result (λ f. AreShown f asked.now) }
     ensures refused { IfErr result (λ r.
         IsRefusal bytes.now (map text_of export_names.now) r.fault r.place) }
 {

@@ -172,8 +172,12 @@ fn put_root(out: &mut Writer, root: PathRoot<'_>) -> Result<(), AllocError>
     }
 }
 
-/// Writes a step that is of a kind, and has no other members.
-fn put_kind(out: &mut Writer, kind: &str) -> Result<(), AllocError>
+/// Writes an object that says of what kind something is, and has no other member: the member `kind`.
+///
+/// # Errors
+///
+/// `AllocError`: an allocation failed.
+pub fn put_kind(out: &mut Writer, kind: &str) -> Result<(), AllocError>
     ensures { OnOk result (Puts out.old out.new (json_tokens (kind_json kind.now))) }
 {
     begin_object(out)?;
@@ -181,8 +185,12 @@ fn put_kind(out: &mut Writer, kind: &str) -> Result<(), AllocError>
     end_object(out)
 }
 
-/// Writes what a segment fills.
-fn put_fills(out: &mut Writer, space: &str, index: u32) -> Result<(), AllocError>
+/// Writes what a segment fills, as an object: `kind`, which is `fills`, `space`, and the `index` of the table or memory.
+///
+/// # Errors
+///
+/// `AllocError`: an allocation failed.
+pub fn put_fills(out: &mut Writer, space: &str, index: u32) -> Result<(), AllocError>
     ensures { OnOk result (Puts out.old out.new (json_tokens (fills_json space.now index))) }
 {
     begin_object(out)?;

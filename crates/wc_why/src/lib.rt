@@ -21,8 +21,8 @@ pub use graph::{
     NodeNames, Tree, arrow_text, export_id, item_id, item_nodes, target_box, target_node,
 };
 pub use json_paths::{
-    begin_object, begin_paths, end_object, end_paths, put_null, put_number, put_text,
-    put_text_or_null,
+    begin_object, begin_paths, end_object, end_paths, put_fills, put_kind, put_null, put_number,
+    put_text, put_text_or_null,
 };
 pub use keys::{asks_about, package_of, package_text, unversioned, version_of};
 pub use lines::{

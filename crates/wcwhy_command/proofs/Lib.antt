@@ -2,6 +2,7 @@ mod JoinedLemmas
 mod ArgumentLemmas
 mod ItemLemmas
 mod LineLemmas
+mod TreeLemmas
 mod ExecutionLemmas
 mod RunLemmas
 mod NearExportLemmas

@@ -7,5 +7,6 @@ pub mod Lines
 pub mod Graph
 pub mod NearExports
 pub mod Fault
+pub mod Tree
 pub mod Program
 pub mod Private

@@ -26,11 +26,11 @@ use Rattle.wcwhy_command.specs.Arguments.{CommandView}
 use Rattle.wcwhy_command.specs.Reading.{AsksMemory, read_arguments}
 use Rattle.wcwhy_command.specs.Usage.{usage_text, help_text, version_text, no_text, fault_line, fault_and_usage}
 use Rattle.wc_import_paths.specs.Following.{FollowedView, IsFollowed, IsRefusal}
-use Rattle.wc_import_paths.specs.JsonPaths.{IsJson}
 use Rattle.wcwhy_command.specs.Lines.{AreLines}
 use Rattle.wcwhy_command.specs.Graph.{IsGraph}
 use Rattle.wcwhy_command.specs.NearExports.{IsNearFor}
 use Rattle.wcwhy_command.specs.Fault.{NeedsText, near_text, why_fault_text}
+use Rattle.wcwhy_command.specs.Tree.{IsTreeJson}
 use Rattle.wc_import_paths.specs.declared.patterns.ImportPattern.{ImportPattern}
 use Rattle.wcwhy_command.specs.declared.fault.WhyFault.{WhyFault}
 use Rattle.wcwhy_command.specs.declared.fault.WhyFault.TheVariants.{Memory, CannotRead, Source, NoImport, Output}
@@ -45,9 +45,9 @@ pub record IsGraphOf (c : CommandView) (bytes text : List ℕ) : Type 0 where
   pub named : AreFunctionNames bytes names
   pub is : IsGraph (first_occurrences c.exports) adapter names c.imports text
 
--- what is printed of a module that is followed: JSON, where it is asked for; else lines
+-- what is printed of a module that is followed: the tree of its paths as JSON, where it is asked for; else lines
 abbrev pub IsSourceTextBy : Bool → FollowedView → List PatternView → List ℕ → Type 0
-IsSourceTextBy true f patterns text = IsJson f patterns text
+IsSourceTextBy true f patterns text = IsTreeJson f patterns text
 IsSourceTextBy false f patterns text = AreLines f patterns text
 
 -- without it the bytes spell a module that is followed and has some of these imports, and this is printed of it

@@ -6,7 +6,7 @@ ghost use Rattle.wc_gc.specs.LiveItems.{names_of};
 ghost use Rattle.wc_texts.specs.Names.{first_occurrences};
 ghost use Rattle.wc_program.specs.Screen.{Becomes, output_ends};
 ghost use Rattle.wc_why.specs.Paths.{text_of};
-ghost use Rattle.wc_import_paths.specs.Followed.{HasPaths};
+ghost use Rattle.wc_import_paths.specs.Followed.{AreShown, HasPaths};
 ghost use Rattle.wcwhy_command.specs.Arguments.{command_view};
 ghost use Rattle.wcwhy_command.specs.Program.{IsGraphOf, IsPrintCause, IsPrintedOf, IsSourceOf};
 ghost use Rattle.wcwhy_command.specs.Private.Execution.{ArePrinted, IsFollowedCause, IsGraphPrintCause, IsNoImportFault, IsReasonsCause, IsSourcePrintCause, IsSourcePrinted, PrintsSome};
@@ -16,9 +16,9 @@ ghost use Rattle.wcwhy_command.specs.Private.Reasons.{AreReasons, IsGraphIn, IsS
 use crate::arguments::Command;
 use crate::fault::{PrintFault, WhyFault, near_text, source_fault};
 use crate::graph::put_graph;
-use crate::json_paths::put_json;
 use crate::lines::put_lines;
 use crate::reasons::{Found, Reasons};
+use crate::tree::put_json;
 use std::alloc::{AllocError, Global};
 use wc_gc::why_imports_explained;
 use wc_import_paths::{Asked, Followed, ImportPattern, follow};
@@ -265,6 +265,7 @@ fn print_source<'a, O: Output>(
     out: &mut O,
 ) -> Result<(), WhyFault<'a>>
     requires paths { HasPaths followed.now }
+    requires shown { AreShown followed.now asked.now }
     requires asked { asked.now ≡ (command_view command.now).imports }
     ensures done { OnOk result (IsSourcePrinted (command_view command.now) followed.now
         (Becomes (output_ends O.written O.sent O.is_failed) out.old out.new)) }
@@ -290,7 +291,8 @@ fn put_source_and_flush<O: Output>(
     followed: &Followed<'_>,
     out: &mut O,
 ) -> Result<(), PrintFault>
-    requires { HasPaths followed.now }
+    requires paths { HasPaths followed.now }
+    requires shown { AreShown followed.now asked.now }
     ensures done { OnOk result (PrintsSome (IsSourceText json followed.now asked.now)
         (Becomes (output_ends O.written O.sent O.is_failed) out.old out.new)) }
     ensures output { IsErrOf result PrintFault.Output → O.is_failed out.new ≡ true }
@@ -300,7 +302,7 @@ fn put_source_and_flush<O: Output>(
     Ok(())
 }
 
-/// Puts why imports of a module that is followed stay: as JSON, if it is asked for, or else in lines.
+/// Puts why imports of a module that is followed stay: the tree of their paths as JSON, if it is asked for, or else lines.
 fn put_source<S: Sink>(
     alloc: Global,
     json: bool,
@@ -308,7 +310,8 @@ fn put_source<S: Sink>(
     followed: &Followed<'_>,
     out: &mut S,
 ) -> Result<(), PrintFault>
-    requires { HasPaths followed.now }
+    requires paths { HasPaths followed.now }
+    requires shown { AreShown followed.now asked.now }
     ensures done { OnOk result (PutsSome (IsSourceText json followed.now asked.now)
         (S.written out.old) (S.written out.new)) }
     ensures works { OnOk result (S.is_failed out.new ≡ S.is_failed out.old) }

@@ -10,13 +10,13 @@ mod arguments;
 mod execution;
 mod fault;
 mod graph;
-mod json_paths;
 mod lines;
 mod near_exports;
 mod patterns;
 mod program;
 mod reasons;
 mod texts;
+mod tree;
 mod usage;
 
 pub use arguments::{Command, NoCommand, WrongArgument, parse};

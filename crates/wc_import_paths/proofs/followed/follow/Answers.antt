@@ -1,4 +1,5 @@
-use Rattle.std.proofs.Common.{◌≡◌, ◌∙◌, map, refl, subst, sym}
+use Rattle.std.proofs.Common.{◌≡◌, ◌∙◌, length, map, refl, subst, sym}
+use Rattle.std.proofs.lemmas.List.{length-map}
 use Rattle.std.proofs.lemmas.Result.{err_from_is_err_and}
 use Rattle.wc_read.specs.Exports.{export_value}
 use Rattle.wc_read.specs.Modules.{module_value}
@@ -6,7 +7,12 @@ use Rattle.wc_segments.specs.Segments.{segments_value}
 use Rattle.wc_paths.specs.Paths.{AreClosed, ArePaths, IsReachedInAny, graph_in}
 use Rattle.wc_paths.specs.Roots.{roots_of, second_roots}
 use Rattle.wc_why.specs.Paths.{text_of}
+use Rattle.wc_read.specs.Imports.{import_value}
+use Rattle.wc_paths.specs.OnPaths.{AreOnPaths}
+use Rattle.wc_paths.specs.Roots.{AreImportItems}
+use Rattle.wc_import_paths.specs.Private.FunctionNames.{asked_items}
 use Rattle.wc_import_paths.proofs.FollowedLemmas.{of_export_step, of_paths_step, of_read_step, of_segments_step}
+use Rattle.wc_import_paths.proofs.ShownLemmas.{shown_on}
 use Rattle.wc_import_paths.proofs.followed.follow.Goals as goal
 
 pub asked_exports-requires : goal.asked_exports-requires
@@ -62,3 +68,24 @@ returns-clause-source c =
         named = c.in_ok-names.ensures;
       };
     }
+
+pub returns-clause-shown : goal.returns-clause-shown
+returns-clause-shown c =
+    let g = graph_in c.in_ok-code.code c.in_ok-segments.segments in
+    let second = second_roots (segments_value c.in_ok-segments.segments) in
+    let same : map export_value c.in_ok-exports.exports.items ≡ c.in_ok-roots.roots = sym c.in_ok-roots.ensures in
+    let raw = c.in_ok-code.code.imports.items in
+    let imports = map import_value raw in
+    let items = c.in_ok-items.items.items in
+    let asked = c.args.asked.now in
+    let found = c.in_ok-paths.paths in
+    let shown = c.in_ok-shown.shown in
+    let paths : ArePaths g (roots_of c.in_ok-roots.roots c.in_ok-code.code.start) second c.in_ok-paths.paths =
+    subst (λ es. ArePaths g (roots_of es c.in_ok-code.code.start) second c.in_ok-paths.paths) same
+    (rw c.deref.ensures.value at c.in_ok-paths.ensures.paths) in
+    let are : AreImportItems imports items = rw c.deref-2.ensures.value at c.in_ok-items.ensures in
+    let on : AreOnPaths found (asked_items asked imports items (length raw)) shown =
+    subst (λ z. AreOnPaths found (asked_items asked (map import_value z) items (length z)) shown) c.deref-3.ensures.value
+    (subst (λ z. AreOnPaths found (asked_items asked (map import_value c.deref-3.result.now) z (length c.deref-3.result.now)) shown) c.deref-4.ensures.value
+    c.in_ok-shown.ensures) in
+    shown_on asked imports items are found g (roots_of c.in_ok-roots.roots c.in_ok-code.code.start) second shown paths (length raw) (length-map raw import_value) on

@@ -10,6 +10,9 @@ use Rattle.wcwhy_command.proofs.execution.print_followed.Goals as goal
 pub print_source-requires-clause-paths : goal.print_source-requires-clause-paths
 print_source-requires-clause-paths g c = c.in-Ok.ensures.source.has_paths
 
+pub print_source-requires-clause-shown : goal.print_source-requires-clause-shown
+print_source-requires-clause-shown g c = c.in-Ok.ensures.shown
+
 pub returns-in-Ok-clause-done : goal.returns-in-Ok-clause-done
 returns-in-Ok-clause-done g c =
     let out = Becomes (output_ends g.O.Sink.written g.O.Output.sent g.O.Sink.is_failed) c.args.out.now c.print_source.new.out in

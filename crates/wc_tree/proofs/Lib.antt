@@ -1,0 +1,2 @@
+pub mod TreeTokenLemmas
+pub mod ModuleTreeLemmas

@@ -1,0 +1,4 @@
+pub mod Tree
+pub mod TreeJson
+pub mod ModuleTree
+pub mod Private
