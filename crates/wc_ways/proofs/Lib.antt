@@ -1,7 +1,9 @@
 mod ListLemmas
 mod RecordLemmas
 mod TypesLemmas
-mod UserLemmas
+mod NeedLemmas
+mod RootLemmas
+mod TypedLemmas
 mod OriginalLemmas
 mod ImportLemmas
 mod WalkLemmas

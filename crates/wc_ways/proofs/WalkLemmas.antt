@@ -40,12 +40,13 @@ module _ {A B : Type 0} (shown : A → List B) where
   says_more IsAt n old mid new (front, joined, put) (part, here, more) =
       (front ++ part, one_joined n IsAt front part joined here, appended front part old mid new put more)
 
-  -- parts of two kinds, and these after them
-  pub says_before : (First Is All : List A → Type 0) (last : List A) (old mid other new : List B) → Says shown First old mid → Says shown Is mid other
-      → new ≡ other ++ flat_map shown last → ((first parts : List A) → First first → Is parts → All (first ++ (parts ++ last)))
-      → Says shown All old new
-  says_before First Is All last old mid other new (first, was, put) (parts, is, more) rest make =
-      (first ++ (parts ++ last), make first parts was is, appended first (parts ++ last) old mid new put (appended parts last mid other new more rest))
+  -- parts of three kinds
+  pub says_three : {E : Type 0} (First Is Last All : List A → Type 0) (old mid other new : List B) (r : Result (Unit {0}) E) → Says shown First old mid
+      → Says shown Is mid other → OnOk r (Says shown Last other new)
+      → ((first parts last : List A) → First first → Is parts → Last last → All (first ++ (parts ++ last))) → OnOk r (Says shown All old new)
+  says_three First Is Last All old mid other new (Ok u) (first, was, put) (parts, is, more) (last, at, rest) make =
+      (first ++ (parts ++ last), make first parts last was is at, appended first (parts ++ last) old mid new put (appended parts last mid other new more rest))
+  says_three First Is Last All old mid other new (Err e) first parts last make = tt
 
   -- one part
   pub says_one : {E : Type 0} (Is : List A → Type 0) (x : A) (old new : List B) (r : Result (Unit {0}) E) → Is (x ∷ []) → OnOk r (new ≡ old ++ shown x)

@@ -11,7 +11,7 @@ use Rattle.wc_why.specs.JsonPaths.{begun_tokens, ended_tokens, path_json, paths_
 use Rattle.wc_why.specs.Lines.{path_lines}
 use Rattle.wc_why.specs.Paths.{PathView}
 use Rattle.wc_why.proofs.TokenLemmas.{array_are}
-use Rattle.wc_ways.specs.Nodes.{IsMainGraph, IsOriginalGraph, IsWaysGraph, module_graph, typed_node}
+use Rattle.wc_ways.specs.Nodes.{IsMainGraph, IsOriginalGraph, IsTypedNode, IsWaysGraph, module_graph}
 use Rattle.wc_ways.specs.Said.{IsAllSaid, Says}
 use Rattle.wc_ways.specs.Ways.{ArePaths, IsWaysJson, IsWaysText, or_none}
 use Rattle.wc_ways.proofs.ListLemmas.{flat_same}
@@ -21,7 +21,7 @@ pub text_said : {E : Type 0} (w : ComponentWorldView) (k : List ℕ) (old new : 
 text_said w k old new (Ok s) none (paths, are, put) h = (paths, are, h ∙ ap (or_none k) (put ∙ ap (λ z. z ++ flat_map path_lines paths) none))
 text_said w k old new (Err e) none said h = tt
 
-pub graph_said : (w : ComponentWorldView) (k old new text : List ℕ) → old ≡ [] → Says (λ (b : ℕ). b ∷ []) (IsAllSaid IsMainGraph (λ t l adapter id label records. module_graph t l id label records) IsOriginalGraph typed_node w k) old new
+pub graph_said : (w : ComponentWorldView) (k old new text : List ℕ) → old ≡ [] → Says (λ (b : ℕ). b ∷ []) (IsAllSaid IsMainGraph (λ t l adapter id label records. module_graph t l id label records) IsOriginalGraph IsTypedNode w k) old new
     → text ≡ codes "strict digraph wcplan {\n" ++ (new ++ codes "}\n") → IsWaysGraph w k text
 graph_said w k old new text none (graphs, are, put) h =
     (graphs, are, h ∙ ap (λ z. codes "strict digraph wcplan {\n" ++ (z ++ codes "}\n")) (put ∙ (ap (λ z. z ++ flat_map (λ b. b ∷ []) graphs) none ∙ flat_same graphs)))

@@ -35,8 +35,7 @@ use Rattle.wc_ways.specs.Said.{AreEach, Saying}
 use Rattle.wc_ways.specs.Summary.{AdapterPartView, EntryView, IsListedBefore, MainPartView}
 use Rattle.wc_ways.specs.SummaryJson.{entries_json}
 use Rattle.wc_ways.specs.SummaryLines.{entry_lines}
-use Rattle.wc_ways.specs.Types.{typed_name}
-use Rattle.wc_ways.specs.Users.{first_user, uses}
+use Rattle.wc_ways.specs.Types.{typed_name, user_in}
 use Rattle.wc_ways.specs.Words.{is_wanted}
 use Rattle.wc_why.specs.declared.paths.Unfollowed.{Unfollowed}
 
@@ -145,12 +144,12 @@ ArePartsBy w interface y parts =
 abbrev pub AreParts : ComponentWorldView → List ℕ → List NamedWorldAdapter → List AdapterPartView → Type 0
 AreParts w interface ys parts = AreEach (ArePartsBy w interface) ys parts
 
--- who uses its types, if it is imported for these alone
+-- what needs its types, if it is imported for these alone
 abbrev pub typed_in : ComponentWorldView → List (List ℕ × ℕ)
 typed_in w = filter_map (typed_name w all_key) w.import_map
 
 abbrev pub types_of : ComponentWorldView → List ℕ → Option (Option (List ℕ))
-types_of w interface = option_map (first_user (uses w)) (lookup (bytes_eq interface) (typed_in w))
+types_of w interface = option_map (user_in w) (lookup (bytes_eq interface) (typed_in w))
 
 pub record IsEntry (w : ComponentWorldView) (e : EntryView) : Type 0 where
   pub main : IsMainPart w e.0 e.1.main

@@ -1,5 +1,5 @@
 pub mod Asked
-pub mod Users
+pub mod TypeRoots
 pub mod Types
 pub mod Words
 pub mod Main

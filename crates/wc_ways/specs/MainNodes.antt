@@ -3,7 +3,7 @@
 use Rattle.std.specs.Prelude.{ℕ, List, [], ◌∷◌, ◌++◌, codes, None}
 use Rattle.wc_why.specs.Graph.{arrow_text}
 use Rattle.wc_why.specs.Lines.{item_text, main_root_text, root_text, segment_text, unfollowed_text}
-use Rattle.wc_why.specs.Paths.{StepView, begun, exported, imported, passed, segment, unfollowed}
+use Rattle.wc_why.specs.Paths.{StepView, begun, exported, imported, of_type, of_world, passed, segment, unfollowed}
 use Rattle.wc_why.specs.Texts.{graph_text}
 use Rattle.wc_ways.specs.Words.{cluster_text, main_text, text_id}
 
@@ -15,6 +15,8 @@ step_words (begun of_main root) = codes "main begins " ++ root_text root
 step_words (unfollowed why) = unfollowed_text why
 step_words (passed space index name) = codes "main " ++ item_text space index None
 step_words (segment kind index called) = codes "main " ++ segment_text kind index
+step_words (of_world side name) = []
+step_words (of_type name) = []
 
 abbrev pub step_id : StepView → List ℕ
 step_id s = text_id (step_words s)
@@ -27,6 +29,8 @@ step_label (begun of_main root) = main_root_text root
 step_label (unfollowed why) = unfollowed_text why
 step_label (passed space index name) = item_text space index name
 step_label (segment kind index called) = segment_text kind index
+step_label (of_world side name) = []
+step_label (of_type name) = []
 
 -- a step as a node of an identifier, and the arrow to it from the node before
 abbrev pub step_node : List ℕ → List ℕ → StepView → List ℕ

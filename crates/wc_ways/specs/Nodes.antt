@@ -22,6 +22,7 @@ use Rattle.wc_ways.specs.Main.{AreMainSteps}
 use Rattle.wc_ways.specs.MainNodes.{steps_end, steps_graph}
 use Rattle.wc_ways.specs.Originals.{Original, asked_of, required_of, wanted_of}
 use Rattle.wc_ways.specs.Said.{AreEach, IsAllSaid}
+use Rattle.wc_ways.specs.Types.{TypeCite}
 use Rattle.wc_ways.specs.Words.{adapter_id, adapter_prefix, cluster_text, is_wanted, main_text, text_id}
 
 -- the node of a function, whose identifier is its label, and an arrow to it
@@ -29,8 +30,11 @@ abbrev pub function_node : List ℕ → FunctionName → List ℕ
 function_node from f = target_node (text_id (two_words f.0 f.1)) (two_words f.0 f.1) from
 
 -- the node of an interface that is imported for its types alone
-abbrev pub typed_node : List ℕ → Option (List ℕ) → List ℕ
-typed_node interface user = target_box (text_id (word interface)) (types_text interface user)
+abbrev pub typed_node : List ℕ → List ℕ
+typed_node interface = target_box (text_id (word interface)) (types_text interface)
+
+abbrev pub IsTypedNode : ComponentWorldView → List ℕ → TypeCite → List ℕ → Type 0
+IsTypedNode w interface c text = text ≡ typed_node interface
 
 -- a module that is one node, with an arrow to each function that it imports and that is asked about
 
@@ -109,5 +113,5 @@ pub record IsOriginalGraph (key : List ℕ) (index : ℕ) (a : Original) (text :
 abbrev pub IsWaysGraph : ComponentWorldView → List ℕ → List ℕ → Type 0
 IsWaysGraph w key text =
     (graphs : List ℕ)
-    × IsAllSaid IsMainGraph (λ r k adapter id label records. module_graph r k id label records) IsOriginalGraph typed_node w key graphs
+    × IsAllSaid IsMainGraph (λ r k adapter id label records. module_graph r k id label records) IsOriginalGraph IsTypedNode w key graphs
     × (text ≡ codes "strict digraph wcplan {\n" ++ (graphs ++ codes "}\n"))

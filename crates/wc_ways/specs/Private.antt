@@ -6,7 +6,8 @@ pub mod Imported
 pub mod MainPaths
 pub mod MainWays
 pub mod Notes
-pub mod Users
+pub mod Needs
+pub mod TypeWays
 pub mod Leads
 pub mod SummaryMain
 pub mod Tags

@@ -10,11 +10,11 @@ use Rattle.wc_resolve.specs.Kinds.{ResolveView}
 use Rattle.wc_adapters.specs.Adapters.{AdapterView, LibraryView}
 use Rattle.wc_validate.specs.Imports.Entries.{Records}
 use Rattle.wc_validate.specs.Validate.{ModuleRecord}
-use Rattle.wc_world.specs.Views.{ComponentWorldView, NamedWorldAdapter}
+use Rattle.wc_world.specs.Views.{ComponentWorldView, ImportedView, NamedWorldAdapter}
 use Rattle.wc_why.specs.Joined.{AreJoined}
 use Rattle.wc_why.specs.Lines.{importer_text}
 use Rattle.wc_ways.specs.Originals.{Original, original_of}
-use Rattle.wc_ways.specs.Types.{SayingTypes, types_said}
+use Rattle.wc_ways.specs.Types.{SayingTypes, cite, typed_name}
 use Rattle.wc_ways.specs.Words.{adapter_id}
 
 -- parts are said of the main module of a world, by the key
@@ -65,11 +65,18 @@ IsSaidAt alone saying w key index parts =
 abbrev pub AreAllSaid : {A : Type 0} → SayingAlone A → SayingAt A → ComponentWorldView → List ℕ → List A → Type 0
 AreAllSaid alone saying w key parts = AreJoined (length w.adapters) (IsSaidAt alone saying w key) parts
 
+-- of an interface that is asked about and imported for its types alone, and of all, in the world's order
+abbrev pub IsTypedSaid : {A : Type 0} → SayingTypes A → ComponentWorldView → List ℕ → Option (List ℕ) × ImportedView → List A → Type 0
+IsTypedSaid Is w key x parts = MatchOption (typed_name w key x) (parts ≡ []) (λ (t : List ℕ × ℕ). Is w t.0 (cite w t.1) parts)
+
+abbrev pub AreTypesSaid : {A : Type 0} → SayingTypes A → ComponentWorldView → List ℕ → List A → Type 0
+AreTypesSaid Is w key parts = AreEach (IsTypedSaid Is w key) w.import_map parts
+
 -- of the main module, then of each adapter, and then of what is imported for its types alone
 abbrev pub IsAllSaid : {A : Type 0} → SayingMain A → SayingAlone A → SayingAt A → SayingTypes A → ComponentWorldView → List ℕ → List A → Type 0
 IsAllSaid {A} main alone saying typed w key parts =
-    (first adapters : List A) × main w key first × AreAllSaid alone saying w key adapters
-    × (parts ≡ first ++ (adapters ++ types_said typed w key))
+    (first adapters types : List A) × main w key first × AreAllSaid alone saying w key adapters × AreTypesSaid typed w key types
+    × (parts ≡ first ++ (adapters ++ types))
 
 -- parts that are as `Is` says were printed
 abbrev pub Says : {A B : Type 0} → (A → List B) → (List A → Type 0) → List B → List B → Type 0

@@ -1,13 +1,18 @@
 -- The paths to what a component imports, from its main module and through its adapters: as lines and as JSON.
 use Rattle.std.specs.Prelude.{◌≡◌, ◌⊎◌, ℕ, Bool, true, false, List, [], ◌∷◌, ◌++◌, length, map, codes, MatchOption, Option, Some, None}
 use Rattle.std.specs.List.{flat_map, slice_get}
-use Rattle.std.specs.Option.{option_map_or}
+use Rattle.std.specs.Map.{lookup}
+use Rattle.std.specs.Option.{option_map, option_map_or, option_to_list}
+use Rattle.std.specs.Str.{bytes_eq}
 use Rattle.json.specs.Lex.{tokens}
 use Rattle.json.specs.Print.{print}
 use Rattle.json.specs.Tree.{json_tokens}
 use Rattle.wc_json.specs.Escape.{escaped}
 use Rattle.wc_read.specs.Imports.{ImportValue}
+use Rattle.semver.specs.Identifiers.{parts_text}
 use Rattle.wc_resolve.specs.Kinds.{ResolveView}
+use Rattle.wc_resolve.specs.Resolve.{key_text}
+use Rattle.wc_adapters.specs.Adapters.{LibraryView}
 use Rattle.wc_names.specs.Views.{ImportView}
 use Rattle.wc_validate.specs.Imports.Entries.{Records}
 use Rattle.wc_validate.specs.Imports.Map.{imports_in}
@@ -16,15 +21,18 @@ use Rattle.wc_gc.specs.LiveChains.{IsChainTo}
 use Rattle.wc_gc.specs.LiveItems.{IsLive}
 use Rattle.wc_gc.specs.RestrictionLaws.{IsImportItem}
 use Rattle.wc_gc.specs.declared.import_chains.Chain.{Chain}
-use Rattle.wc_world.specs.Views.{ComponentWorldView}
+use Rattle.wc_world.specs.Views.{ComponentWorldView, WorldAdapterView}
 use Rattle.wc_why.specs.Joined.{AreJoined}
 use Rattle.wc_why.specs.JsonPaths.{paths_json}
 use Rattle.wc_why.specs.Lines.{path_lines}
-use Rattle.wc_why.specs.Paths.{PathView, StepView, exported, imported, item_step, named, typed}
+use Rattle.wc_why.specs.Paths.{PathView, StepView, exported, imported, item_step, named, of_type, of_world, typed}
+use Rattle.wc_why.specs.declared.paths.WorldSide.{WorldSide}
 use Rattle.wc_ways.specs.Asked.{FunctionName, asked_function}
-use Rattle.wc_ways.specs.Main.{AreMainSteps}
+use Rattle.wc_ways.specs.Main.{AreMainSteps, IsNamed}
 use Rattle.wc_ways.specs.Originals.{Original, asked_of, required_of, wanted_of}
-use Rattle.wc_ways.specs.Said.{AreEach, IsAllSaid}
+use Rattle.wc_ways.specs.Said.{AreEach, IsAllSaid, IsSaidOfTrimmed}
+use Rattle.wc_ways.specs.TypeRoots.{TypeRoot, of_import, of_item}
+use Rattle.wc_ways.specs.Types.{TypeCite}
 use Rattle.wc_ways.specs.Words.{is_wanted}
 
 -- the path to a function that is its import alone
@@ -95,15 +103,50 @@ IsPathAt a key position paths = (i : ImportValue) → slice_get a.value.imports 
 abbrev pub AreOriginalPaths : List ℕ → Original → List PathView → Type 0
 AreOriginalPaths key a paths = AreJoined (length a.value.imports) (IsPathAt a key) paths
 
--- the path to an interface that is imported for its types alone, which has no steps
-abbrev pub typed_path : List ℕ → Option (List ℕ) → List PathView
-typed_path interface user = record { interface = interface; target = typed user; steps = [] } ∷ []
+-- the steps to the import at a position of an adapter, if it is reached; and to one of a name from a module, if it is there
+abbrev pub AreStepsAt : Original → ℕ → List StepView → Type 0
+AreStepsAt a k steps =
+    (i : ImportValue) → slice_get a.value.imports k ≡ Some i → (x : ItemIndex) → IsImportItem a.value.imports k x
+    → (paths : List PathView) × IsItemPath a (i.module_name, i.name) i x paths × (steps ≡ flat_map (λ (p : PathView). p.steps) paths)
+
+abbrev pub AreImportSteps : List ℕ → List ℕ → Original → List StepView → Type 0
+AreImportSteps from name a steps =
+    ((k : ℕ) × (i : ImportValue) × (slice_get a.value.imports k ≡ Some i) × IsNamed i from name × AreStepsAt a k steps)
+    ⊎ (((k : ℕ) (i : ImportValue) → slice_get a.value.imports k ≡ Some i → ¬ (IsNamed i from name)) × (steps ≡ []))
+
+-- the same in an adapter of the world, of which a library has its import alone
+abbrev pub AreAdapterSteps : ComponentWorldView → List ℕ → List ℕ → List ℕ → WorldAdapterView → List StepView → Type 0
+AreAdapterSteps w adapter from name y steps =
+    MatchOption y.library_info (IsSaidOfTrimmed (AreImportSteps from name) w adapter y.info steps)
+    (λ (l : LibraryView). steps ≡ imported (Some adapter) from name ∷ [])
+
+-- the steps to a root of live types: as they are printed for an import, or what the world itself has under a key with a text
+abbrev pub item_steps : WorldSide → Option (List ℕ) → List StepView
+item_steps side text = option_map_or (λ (name : List ℕ). of_world side name ∷ []) text []
+
+abbrev pub AreNeederSteps : ComponentWorldView → TypeRoot → List StepView → Type 0
+AreNeederSteps w (of_import None from name) steps =
+    (first : List StepView) × AreMainSteps w.encoder.module_bytes from name first × (steps ≡ first ++ imported None from name ∷ [])
+AreNeederSteps w (of_import (Some adapter) from name) steps =
+    MatchOption (lookup (bytes_eq adapter) w.adapters) (steps ≡ []) (λ (y : WorldAdapterView). AreAdapterSteps w adapter from name y steps)
+AreNeederSteps w (of_item side key) steps = steps ≡ item_steps side (key_text parts_text w.encoder.resolve key)
+
+-- the path to an interface that is imported for its types alone: such steps to the first root that needs the one that is live first, and
+-- that, if it has a name
+abbrev pub typed_path : List ℕ → Option (List ℕ) → List StepView → PathView
+typed_path interface name steps = record { interface = interface; target = typed; steps = steps ++ option_to_list (option_map of_type name) }
+
+abbrev pub IsTypedBy : (List StepView → Type 0) → List ℕ → Option (List ℕ) → List PathView → Type 0
+IsTypedBy Are interface name paths = (steps : List StepView) × Are steps × (paths ≡ typed_path interface name steps ∷ [])
+
+abbrev pub IsTypedPath : ComponentWorldView → List ℕ → TypeCite → List PathView → Type 0
+IsTypedPath w interface c paths = IsTypedBy (λ steps. MatchOption c.root (steps ≡ []) (λ root. AreNeederSteps w root steps)) interface c.name paths
 
 -- the paths to what is asked about: from the main module, and through each adapter in order; then what is imported for its types
 -- alone
 abbrev pub ArePaths : ComponentWorldView → List ℕ → List PathView → Type 0
 ArePaths w key paths =
-    IsAllSaid AreRecordedMainPaths (λ r k adapter id label records. recorded_paths r k adapter records) (λ k index. AreOriginalPaths k) typed_path w key paths
+    IsAllSaid AreRecordedMainPaths (λ r k adapter id label records. recorded_paths r k adapter records) (λ k index. AreOriginalPaths k) IsTypedPath w key paths
 
 -- their lines; or that nothing is imported
 abbrev pub or_none : List ℕ → List ℕ → List ℕ

@@ -1,6 +1,6 @@
 //! In which form it is said why something is imported: by paths that are printed, or as a graph.
 
-ghost use Rattle.std.specs.Prelude.{◌≡◌, ◌++◌, ℕ, List, All, OnOk, Option};
+ghost use Rattle.std.specs.Prelude.{◌≡◌, ◌++◌, ℕ, List, All, IfErr, OnOk, Option};
 ghost use Rattle.std.specs.List.{flat_map};
 ghost use Rattle.std.specs.Option.{option_map};
 ghost use Rattle.wc_plan.specs.Calls.{IsNameable};
@@ -15,6 +15,9 @@ ghost use Rattle.wc_ways.specs.Originals.{Original};
 ghost use Rattle.wc_ways.specs.Said.{Says};
 ghost use Rattle.wc_ways.specs.Private.Adapters.{IsWalk, key_in, original_in};
 ghost use Rattle.wc_ways.specs.Private.MainWays.{IsFollowedIn, key_of, world_of};
+ghost use Rattle.wc_ways.specs.Private.Needs.{cite_view};
+ghost use Rattle.wc_ways.specs.Types.{TypeCite};
+ghost use Rattle.wc_ways.specs.WaysFaults.{IsWaysFault};
 
 use crate::graph::{module_graph, original_graph, typed_node};
 use crate::main_graph::graph_of_main;
@@ -23,8 +26,10 @@ use crate::modules::MainModule;
 use crate::originals::Walk;
 use crate::paths::original_paths;
 use crate::recorded::{Question, recorded_paths};
-use crate::types::typed_path;
+use crate::type_ways::put_typed_path;
+use crate::types::TypeCite;
 use std::alloc::{AllocError, Global};
+use wc_gc::GcFault;
 use wc_resolve::Resolve;
 use wc_validate::ImportMap;
 use wc_why::PathPrinter;
@@ -62,9 +67,8 @@ pub(crate) trait Form {
     // The parts that are said of an adapter that was trimmed, by the key and the adapter's index.
     ghost saying: { List ℕ → ℕ → Original → List Part → Type 0 };
 
-    // The parts that are said of an interface that is imported for its types alone, by its name and that of the first
-    // that uses them.
-    ghost typed: { List ℕ → Option (List ℕ) → List Part };
+    // The parts that are said of an interface of a world that is imported for its types alone, by its name and why.
+    ghost typed: { ComponentWorldView → List ℕ → TypeCite → List Part → Type 0 };
 
     /// Says what leads to imports of the main module.
     fn put_main(&mut self, alloc: Global, main: &MainModule<'_, '_, '_>) -> Result<(), AllocError>
@@ -100,18 +104,23 @@ pub(crate) trait Form {
     fn put_typed(
         &mut self,
         alloc: Global,
+        main: &MainModule<'_, '_, '_>,
         interface: &str,
-        user: Option<&str>,
-    ) -> Result<(), AllocError>
-        ensures said { OnOk result (printed self.new ≡ printed self.old
-            ++ flat_map shown (typed interface.now (option_map text_of user.entry))) }
-        ensures kept { OnOk result (before self.new ≡ before self.old) };
+        cite: TypeCite<'_>,
+    ) -> Result<(), GcFault>
+        requires nameable { AreNameable (world_of main.now) }
+        requires main { IsFollowedIn main.now }
+        ensures said { OnOk result (Says shown
+            (typed (world_of main.now) interface.now (cite_view cite.entry))
+            (printed self.old) (printed self.new)) }
+        ensures kept { OnOk result (before self.new ≡ before self.old) }
+        ensures fault { IfErr result (IsWaysFault (world_of main.now)) };
 }
 
 /// The paths, printed one after another.
 impl<P: PathPrinter> Form for P {
     ghost use Rattle.wc_why.specs.Paths.{PathView};
-    ghost use Rattle.wc_ways.specs.Ways.{AreOriginalPaths, AreRecordedMainPaths, recorded_paths, typed_path};
+    ghost use Rattle.wc_ways.specs.Ways.{AreOriginalPaths, AreRecordedMainPaths, IsTypedPath, recorded_paths};
 
     ghost Part = { PathView };
 
@@ -129,7 +138,7 @@ impl<P: PathPrinter> Form for P {
 
     ghost saying = { λ key index. AreOriginalPaths key };
 
-    ghost typed = { typed_path };
+    ghost typed = { IsTypedPath };
 
     fn put_main(&mut self, alloc: Global, main: &MainModule<'_, '_, '_>) -> Result<(), AllocError> {
         recorded_main_paths(alloc, main, self)
@@ -157,11 +166,11 @@ impl<P: PathPrinter> Form for P {
     fn put_typed(
         &mut self,
         alloc: Global,
+        main: &MainModule<'_, '_, '_>,
         interface: &str,
-        user: Option<&str>,
-    ) -> Result<(), AllocError> {
-        let path = typed_path(alloc, interface, user);
-        self.path(alloc, &path)
+        cite: TypeCite<'_>,
+    ) -> Result<(), GcFault> {
+        put_typed_path(alloc, main, interface, cite, self)
     }
 }
 
@@ -174,7 +183,7 @@ pub(crate) struct Graph {
 
 impl Form for Graph {
     ghost use Rattle.std.specs.Prelude.{ℕ, [], ◌∷◌, string_bytes};
-    ghost use Rattle.wc_ways.specs.Nodes.{IsMainGraph, IsOriginalGraph, module_graph, typed_node};
+    ghost use Rattle.wc_ways.specs.Nodes.{IsMainGraph, IsOriginalGraph, IsTypedNode, module_graph};
 
     ghost Part = { ℕ };
 
@@ -192,7 +201,7 @@ impl Form for Graph {
 
     ghost saying = { IsOriginalGraph };
 
-    ghost typed = { typed_node };
+    ghost typed = { IsTypedNode };
 
     fn put_main(&mut self, alloc: Global, main: &MainModule<'_, '_, '_>) -> Result<(), AllocError> {
         let graph = graph_of_main(alloc, main)?;
@@ -218,10 +227,12 @@ impl Form for Graph {
     fn put_typed(
         &mut self,
         alloc: Global,
+        _main: &MainModule<'_, '_, '_>,
         interface: &str,
-        user: Option<&str>,
-    ) -> Result<(), AllocError> {
-        let node = typed_node(alloc, interface, user)?;
-        self.text.push_str(&node)
+        _cite: TypeCite<'_>,
+    ) -> Result<(), GcFault> {
+        let node = typed_node(alloc, interface)?;
+        self.text.push_str(&node)?;
+        Ok(())
     }
 }

@@ -1,13 +1,11 @@
 //! The paths through a component as a graph, in the language of Graphviz: what is in it of a module.
 
 ghost use Rattle.std.specs.Prelude.{◌≡◌, ◌<◌, All, IfOk, length, map, string_bytes};
-ghost use Rattle.std.specs.Option.{option_map};
 ghost use Rattle.wc_names.specs.Views.{import_view};
 ghost use Rattle.wc_plan.specs.Calls.{IsNameable};
 ghost use Rattle.wc_read.specs.Imports.{import_value};
 ghost use Rattle.wc_validate.specs.Imports.Iter.{import_shown};
 ghost use Rattle.wc_validate.specs.Imports.Map.{imports_in};
-ghost use Rattle.wc_why.specs.Paths.{text_of};
 ghost use Rattle.wc_world.specs.Slots.{imports_of};
 ghost use Rattle.wc_ways.specs.Nodes.{function_node, module_graph, module_node, recorded_arrow, recorded_arrows, typed_node};
 ghost use Rattle.wc_ways.specs.Private.Adapters.{HasMain, IsNameableIn, IsWalk, function_value, is_asked_of};
@@ -120,17 +118,12 @@ pub(crate) fn function_node(
 }
 
 /// The node of an interface that is imported for its types alone.
-pub(crate) fn typed_node(
-    alloc: Global,
-    interface: &str,
-    user: Option<&str>,
-) -> Result<String, AllocError>
-    ensures { IfOk result (λ s. string_bytes s
-        ≡ typed_node interface.now (option_map text_of user.entry)) }
+pub(crate) fn typed_node(alloc: Global, interface: &str) -> Result<String, AllocError>
+    ensures { IfOk result (λ s. string_bytes s ≡ typed_node interface.now) }
 {
     let name = word(alloc, interface)?;
     let id = text_id(alloc, &name)?;
-    let label = target_text(alloc, interface, Target::Types { used_by: user })?;
+    let label = target_text(alloc, interface, Target::Types)?;
     target_box(alloc, &id, &label)
 }
 

@@ -31,7 +31,8 @@ use wc_world::ComponentWorld;
 ///   bytes. B of two interfaces with the same exports are the same bytes;
 /// - `N imports of adapter ADAPTER, stays for EXPORT ..`, where exports lead to them that are required whatever the main
 ///   module imports: these;
-/// - `types of USER`: the interface is imported for its types, which the interface USER uses (`ways_text`).
+/// - `types of USER`: the interface is imported for its types, which an import from the module USER needs first, or what the world
+///   itself imports or exports under that name (`ways_text`).
 ///
 /// First come the interfaces of which the main module imports something itself, then those that go with exports of
 /// adapters, then those that are imported for their types alone, and last those that stay; among these the ones with which

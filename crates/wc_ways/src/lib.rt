@@ -19,6 +19,7 @@ mod main_graph;
 mod main_paths;
 mod main_ways;
 mod modules;
+mod needs;
 mod originals;
 mod paths;
 mod recorded;
@@ -28,8 +29,9 @@ mod summary_json;
 mod summary_lines;
 mod summary_main;
 mod tags;
+mod type_roots;
+mod type_ways;
 mod types;
-mod users;
 mod uses;
 mod ways;
 

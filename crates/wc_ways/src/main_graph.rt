@@ -180,6 +180,7 @@ fn step_words(alloc: Global, step: Step<'_>) -> Result<String, AllocError>
         }
         // There are no such steps in the main module.
         Step::Import { .. } | Step::Export { .. } => Ok(String::new(alloc)),
+        Step::World { .. } | Step::LiveType { .. } => Ok(String::new(alloc)),
     }
 }
 
@@ -193,5 +194,6 @@ fn step_label(alloc: Global, step: Step<'_>) -> Result<String, AllocError>
         Step::Item { space, index, name } => item_text(alloc, space, index, name),
         Step::Segment { kind, index, .. } => segment_text(alloc, kind, index),
         Step::Import { .. } | Step::Export { .. } => Ok(String::new(alloc)),
+        Step::World { .. } | Step::LiveType { .. } => Ok(String::new(alloc)),
     }
 }

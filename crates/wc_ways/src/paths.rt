@@ -62,7 +62,7 @@ fn path_at<P: PathPrinter>(
 }
 
 /// The path to the import at a position, which is this function, if it is reached.
-fn item_path<'p>(
+pub(crate) fn item_path<'p>(
     alloc: Global,
     walk: &'p Walk<'_, '_, '_, '_>,
     position: usize,

@@ -1,71 +1,78 @@
 //! The interfaces that a component imports for their types alone.
 
-ghost use Rattle.std.specs.Prelude.{◌≡◌, ◌++◌, ◌∷◌, [], IfOk, OnOk, string_bytes};
-ghost use Rattle.std.specs.List.{flat_map};
+ghost use Rattle.std.specs.Prelude.{◌≡◌, IfErr, IfOk, OnOk, string_bytes};
 ghost use Rattle.std.specs.Option.{option_map, option_to_list};
-ghost use Rattle.wc_why.specs.Paths.{path_view, text_of};
+ghost use Rattle.wc_plan.specs.Fault.{AreNameable};
+ghost use Rattle.wc_resolve.specs.Roots.{id_index};
+ghost use Rattle.wc_why.specs.Paths.{text_of};
 ghost use Rattle.wc_world.specs.WorldViews.{imported_view, live_view, world_view};
-ghost use Rattle.wc_ways.specs.Types.{has_live_types, typed_name, typed_said, types_said};
-ghost use Rattle.wc_ways.specs.Ways.{typed_path};
-ghost use Rattle.wc_ways.specs.Private.Adapters.{AreUsersIn};
+ghost use Rattle.wc_ways.specs.Imports.{all_key};
+ghost use Rattle.wc_ways.specs.Said.{AreTypesSaid, IsTypedSaid, Says};
+ghost use Rattle.wc_resolve.specs.WellFormed.{type_name};
+ghost use Rattle.wc_ways.specs.Types.{cite, first_live, has_live_types, root_user, typed_name, user_in};
+ghost use Rattle.wc_ways.specs.WaysFaults.{IsWaysFault};
 ghost use Rattle.wc_ways.specs.Private.Entries.{entries_view};
-ghost use Rattle.wc_ways.specs.Private.Notes.{NotesTyped, NotesTypes, asked_type, asked_types};
-ghost use Rattle.wc_ways.specs.Users.{uses};
-ghost use Rattle.wc_ways.specs.Private.Users.{imported_shown};
+ghost use Rattle.wc_ways.specs.Private.MainWays.{IsFollowedIn, key_of, world_of};
+ghost use Rattle.wc_ways.specs.Private.Needs.{AreNeededIn, cite_view, root_view};
+ghost use Rattle.wc_ways.specs.Private.Notes.{NotesTyped, NotesTypes, imported_shown};
 
-use crate::asked::is_asked;
+use crate::asked::{is_asked, key_text};
 use crate::entries::{place_of, set_types};
 use crate::forms::Form;
+use crate::modules::MainModule;
+use crate::needs::{NeededTypes, TypeRoot, root_of};
 use crate::summary::Entries;
-use crate::users::{Users, user_of, users_in};
+use crate::type_roots::needed_types;
 use std::alloc::{AllocError, Global};
+use wc_gc::GcFault;
 use wc_maps::{Map, Set};
-use wc_resolve::{InterfaceId, TypeId};
-use wc_why::{Path, Target};
+use wc_resolve::{InterfaceId, Resolve, TypeId};
 use wc_world::{ComponentWorld, ImportedInterface};
 
-/// A component's world, what is asked about of it, and the first interface that uses types of each.
+/// Why an interface is imported for its types: the name of the one that is live first, if it has a name, and the first root
+/// that needs it.
 #[derive(Clone, Copy)]
-pub(crate) struct AskedTypes<'a, 'w> {
-    world: &'a ComponentWorld<'w>,
-    /// The key of an interface, or `all`.
-    key: &'a str,
-    users: &'a Users,
+pub(crate) struct TypeCite<'a> {
+    pub(crate) name: Option<&'a str>,
+    pub(crate) root: Option<TypeRoot<'a>>,
 }
 
 /// Says which interfaces that are asked about are imported for their types alone, in the world's order.
 pub(crate) fn put_types<F: Form>(
     alloc: Global,
-    world: &ComponentWorld<'_>,
-    key: &str,
+    main: &MainModule<'_, '_, '_>,
     out: &mut F,
-) -> Result<(), AllocError>
-    ensures said { OnOk result (F.printed out.new ≡ F.printed out.old
-        ++ flat_map F.shown (types_said F.typed (world_view world.now) key.now)) }
+) -> Result<(), GcFault>
+    requires nameable { AreNameable (world_of main.now) }
+    requires main { IsFollowedIn main.now }
+    ensures said { OnOk result (Says F.shown
+        (AreTypesSaid F.typed (world_of main.now) (key_of main.now))
+        (F.printed out.old) (F.printed out.new)) }
     ensures kept { OnOk result (F.before out.new ≡ F.before out.old) }
+    ensures fault { IfErr result (IsWaysFault (world_of main.now)) }
 {
-    let users = users_in(alloc, world)?;
-    let asked = AskedTypes {
-        world,
-        key,
-        users: &users,
-    };
-    put_all_typed(alloc, &asked, out)
+    let found = needed_types(alloc, main.world)?;
+    put_all_typed(alloc, main, &found.needed, out)
 }
 
 /// Says it of all of them.
 fn put_all_typed<F: Form>(
     alloc: Global,
-    asked: &AskedTypes<'_, '_>,
+    main: &MainModule<'_, '_, '_>,
+    needed: &NeededTypes<'_>,
     out: &mut F,
-) -> Result<(), AllocError>
-    requires { AreUsersIn asked.now }
-    ensures said { OnOk result (F.printed out.new ≡ F.printed out.old ++ flat_map F.shown
-        (types_said F.typed (world_view asked.now.world.now) asked.now.key.now)) }
+) -> Result<(), GcFault>
+    requires nameable { AreNameable (world_of main.now) }
+    requires main { IsFollowedIn main.now }
+    requires needed { AreNeededIn (world_of main.now) needed.now }
+    ensures said { OnOk result (Says F.shown
+        (AreTypesSaid F.typed (world_of main.now) (key_of main.now))
+        (F.printed out.old) (F.printed out.new)) }
     ensures kept { OnOk result (F.before out.new ≡ F.before out.old) }
+    ensures fault { IfErr result (IsWaysFault (world_of main.now)) }
 {
-    for (name, imported) in asked.world.import_map.iter() {
-        put_if_typed(alloc, asked, (name, imported), out)?;
+    for (name, imported) in main.world.import_map.iter() {
+        put_if_typed(alloc, main, needed, (name, imported), out)?;
     }
     Ok(())
 }
@@ -73,18 +80,25 @@ fn put_all_typed<F: Form>(
 /// Says it of an interface, if it is asked about and imported for its types alone.
 fn put_if_typed<F: Form>(
     alloc: Global,
-    asked: &AskedTypes<'_, '_>,
+    main: &MainModule<'_, '_, '_>,
+    needed: &NeededTypes<'_>,
     imported: (&Option<String>, &ImportedInterface),
     out: &mut F,
-) -> Result<(), AllocError>
-    requires { AreUsersIn asked.now }
-    ensures said { OnOk result (F.printed out.new ≡ F.printed out.old ++ flat_map F.shown
-        (typed_said F.typed (world_view asked.now.world.now) asked.now.key.now
-        (imported_shown imported.entry))) }
+) -> Result<(), GcFault>
+    requires nameable { AreNameable (world_of main.now) }
+    requires main { IsFollowedIn main.now }
+    requires needed { AreNeededIn (world_of main.now) needed.now }
+    ensures said { OnOk result (Says F.shown (IsTypedSaid F.typed (world_of main.now)
+        (key_of main.now) (imported_shown imported.entry))
+        (F.printed out.old) (F.printed out.new)) }
     ensures kept { OnOk result (F.before out.new ≡ F.before out.old) }
+    ensures fault { IfErr result (IsWaysFault (world_of main.now)) }
 {
-    match typed_name(asked.world, asked.key, imported.0, imported.1) {
-        Some((name, id)) => out.put_typed(alloc, name, user_of(asked.users, id)),
+    match typed_name(main.world, main.key, imported.0, imported.1) {
+        Some((name, id)) => {
+            let cite = cite_of(main.world, needed, id);
+            out.put_typed(alloc, main, name, cite)
+        }
         None => Ok(()),
     }
 }
@@ -122,18 +136,54 @@ fn has_live_types(live: &Map<InterfaceId, Set<TypeId>>, id: InterfaceId) -> bool
     live.contains_key(&id)
 }
 
-/// The path to an interface that is imported for its types alone.
-pub(crate) fn typed_path<'p>(alloc: Global, interface: &'p str, user: Option<&'p str>) -> Path<'p>
-    ensures { path_view result ∷ [] ≡ typed_path interface.now (option_map text_of user.entry) }
+/// Why an interface is imported for its types.
+fn cite_of<'a>(
+    world: &'a ComponentWorld<'_>,
+    needed: &NeededTypes<'a>,
+    id: InterfaceId,
+) -> TypeCite<'a>
+    requires { AreNeededIn (world_view world.now) needed.now }
+    ensures { cite_view result ≡ cite (world_view world.now) id.0 }
 {
-    Path {
-        interface,
-        target: Target::Types { used_by: user },
-        steps: Vec::new(alloc),
+    match first_live(&world.live_type_imports, id) {
+        Some(ty) => {
+            let metadata = world.encoder.metadata();
+            TypeCite {
+                name: type_name(&metadata.resolve, ty),
+                root: root_of(needed, ty),
+            }
+        }
+        None => TypeCite {
+            name: None,
+            root: None,
+        },
     }
 }
 
-/// Notes the interfaces that are imported for their types alone, in the world's order, with the first that uses them.
+/// The first of the live types of an interface.
+fn first_live(live: &Map<InterfaceId, Set<TypeId>>, id: InterfaceId) -> Option<TypeId>
+    ensures { option_map id_index result ≡ first_live (live_view live.now) id.0 }
+{
+    match live.get(&id) {
+        Some(types) => types.first().copied(),
+        None => None,
+    }
+}
+
+/// The name of a type.
+fn type_name(resolve: &Resolve, ty: TypeId) -> Option<&str>
+    ensures { option_map text_of result ≡ type_name resolve.now ty.0 }
+{
+    if !resolve.has_type(ty) {
+        return None;
+    }
+    match &resolve.type_def(ty).name {
+        Some(name) => Some(name),
+        None => None,
+    }
+}
+
+/// Notes the interfaces that are imported for their types alone, in the world's order, with what needs them.
 pub(crate) fn note_typed(
     alloc: Global,
     world: &ComponentWorld<'_>,
@@ -142,48 +192,44 @@ pub(crate) fn note_typed(
     ensures { OnOk result (NotesTypes (world_view world.now)
         (entries_view entries.old.entries) (entries_view entries.new.entries)) }
 {
-    let users = users_in(alloc, world)?;
-    let asked = AskedTypes {
-        world,
-        key: "all",
-        users: &users,
-    };
-    note_all_typed(alloc, &asked, entries)
+    let found = needed_types(alloc, world)?;
+    note_all_typed(alloc, world, &found.needed, entries)
 }
 
-/// Notes those that are asked about.
+/// Notes all of them.
 fn note_all_typed(
     alloc: Global,
-    asked: &AskedTypes<'_, '_>,
+    world: &ComponentWorld<'_>,
+    needed: &NeededTypes<'_>,
     entries: &mut Entries<'_>,
 ) -> Result<(), AllocError>
-    requires { AreUsersIn asked.now }
-    ensures { OnOk result (NotesTyped (uses (world_view asked.now.world.now))
-        (asked_types asked.now)
+    requires { AreNeededIn (world_view world.now) needed.now }
+    ensures { OnOk result (NotesTypes (world_view world.now)
         (entries_view entries.old.entries) (entries_view entries.new.entries)) }
 {
-    for (name, imported) in asked.world.import_map.iter() {
-        note_if_typed(alloc, asked, (name, imported), entries)?;
+    for (name, imported) in world.import_map.iter() {
+        note_if_typed(alloc, world, needed, (name, imported), entries)?;
     }
     Ok(())
 }
 
-/// Notes an interface, if it is asked about and imported for its types alone.
+/// Notes an interface, if it is imported for its types alone.
 fn note_if_typed(
     alloc: Global,
-    asked: &AskedTypes<'_, '_>,
+    world: &ComponentWorld<'_>,
+    needed: &NeededTypes<'_>,
     import: (&Option<String>, &ImportedInterface),
     entries: &mut Entries<'_>,
 ) -> Result<(), AllocError>
-    requires { AreUsersIn asked.now }
-    ensures { OnOk result (NotesTyped (uses (world_view asked.now.world.now))
-        (option_to_list (asked_type asked.now (imported_shown import.entry)))
+    requires { AreNeededIn (world_view world.now) needed.now }
+    ensures { let w = world_view world.now in OnOk result (NotesTyped (user_in w)
+        (option_to_list (typed_name w all_key (imported_shown import.entry)))
         (entries_view entries.old.entries) (entries_view entries.new.entries)) }
 {
-    match typed_name(asked.world, asked.key, import.0, import.1) {
+    match typed_name(world, "all", import.0, import.1) {
         Some((name, id)) => {
             let place = place_of(alloc, entries, name)?;
-            let user = owned(alloc, user_of(asked.users, id))?;
+            let user = user_in(alloc, world, needed, id)?;
             set_types(entries, place, user);
             Ok(())
         }
@@ -191,12 +237,36 @@ fn note_if_typed(
     }
 }
 
-/// A copy of a text, if there is one.
-fn owned(alloc: Global, text: Option<&str>) -> Result<Option<String>, AllocError>
-    ensures { IfOk result (λ t. option_map string_bytes t ≡ option_map text_of text.entry) }
+/// The user of an interface's types: the module of an import, or what the world itself imports or exports.
+fn user_in(
+    alloc: Global,
+    world: &ComponentWorld<'_>,
+    needed: &NeededTypes<'_>,
+    id: InterfaceId,
+) -> Result<Option<String>, AllocError>
+    requires { AreNeededIn (world_view world.now) needed.now }
+    ensures { IfOk result (λ t. option_map string_bytes t ≡ user_in (world_view world.now) id.0) }
 {
-    match text {
-        Some(text) => Ok(Some(String::from_str(alloc, text)?)),
+    match cite_of(world, needed, id).root {
+        Some(root) => {
+            let metadata = world.encoder.metadata();
+            root_user(alloc, &metadata.resolve, root)
+        }
         None => Ok(None),
+    }
+}
+
+/// The module of an import, or the text of a key of the world.
+fn root_user(
+    alloc: Global,
+    resolve: &Resolve,
+    root: TypeRoot<'_>,
+) -> Result<Option<String>, AllocError>
+    ensures { IfOk result (λ t. option_map string_bytes t
+        ≡ root_user resolve.now (root_view root.entry)) }
+{
+    match root {
+        TypeRoot::Import { module, .. } => Ok(Some(String::from_str(alloc, module)?)),
+        TypeRoot::Item { key, .. } => key_text(alloc, resolve, key),
     }
 }

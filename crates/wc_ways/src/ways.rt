@@ -42,15 +42,17 @@ use wc_world::ComponentWorld;
 ///   `adapter ADAPTER imports MODULE NAME`;
 /// - of a library `adapter ADAPTER imports MODULE NAME` alone.
 ///
-/// After these there is a line `INTERFACE: for its types, used by USER` for each interface of which no function is lowered
-/// and no resource dropped, but types are live, in the world's order. USER is the first interface, of the world's imports
-/// in order and then of its exports, one of whose live types is an alias of a type of INTERFACE; of an export all types
-/// are live. Without such a one the line ends before the comma.
+/// After these there is a line `INTERFACE: for its types` for each interface of which no function is lowered and no resource
+/// dropped, but types are live, in the world's order. Under it are the lines of the first root that needs such a type, of those
+/// of the live types in their order: of an import of a module those of the path to it, which end with that import;
+/// `world imports NAME` for a type that the world itself imports, and `world exports NAME` for an export of it. The last line
+/// is `type NAME`: the type of INTERFACE that is live first.
 ///
 /// Where nothing is imported that is asked about, there is one line, `KEY: in the world, not imported`. Texts from outside are escaped
 /// (`wc_json::escaped`), and a blank in them is `\u{20}`; in the line of a key it stays.
 ///
-/// It takes time and memory linear in the modules and in the text.
+/// It takes time and memory linear in the modules, in the types and in the text; and also time linear in an adapter for each
+/// interface whose types an import of it needs first, and in the types to which it refers for each exported interface.
 ///
 /// # Errors
 ///
@@ -70,8 +72,8 @@ pub fn ways_text(alloc: Global, world: &ComponentWorld<'_>, key: &str) -> Result
 
 /// The paths of `ways_text` as JSON, in one line: an object whose member `ways` is the list of them, in its order. Each is an
 /// object with `interface` and `name`, the interface of the import and its name, and `steps`, the list of the steps of the
-/// path to it. An interface that is imported for its types alone has null for `name`, no steps, and a fourth member, `used_by`:
-/// the interface that uses them, or null. A step is an object whose first member is `kind`:
+/// path to it. An interface that is imported for its types alone has null for `name`; its steps lead to what needs them, and the
+/// last is the type that is live first. A step is an object whose first member is `kind`:
 ///
 /// - `import`, with `adapter`, `module` and `name`: that adapter, or library, imports it; null stands for the main module;
 /// - `export`, with `adapter` and `name`: that adapter exports it; null stands for the main module;
@@ -80,11 +82,13 @@ pub fn ways_text(alloc: Global, world: &ComponentWorld<'_>, key: &str) -> Result
 /// - `unreached`: nothing in the main module leads to the import;
 /// - `unread`, with `function` or `section`: what can't be read of the main module;
 /// - `item`, with `space` (`type`, `func`, `table`, `memory`, `global`, `elem` or `data`), `index` and `name`: the item of the
-///   main module, or of the adapter, as the encoder has it; the name is that of a function in the name section, or null.
+///   main module, or of the adapter, as the encoder has it; the name is that of a function in the name section, or null;
+/// - `world`, with `side` (`imports` or `exports`) and `name`: what the world itself imports or exports;
+/// - `type`, with `name`: a type of the interface.
 ///
 /// Where nothing is imported that is asked about, the list is empty. Texts are escaped by the rules of JSON alone.
 ///
-/// It takes time and memory linear in the modules and in the text.
+/// It takes the time and memory of `ways_text`.
 ///
 /// # Errors
 ///
@@ -187,8 +191,5 @@ fn put_modules<F: Form>(
     };
     out.put_main(alloc, &module)?;
     put_adapters(alloc, world, key, main, out)?;
-    match put_types(alloc, world, key, out) {
-        Ok(()) => Ok(()),
-        Err(AllocError) => Err(GcFault::Memory),
-    }
+    put_types(alloc, &module, out)
 }

@@ -5,8 +5,8 @@ use Rattle.json.specs.Token.{Token, begin_array, begin_object, end_array, end_ob
 use Rattle.wc_json.specs.Shapes.{array_of, nullable_json, number_json, object_of}
 use Rattle.wc_segments.specs.Segments.{segment_section_name}
 use Rattle.wc_paths.specs.PathRoots.{RootView, by_export, by_start, by_table, by_memory}
-use Rattle.wc_why.specs.Lines.{kind_name, space_name}
-use Rattle.wc_why.specs.Paths.{PathView, StepView, TargetView, named, typed, imported, exported, begun, unfollowed, passed, segment}
+use Rattle.wc_why.specs.Lines.{kind_name, side_name, space_name}
+use Rattle.wc_why.specs.Paths.{PathView, StepView, TargetView, named, typed, imported, exported, begun, unfollowed, passed, segment, of_world, of_type}
 use Rattle.wc_why.specs.declared.paths.Unfollowed.{Unfollowed}
 use Rattle.wc_why.specs.declared.paths.Unfollowed.TheVariants.{Unreached, Body, Section}
 
@@ -58,6 +58,13 @@ item_json space index name =
     ∷ (codes "name", text_or_null name) ∷ []
     )
 
+abbrev pub world_json : List ℕ → List ℕ → Json
+world_json side name =
+    object_of ((codes "kind", string (codes "world")) ∷ (codes "side", string side) ∷ (codes "name", string name) ∷ [])
+
+abbrev pub type_json : List ℕ → Json
+type_json name = object_of ((codes "kind", string (codes "type")) ∷ (codes "name", string name) ∷ [])
+
 abbrev pub step_json : StepView → Json
 step_json (imported adapter from name) = import_json adapter from name
 step_json (exported adapter name) = export_json (Some adapter) name
@@ -65,6 +72,8 @@ step_json (begun of_main root) = root_json root
 step_json (unfollowed why) = unfollowed_json why
 step_json (passed space index name) = item_json (space_name space) index name
 step_json (segment kind index called) = item_json (kind_name kind) index None
+step_json (of_world side name) = world_json (side_name side) name
+step_json (of_type name) = type_json name
 
 -- a path: the interface, what of it the path leads to, and its steps
 
@@ -72,16 +81,13 @@ abbrev pub named_json : List ℕ → List ℕ → List StepView → Json
 named_json interface name steps =
     object_of ((codes "interface", string interface) ∷ (codes "name", string name) ∷ (codes "steps", array_of (map step_json steps)) ∷ [])
 
-abbrev pub typed_json : List ℕ → Option (List ℕ) → List StepView → Json
-typed_json interface user steps =
-    object_of (
-    (codes "interface", string interface) ∷ (codes "name", null) ∷ (codes "steps", array_of (map step_json steps))
-    ∷ (codes "used_by", text_or_null user) ∷ []
-    )
+abbrev pub typed_json : List ℕ → List StepView → Json
+typed_json interface steps =
+    object_of ((codes "interface", string interface) ∷ (codes "name", null) ∷ (codes "steps", array_of (map step_json steps)) ∷ [])
 
 abbrev pub target_json : List ℕ → TargetView → List StepView → Json
 target_json interface (named name) steps = named_json interface name steps
-target_json interface (typed user) steps = typed_json interface user steps
+target_json interface typed steps = typed_json interface steps
 
 abbrev pub path_json : PathView → Json
 path_json p = target_json p.interface p.target p.steps

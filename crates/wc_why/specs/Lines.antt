@@ -6,12 +6,14 @@ use Rattle.wc_read.specs.declared.operators.Space.{Space}
 use Rattle.wc_read.specs.declared.operators.Space.TheVariants.{Types, Funcs, Tables, Memories, Globals}
 use Rattle.wc_segments.specs.Segments.{segment_section_name}
 use Rattle.wc_paths.specs.PathRoots.{RootView, by_export, by_start, by_table, by_memory}
-use Rattle.wc_why.specs.Paths.{CalledByView, CallerView, PathView, StepView, TargetView, named, typed, imported, exported, begun, unfollowed, passed, segment}
+use Rattle.wc_why.specs.Paths.{CalledByView, CallerView, PathView, StepView, TargetView, named, typed, imported, exported, begun, unfollowed, passed, segment, of_world, of_type}
 use Rattle.wc_why.specs.Texts.{two_words, word}
 use Rattle.wc_why.specs.declared.paths.SegmentKind.{SegmentKind}
 use Rattle.wc_why.specs.declared.paths.SegmentKind.TheVariants.{Elements, Data}
 use Rattle.wc_why.specs.declared.paths.Unfollowed.{Unfollowed}
 use Rattle.wc_why.specs.declared.paths.Unfollowed.TheVariants.{Unreached, Body, Section}
+use Rattle.wc_why.specs.declared.paths.WorldSide.{WorldSide}
+use Rattle.wc_why.specs.declared.paths.WorldSide.TheVariants.{Imports, Exports}
 
 abbrev pub space_name : Space → List ℕ
 space_name Types = codes "type"
@@ -89,6 +91,17 @@ more_line n = cond (n == 0) [] (codes "  called by " ++ (decimal n ++ codes " mo
 abbrev pub called_by_lines : CalledByView → List ℕ
 called_by_lines c = flat_map caller_line c.callers ++ more_line c.more
 
+-- `world imports NAME`, or `world exports NAME`; and `type NAME`
+abbrev pub side_name : WorldSide → List ℕ
+side_name Imports = codes "imports"
+side_name Exports = codes "exports"
+
+abbrev pub world_line : WorldSide → List ℕ → List ℕ
+world_line side name = codes "  world " ++ (side_name side ++ (codes " " ++ (word name ++ codes "\n")))
+
+abbrev pub type_line : List ℕ → List ℕ
+type_line name = codes "  type " ++ (word name ++ codes "\n")
+
 abbrev pub step_line : StepView → List ℕ
 step_line (imported adapter from name) = import_line adapter from name
 step_line (exported adapter name) = export_line adapter name
@@ -96,19 +109,17 @@ step_line (begun of_main root) = line_of (begin_text of_main root)
 step_line (unfollowed why) = line_of (unfollowed_text why)
 step_line (passed space index name) = line_of (item_text space index name)
 step_line (segment kind index called) = line_of (segment_text kind index) ++ called_by_lines called
+step_line (of_world side name) = world_line side name
+step_line (of_type name) = type_line name
 
--- `INTERFACE: for its types, used by INTERFACE`
-abbrev pub used_text : Option (List ℕ) → List ℕ
-used_text None = []
-used_text (Some user) = codes ", used by " ++ word user
-
-abbrev pub types_text : List ℕ → Option (List ℕ) → List ℕ
-types_text interface user = word interface ++ (codes ": for its types" ++ used_text user)
+-- `INTERFACE: for its types`
+abbrev pub types_text : List ℕ → List ℕ
+types_text interface = word interface ++ codes ": for its types"
 
 -- what a path leads to: that, or `INTERFACE NAME`
 abbrev pub target_text : List ℕ → TargetView → List ℕ
 target_text interface (named name) = two_words interface name
-target_text interface (typed user) = types_text interface user
+target_text interface typed = types_text interface
 
 -- what a path leads to, and a line for each step
 abbrev pub path_lines : PathView → List ℕ

@@ -9,7 +9,7 @@ use Rattle.wc_paths.specs.declared.items.PathItem.{PathItem}
 use Rattle.wc_paths.specs.declared.items.PathItem.TheVariants.{Item as path_item, Elements as path_elements, Data as path_data}
 use Rattle.wc_why.specs.JsonPaths.{step_json, text_or_null}
 use Rattle.wc_why.specs.Lines.{called_by_lines, item_text, kind_name, segment_text, space_name, step_line, target_text}
-use Rattle.wc_why.specs.Paths.{PathView, StepView, TargetView, named, typed, imported, exported, begun, unfollowed, passed, segment}
+use Rattle.wc_why.specs.Paths.{PathView, StepView, TargetView, named, typed, imported, exported, begun, unfollowed, passed, segment, of_world, of_type}
 use Rattle.wc_why.specs.declared.paths.SegmentKind.{SegmentKind}
 use Rattle.wc_why.specs.declared.paths.SegmentKind.TheVariants.{Elements, Data}
 
@@ -33,6 +33,8 @@ step_mark marks (imported adapter from name) = None
 step_mark marks (exported adapter name) = None
 step_mark marks (begun of_main root) = None
 step_mark marks (unfollowed why) = None
+step_mark marks (of_world side name) = None
+step_mark marks (of_type name) = None
 
 -- a text as a line that is marked
 abbrev pub marked_text : List ℕ → List ℕ
@@ -46,6 +48,8 @@ marked_line (imported adapter from name) = step_line (imported adapter from name
 marked_line (exported adapter name) = step_line (exported adapter name)
 marked_line (begun of_main root) = step_line (begun of_main root)
 marked_line (unfollowed why) = step_line (unfollowed why)
+marked_line (of_world side name) = step_line (of_world side name)
+marked_line (of_type name) = step_line (of_type name)
 
 abbrev pub line_by : Option Bool → StepView → List ℕ
 line_by (Some true) s = marked_line s
@@ -74,6 +78,8 @@ marked_step_json only (imported adapter from name) = step_json (imported adapter
 marked_step_json only (exported adapter name) = step_json (exported adapter name)
 marked_step_json only (begun of_main root) = step_json (begun of_main root)
 marked_step_json only (unfollowed why) = step_json (unfollowed why)
+marked_step_json only (of_world side name) = step_json (of_world side name)
+marked_step_json only (of_type name) = step_json (of_type name)
 
 abbrev pub json_by : Option Bool → StepView → Json
 json_by (Some only) s = marked_step_json only s
@@ -88,10 +94,9 @@ marked_target_json marks interface (named name) steps =
     object_of (
     (codes "interface", string interface) ∷ (codes "name", string name) ∷ (codes "steps", array_of (map (json_with marks) steps)) ∷ []
     )
-marked_target_json marks interface (typed user) steps =
+marked_target_json marks interface typed steps =
     object_of (
-    (codes "interface", string interface) ∷ (codes "name", null) ∷ (codes "steps", array_of (map (json_with marks) steps))
-    ∷ (codes "used_by", text_or_null user) ∷ []
+    (codes "interface", string interface) ∷ (codes "name", null) ∷ (codes "steps", array_of (map (json_with marks) steps)) ∷ []
     )
 
 abbrev pub marked_json : Marking → PathView → Json

@@ -18,10 +18,11 @@ use Rattle.wc_why.specs.declared.paths.Path.{Path}
 use Rattle.wc_why.specs.declared.paths.SegmentKind.{SegmentKind}
 use Rattle.wc_why.specs.declared.paths.SegmentKind.TheVariants.{Elements, Data}
 use Rattle.wc_why.specs.declared.paths.Step.{Step}
-use Rattle.wc_why.specs.declared.paths.Step.TheVariants.{Import, Export, Begin, Unfollowed as unfollowed_step, Item, Segment}
+use Rattle.wc_why.specs.declared.paths.Step.TheVariants.{Import, Export, Begin, Unfollowed as unfollowed_step, Item, Segment, World, LiveType}
 use Rattle.wc_why.specs.declared.paths.Unfollowed.{Unfollowed}
 use Rattle.wc_why.specs.declared.paths.Target.{Target}
 use Rattle.wc_why.specs.declared.paths.Target.TheVariants.{Name, Types}
+use Rattle.wc_why.specs.declared.paths.WorldSide.{WorldSide}
 
 abbrev pub text_of : Bor (List ℕ) → List ℕ
 text_of t = t.now
@@ -46,7 +47,8 @@ called_by_view c = record {
 
 -- a step: an import of an adapter, or of the main module where no adapter is named; an export of an adapter; where a path
 -- begins in the main module, or in a module that stands alone; why no path through the main module is shown; an item, with its
--- name, if it has one; and a segment, with those that may call what it puts in a table
+-- name, if it has one; a segment, with those that may call what it puts in a table; an import or an export of the world itself; and
+-- a type of an interface
 pub data StepView : Type 0 where
   imported : (adapter : Option (List ℕ)) (from name : List ℕ) → StepView
   exported : (adapter name : List ℕ) → StepView
@@ -54,6 +56,8 @@ pub data StepView : Type 0 where
   unfollowed : (why : Unfollowed) → StepView
   passed : (space : Space) (index : ℕ) (name : Option (List ℕ)) → StepView
   segment : (kind : SegmentKind) (index : ℕ) (called : CalledByView) → StepView
+  of_world : (side : WorldSide) (name : List ℕ) → StepView
+  of_type : (name : List ℕ) → StepView
 
 abbrev pub step_view : Step → StepView
 step_view (Import adapter from name) = imported (option_map text_of adapter) from.now name.now
@@ -62,15 +66,17 @@ step_view (Begin of_main root) = begun of_main (root_view root)
 step_view (unfollowed_step why) = unfollowed why
 step_view (Item space index name) = passed space index (option_map text_of name)
 step_view (Segment kind index called) = segment kind index (called_by_view called)
+step_view (World side name) = of_world side name.now
+step_view (LiveType name) = of_type name.now
 
--- what of an interface a path leads to: what has a name; or its types alone, with the first interface that uses them
+-- what of an interface a path leads to: what has a name; or its types alone
 pub data TargetView : Type 0 where
   named : (name : List ℕ) → TargetView
-  typed : (user : Option (List ℕ)) → TargetView
+  typed : TargetView
 
 abbrev pub target_view : Target → TargetView
 target_view (Name name) = named name.now
-target_view (Types user) = typed (option_map text_of user)
+target_view Types = typed
 
 -- a path: the interface, what of it the path leads to, and its steps
 pub record PathView : Type 0 where

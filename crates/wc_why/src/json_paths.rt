@@ -8,19 +8,18 @@ ghost use Rattle.json.specs.Token.{begin_object, end_object, key, null, string};
 ghost use Rattle.json.specs.Tree.{json_tokens};
 ghost use Rattle.wc_json.specs.Shapes.{array_of, number_json};
 ghost use Rattle.wc_paths.specs.PathRoots.{root_view};
-ghost use Rattle.wc_why.specs.JsonPaths.{begun_tokens, ended_tokens, export_json, fills_json, import_json, item_json, kind_json, named_json, path_json, root_json, step_json, text_or_null, typed_json, unfollowed_json, unread_body_json, unread_section_json};
+ghost use Rattle.wc_why.specs.JsonPaths.{begun_tokens, ended_tokens, export_json, fills_json, import_json, item_json, kind_json, named_json, path_json, root_json, step_json, text_or_null, type_json, typed_json, unfollowed_json, unread_body_json, unread_section_json, world_json};
 ghost use Rattle.wc_why.specs.Paths.{path_view, step_view, text_of};
 ghost use Rattle.wc_why.specs.Private.Tokens.{Puts};
 
-use crate::lines::{kind_name, space_name};
+use crate::lines::{kind_name, side_name, space_name};
 use crate::paths::{Path, PathPrinter, Step, Target, Unfollowed};
 use json::Writer;
 use std::alloc::{AllocError, Global};
 use wc_paths::PathRoot;
 
 /// An object with `interface`, `name` and `steps`, the list of the path's steps. For the types of the interface alone `name`
-/// is null, and a fourth member is `used_by`: the interface that uses them, or null. A step is an object whose first member
-/// is `kind`:
+/// is null. A step is an object whose first member is `kind`:
 ///
 /// - `import`, with `adapter`, `module` and `name`: that adapter imports it; null stands for the main module;
 /// - `export`, with `adapter` and `name`: that adapter exports it; null stands for the main module, or a module that stands
@@ -30,7 +29,9 @@ use wc_paths::PathRoot;
 /// - `unreached`: nothing in the main module leads to the import;
 /// - `unread`, with `function` or `section`: the index of the function whose body, or the name of the section, can't be read;
 /// - `item`, with `space` (`type`, `func`, `table`, `memory`, `global`, `elem` or `data`), `index` and `name`, which is null
-///   where it has none.
+///   where it has none;
+/// - `world`, with `side` (`imports` or `exports`) and `name`: the world itself imports or exports it;
+/// - `type`, with `name`: a type of the interface.
 impl PathPrinter for Writer {
     ghost use Rattle.json.specs.Token.{Token};
     ghost use Rattle.json.specs.Tree.{json_tokens};
@@ -90,7 +91,7 @@ fn put_path(out: &mut Writer, path: &Path<'_>) -> Result<(), AllocError>
 {
     match path.target {
         Target::Name(name) => put_named(out, path.interface, name, &path.steps),
-        Target::Types { used_by } => put_typed(out, path.interface, used_by, &path.steps),
+        Target::Types => put_typed(out, path.interface, &path.steps),
     }
 }
 
@@ -112,20 +113,14 @@ fn put_named(
 }
 
 /// Writes a path to the types of an interface.
-fn put_typed(
-    out: &mut Writer,
-    interface: &str,
-    user: Option<&str>,
-    steps: &[Step<'_>],
-) -> Result<(), AllocError>
-    ensures { OnOk result (Puts out.old out.new (json_tokens
-        (typed_json interface.now (option_map text_of user.entry) (map step_view steps.now)))) }
+fn put_typed(out: &mut Writer, interface: &str, steps: &[Step<'_>]) -> Result<(), AllocError>
+    ensures { OnOk result (Puts out.old out.new
+        (json_tokens (typed_json interface.now (map step_view steps.now)))) }
 {
     begin_object(out)?;
     put_text(out, "interface", interface)?;
     put_null(out, "name")?;
     put_steps(out, steps)?;
-    put_text_or_null(out, "used_by", user)?;
     end_object(out)
 }
 
@@ -157,7 +152,30 @@ pub(crate) fn put_step(out: &mut Writer, step: Step<'_>) -> Result<(), AllocErro
         Step::Unfollowed(why) => put_unfollowed(out, why),
         Step::Item { space, index, name } => put_item(out, space_name(space), index, name),
         Step::Segment { kind, index, .. } => put_item(out, kind_name(kind), index, None),
+        Step::World { side, name } => put_world(out, side_name(side), name),
+        Step::LiveType { name } => put_type(out, name),
     }
+}
+
+/// Writes what the world itself imports or exports.
+fn put_world(out: &mut Writer, side: &str, name: &str) -> Result<(), AllocError>
+    ensures { OnOk result (Puts out.old out.new (json_tokens (world_json side.now name.now))) }
+{
+    begin_object(out)?;
+    put_text(out, "kind", "world")?;
+    put_text(out, "side", side)?;
+    put_text(out, "name", name)?;
+    end_object(out)
+}
+
+/// Writes a type.
+fn put_type(out: &mut Writer, name: &str) -> Result<(), AllocError>
+    ensures { OnOk result (Puts out.old out.new (json_tokens (type_json name.now))) }
+{
+    begin_object(out)?;
+    put_text(out, "kind", "type")?;
+    put_text(out, "name", name)?;
+    end_object(out)
 }
 
 /// Writes where a path begins.

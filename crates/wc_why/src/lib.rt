@@ -32,7 +32,7 @@ pub use lines::{
 pub use marked_paths::{push_marked_path, put_marked_path};
 pub use marks::marks_of;
 pub use paths::{
-    CalledBy, Caller, Path, PathPrinter, SegmentKind, Step, Target, Unfollowed, push_items,
-    push_path_items,
+    CalledBy, Caller, Path, PathPrinter, SegmentKind, Step, Target, Unfollowed, WorldSide,
+    push_items, push_path_items,
 };
 pub use texts::{graph_text, two_words, word};

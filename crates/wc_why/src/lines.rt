@@ -4,10 +4,12 @@ ghost use Rattle.std.specs.Prelude.{◌≡◌, [], ◌++◌, IfOk, OnOk, map, st
 ghost use Rattle.std.specs.List.{flat_map};
 ghost use Rattle.std.specs.Option.{option_map, option_map_or};
 ghost use Rattle.wc_paths.specs.PathRoots.{root_view};
-ghost use Rattle.wc_why.specs.Lines.{begin_text, called_by_lines, caller_line, export_line, import_line, importer_text, item_text, kind_name, line_of, main_root_text, more_line, path_lines, root_text, segment_text, space_name, step_line, target_text, types_text, unfollowed_text, used_text};
+ghost use Rattle.wc_why.specs.Lines.{begin_text, called_by_lines, caller_line, export_line, import_line, importer_text, item_text, kind_name, line_of, main_root_text, more_line, path_lines, root_text, segment_text, side_name, space_name, step_line, target_text, type_line, types_text, unfollowed_text, world_line};
 ghost use Rattle.wc_why.specs.Paths.{called_by_view, caller_view, path_view, step_view, target_view, text_of};
 
-use crate::paths::{CalledBy, Caller, Path, PathPrinter, SegmentKind, Step, Target, Unfollowed};
+use crate::paths::{
+    CalledBy, Caller, Path, PathPrinter, SegmentKind, Step, Target, Unfollowed, WorldSide,
+};
 use crate::texts::{two_words, word};
 use std::alloc::{AllocError, Global};
 use wc_json::escaped;
@@ -39,7 +41,8 @@ impl PathPrinter for String {
 /// - where a path begins in the main module, as `main_root_text` has it, or in a module that stands alone, as `root_text`
 ///   has it; or why no path through the main module is shown (`unfollowed_text`);
 /// - an item as `item_text` has it, a segment as `segment_text` has it. After a segment come those that may call the function
-///   of the next step (`CalledBy`): `called by func N NAME` for each, and `called by N more`, if there are more.
+///   of the next step (`CalledBy`): `called by func N NAME` for each, and `called by N more`, if there are more;
+/// - `world imports NAME`, or `world exports NAME`, and `type NAME`.
 ///
 /// Texts from outside are escaped (`wc_json::escaped`), and a blank in them is `\u{20}`; but in the name of an item, and of
 /// an export of a module that stands alone, which end their lines, it stays.
@@ -57,8 +60,8 @@ pub fn push_path(alloc: Global, path: &Path<'_>, text: &mut String) -> Result<()
     push_steps(alloc, &path.steps, text)
 }
 
-/// Returns the text of the import that a path leads to: `INTERFACE NAME`; or `INTERFACE: for its types`, and after it
-/// `, used by INTERFACE`, if one uses them. Each text is a word (`word`).
+/// Returns the text of the import that a path leads to: `INTERFACE NAME`, or `INTERFACE: for its types`. Each text is a word
+/// (`word`).
 ///
 /// # Errors
 ///
@@ -69,31 +72,16 @@ pub fn target_text(alloc: Global, interface: &str, target: Target<'_>) -> Result
 {
     match target {
         Target::Name(name) => two_words(alloc, interface, name),
-        Target::Types { used_by } => types_text(alloc, interface, used_by),
+        Target::Types => types_text(alloc, interface),
     }
 }
 
-/// `INTERFACE: for its types`, and which interface uses them, if one does.
-fn types_text(alloc: Global, interface: &str, user: Option<&str>) -> Result<String, AllocError>
-    ensures { IfOk result (λ s. string_bytes s
-        ≡ types_text interface.now (option_map text_of user.entry)) }
+/// `INTERFACE: for its types`.
+fn types_text(alloc: Global, interface: &str) -> Result<String, AllocError>
+    ensures { IfOk result (λ s. string_bytes s ≡ types_text interface.now) }
 {
     let interface = word(alloc, interface)?;
-    let used = used_text(alloc, user)?;
-    format!(in alloc; "{interface}: for its types{used}")
-}
-
-/// Which interface uses types, after a comma, if one does.
-fn used_text(alloc: Global, user: Option<&str>) -> Result<String, AllocError>
-    ensures { IfOk result (λ s. string_bytes s ≡ used_text (option_map text_of user.entry)) }
-{
-    match user {
-        Some(user) => {
-            let user = word(alloc, user)?;
-            format!(in alloc; ", used by {user}")
-        }
-        None => Ok(String::new(alloc)),
-    }
+    format!(in alloc; "{interface}: for its types")
 }
 
 /// Appends the lines of steps, in order.
@@ -141,7 +129,36 @@ pub(crate) fn step_line(alloc: Global, step: Step<'_>) -> Result<String, AllocEr
             let callers = called_by_lines(alloc, called_by)?;
             format!(in alloc; "{line}{callers}")
         }
+        Step::World { side, name } => world_line(alloc, side, name),
+        Step::LiveType { name } => type_line(alloc, name),
     }
+}
+
+/// The line of what the world itself imports or exports.
+fn world_line(alloc: Global, side: WorldSide, name: &str) -> Result<String, AllocError>
+    ensures { IfOk result (λ s. string_bytes s ≡ world_line side name.now) }
+{
+    let side = side_name(side);
+    let name = word(alloc, name)?;
+    format!(in alloc; "  world {side} {name}\n")
+}
+
+/// The word for what a world does.
+pub(crate) fn side_name(side: WorldSide) -> &'static str
+    ensures { result.now ≡ side_name side }
+{
+    match side {
+        WorldSide::Imports => "imports",
+        WorldSide::Exports => "exports",
+    }
+}
+
+/// The line of a type.
+fn type_line(alloc: Global, name: &str) -> Result<String, AllocError>
+    ensures { IfOk result (λ s. string_bytes s ≡ type_line name.now) }
+{
+    let name = word(alloc, name)?;
+    format!(in alloc; "  type {name}\n")
 }
 
 /// The lines of those that may call a function: `called by func N NAME` for each, and `called by N more`, if there are

@@ -86,6 +86,8 @@ fn step_mark(step: Step<'_>, marks: &Option<Dominators>) -> Option<bool>
         Step::Export { .. } => None,
         Step::Begin { .. } => None,
         Step::Unfollowed(_) => None,
+        Step::World { .. } => None,
+        Step::LiveType { .. } => None,
     }
 }
 
@@ -132,6 +134,8 @@ fn marked_line(alloc: Global, step: Step<'_>) -> Result<String, AllocError>
         Step::Export { .. } => step_line(alloc, step),
         Step::Begin { .. } => step_line(alloc, step),
         Step::Unfollowed(_) => step_line(alloc, step),
+        Step::World { .. } => step_line(alloc, step),
+        Step::LiveType { .. } => step_line(alloc, step),
     }
 }
 
@@ -164,9 +168,7 @@ fn put_marked(
 {
     match path.target {
         Target::Name(name) => put_marked_named(out, path.interface, name, &path.steps, marks),
-        Target::Types { used_by } => {
-            put_marked_typed(out, path.interface, used_by, &path.steps, marks)
-        }
+        Target::Types => put_marked_typed(out, path.interface, &path.steps, marks),
     }
 }
 
@@ -192,19 +194,16 @@ fn put_marked_named(
 fn put_marked_typed(
     out: &mut Writer,
     interface: &str,
-    user: Option<&str>,
     steps: &[Step<'_>],
     marks: &Option<Dominators>,
 ) -> Result<(), AllocError>
     ensures { OnOk result (Puts out.old out.new (json_tokens (marked_target_json
-        (marking_of marks.now) interface.now (typed (option_map text_of user.entry))
-        (map step_view steps.now)))) }
+        (marking_of marks.now) interface.now typed (map step_view steps.now)))) }
 {
     begin_object(out)?;
     put_text(out, "interface", interface)?;
     put_null(out, "name")?;
     put_marked_steps(out, steps, marks)?;
-    put_text_or_null(out, "used_by", user)?;
     end_object(out)
 }
 
@@ -256,6 +255,8 @@ fn put_marked_step(out: &mut Writer, step: Step<'_>, only: bool) -> Result<(), A
         Step::Export { .. } => put_step(out, step),
         Step::Begin { .. } => put_step(out, step),
         Step::Unfollowed(_) => put_step(out, step),
+        Step::World { .. } => put_step(out, step),
+        Step::LiveType { .. } => put_step(out, step),
     }
 }
 

@@ -61,6 +61,27 @@ pub enum Step<'a> {
         /// Those that may call the function of the next step, which the segment puts in a table.
         called_by: CalledBy<'a>,
     },
+    /// The world itself imports or exports something.
+    World {
+        /// Whether that is an import or an export.
+        side: WorldSide,
+        /// Its name.
+        name: &'a str,
+    },
+    /// A type of the interface, which what the step before imports or exports needs.
+    LiveType {
+        /// Its name.
+        name: &'a str,
+    },
+}
+
+/// The two lists of a world.
+#[derive(Clone, Copy, Debug, PartialEq, Eq)]
+pub enum WorldSide {
+    /// An import of the world.
+    Imports,
+    /// An export of the world.
+    Exports,
 }
 
 /// Functions that may call a function: the first by their indices, three at most, and how many more there are.
@@ -111,10 +132,7 @@ pub enum Target<'a> {
     /// The import of this name.
     Name(&'a str),
     /// Its types alone.
-    Types {
-        /// The first interface that uses them, if there is one.
-        used_by: Option<&'a str>,
-    },
+    Types,
 }
 
 /// A path to an import.

@@ -33,6 +33,7 @@ mod world;
 pub use adapter::WorldAdapter;
 pub use fault::WorldFault;
 pub use imported::{ImportedInterface, Lowering};
+pub use live::{import_payload, import_resource};
 pub use options::{ImportOptions, PlainOptions, RequiredOptions};
 pub use places::{ModulePlace, WorldPlace};
 pub use refused::{adapter_refusal, main_refusal};

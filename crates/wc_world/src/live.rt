@@ -102,8 +102,8 @@ fn add_payload(resolve: &Resolve, ty: &PayloadType, live: &mut LiveTypes) -> Res
     }
 }
 
-/// The resource that an import drops, makes or represents.
-fn import_resource(import: &Import) -> Option<TypeId>
+/// The resource that an import drops, makes or represents; `None` for any other import.
+pub fn import_resource(import: &Import) -> Option<TypeId>
     ensures { option_map id_index result ≡ import_resource (import_view import.now) }
 {
     match import {
@@ -115,8 +115,8 @@ fn import_resource(import: &Import) -> Option<TypeId>
     }
 }
 
-/// The future or stream that an import is for.
-fn import_payload(import: &Import) -> Option<&PayloadInfo>
+/// The future or stream that a built-in is for; `None` for any other import.
+pub fn import_payload(import: &Import) -> Option<&PayloadInfo>
     ensures { option_map (λ p. payload_view p.now) result
         ≡ import_payload (import_view import.now) }
 {

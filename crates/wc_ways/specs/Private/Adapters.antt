@@ -20,11 +20,8 @@ use Rattle.wc_ways.specs.Words.{adapter_id}
 use Rattle.wc_ways.specs.Private.MainPaths.{AreMainPaths}
 use Rattle.wc_ways.specs.declared.asked.Function.{Function}
 use Rattle.wc_ways.specs.declared.main_paths.MainPaths.{MainPaths}
-use Rattle.wc_ways.specs.Private.Users.{AreUsers}
-use Rattle.wc_ways.specs.Users.{uses}
 use Rattle.wc_ways.specs.declared.modules.Adapter.{Adapter}
 use Rattle.wc_ways.specs.declared.originals.Walk.{Walk}
-use Rattle.wc_ways.specs.declared.types.AskedTypes.{AskedTypes}
 
 -- the names of a function that is asked about
 abbrev pub function_value : Function → FunctionName
@@ -91,10 +88,6 @@ IsSaidBy alone saying g y parts =
 abbrev pub library_said : {A : Type 0} → SayingAlone A → Adapter → List A
 library_said alone g =
     alone (world_in g).encoder.resolve g.key.now (Some g.name.now) (adapter_id g.index) (importer_text (Some g.name.now)) g.info.now.imports
-
--- the first interface that uses types of each is noted
-abbrev pub AreUsersIn : AskedTypes → Type 0
-AreUsersIn g = AreUsers (uses (world_view g.world.now)) g.users.now.entries
 
 -- an import of it is asked about
 abbrev pub is_asked_of : Adapter → ImportValue → Bool

@@ -1,17 +1,17 @@
 -- What is noted of each interface of a component, by the main module, by adapters and by types.
-use Rattle.std.specs.Prelude.{◌≡◌, ℕ, List, Option}
-use Rattle.std.specs.List.{filter_map}
+use Rattle.std.specs.Prelude.{◌≡◌, ℕ, List, Option, String, string_bytes}
+use Rattle.std.specs.Borrow.{Bor}
+use Rattle.std.specs.declared.alloc.Global.{Global}
 use Rattle.std.specs.Map.{keys_of, lookup}
 use Rattle.std.specs.Option.{option_map}
 use Rattle.std.specs.Str.{bytes_eq}
 use Rattle.wc_world.specs.Views.{ComponentWorldView, ImportedView}
-use Rattle.wc_world.specs.WorldViews.{world_view}
+use Rattle.wc_world.specs.WorldViews.{imported_view}
+use Rattle.wc_world.specs.declared.imported.ImportedInterface.{ImportedInterface}
 use Rattle.wc_ways.specs.Imports.{AreInterfacesIn, AreMainInterfaces, AreParts, IsMainPart, typed_in}
 use Rattle.wc_ways.specs.Summary.{AdapterPartView, MainPartView}
-use Rattle.wc_ways.specs.Types.{typed_name}
-use Rattle.wc_ways.specs.Users.{Uses, first_user, uses}
+use Rattle.wc_ways.specs.Types.{user_in}
 use Rattle.wc_ways.specs.Private.Entries.{EntriesView, Lists, no_parts, parts_of, with_adapters, with_main, with_types}
-use Rattle.wc_ways.specs.declared.types.AskedTypes.{AskedTypes}
 
 -- what the main module imports is noted, of interfaces of which nothing was
 pub record NotesMain (w : ComponentWorldView) (old new : EntriesView) : Type 0 where
@@ -28,16 +28,13 @@ pub record NotesAdapters (w : ComponentWorldView) (old new : EntriesView) : Type
   pub each : (interface : List ℕ) → (parts : List AdapterPartView) × AreParts w interface w.adapters parts × (parts_of new interface ≡ with_adapters parts (parts_of old interface))
 
 -- interfaces are noted that are imported for their types, with who uses them
-pub record NotesTyped (users : Uses) (typed : List (List ℕ × ℕ)) (old new : EntriesView) : Type 0 where
+pub record NotesTyped (user : ℕ → Option (List ℕ)) (typed : List (List ℕ × ℕ)) (old new : EntriesView) : Type 0 where
   pub listed : Lists old new (keys_of typed)
-  pub each : (interface : List ℕ) → parts_of new interface ≡ with_types (option_map (first_user users) (lookup (bytes_eq interface) typed)) (parts_of old interface)
+  pub each : (interface : List ℕ) → parts_of new interface ≡ with_types (option_map user (lookup (bytes_eq interface) typed)) (parts_of old interface)
 
 abbrev pub NotesTypes : ComponentWorldView → EntriesView → EntriesView → Type 0
-NotesTypes w old new = NotesTyped (uses w) (typed_in w) old new
+NotesTypes w old new = NotesTyped (user_in w) (typed_in w) old new
 
--- an interface that is asked about and imported for its types alone, and its index; all of them
-abbrev pub asked_type : AskedTypes → Option (List ℕ) × ImportedView → Option (List ℕ × ℕ)
-asked_type g x = typed_name (world_view g.world.now) g.key.now x
-
-abbrev pub asked_types : AskedTypes → List (List ℕ × ℕ)
-asked_types g = filter_map (asked_type g) (world_view g.world.now).import_map
+-- an interface under its name
+abbrev pub imported_shown : Bor (Option (String Global)) × Bor ImportedInterface → Option (List ℕ) × ImportedView
+imported_shown x = (option_map string_bytes x.0.now, imported_view x.1.now)

@@ -8,5 +8,4 @@ returns c =
     then _ _ _ c.in_ok-begin_object.ensures
     (then _ _ _ c.in_ok-put_text.ensures
     (then _ _ _ c.in_ok-put_null.ensures
-    (then _ _ _ c.in_ok-put_marked_steps.ensures
-    (closed _ _ c.in_ok-put_text_or_null.ensures c.end_object.ensures))))
+    (closed _ _ c.in_ok-put_marked_steps.ensures c.end_object.ensures)))
