@@ -5,8 +5,8 @@
     tools/pictures.py --readable
 
 Without --write it prints a line for each picture that is another one now, and ends with status 1 where there is one.
---readable reads a graph that `wcwhy --dot` or `wcplan --dot` printed, from standard input, and prints it with names of
-functions as they were before they were mangled, shortened to their last parts.
+--readable reads a graph that `wcplan --dot` printed, from standard input, and prints it with names of functions as they were
+before they were mangled, shortened to their last parts. `wcwhy --dot` has short names by itself.
 
     NAME            made of
     paths, why      paths.dot and why.dot beside them, which hold what `wcplan --why all --dot` of examples/wcplan and
@@ -85,7 +85,8 @@ def drawn_by_graphviz(name):
     graph = read(FOLDER / (name + ".dot"))
     options = ["-Grankdir=TB", "-Nfontsize=13", "-Nheight=0.3", "-Nmargin=0.06,0.04", "-Granksep=0.28", "-Gnodesep=0.15", "-Nfontname=Helvetica",
                "-Gfontname=Helvetica", "-Tsvg"]
-    drawn = subprocess.run(["dot", *options], input=readable(graph), capture_output=True, text=True, check=True).stdout
+    shown = graph if name == "why" else readable(graph)
+    drawn = subprocess.run(["dot", *options], input=shown, capture_output=True, text=True, check=True).stdout
     return drawn.replace("<svg ", "<!-- %s -->\n<svg " % mark_of(graph), 1)
 
 

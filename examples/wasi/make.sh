@@ -40,5 +40,5 @@ asked='--import=wasi:filesystem/preopens@0.2.6 --import=wasi:cli/terminal-stdout
     --import=wasi:io/streams@0.2.6=[method]output-stream.blocking-flush'
 used='fd_close fd_fdstat_get fd_seek fd_write proc_exit wasi:cli/run@0.2.6#run cabi_import_realloc'
 # shellcheck disable=SC2086
-"$here/../../wcwhy" "$here/out/adapter.wasm" --dot $asked $used | "$here/../../tools/pictures.py" --readable |
+"$here/../../wcwhy" "$here/out/adapter.wasm" --dot $asked $used |
     dot -Nfontsize=13 -Nheight=0.3 -Nmargin=0.06,0.04 -Granksep=0.28 -Gnodesep=0.15 -Tsvg >"$here/out/why.svg"

@@ -79,7 +79,7 @@ insert_after name other names =
     ]
 
 -- one more name after others
-distinct_more : (names : List (List ℕ)) (name : List ℕ) → first_occurrences (names ++ name ∷ []) ≡ insert_key bytes_eq (first_occurrences names) name
+pub distinct_more : (names : List (List ℕ)) (name : List ℕ) → first_occurrences (names ++ name ∷ []) ≡ insert_key bytes_eq (first_occurrences names) name
 distinct_more [] name = refl
 distinct_more (x ∷ names) name = ap (λ l. x ∷ filter (differs x) l) (distinct_more names name) ∙ sym (insert_after x name (first_occurrences names))
 

@@ -1,9 +1,7 @@
 mod JoinedLemmas
 mod ArgumentLemmas
-mod ItemLemmas
 mod LineLemmas
 mod TreeLemmas
 mod ExecutionLemmas
 mod RunLemmas
 mod NearExportLemmas
-mod GraphLemmas

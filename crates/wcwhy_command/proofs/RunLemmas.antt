@@ -1,13 +1,11 @@
 -- How the program ends by what its arguments are read as.
-use Rattle.std.proofs.Common.{◌≡◌, ℕ, Bool, true, false, List, Result, Ok, Err, OnOk, IfErr, sym, subst, inl, inr}
-use Rattle.std.specs.Borrow.{Bor}
+use Rattle.std.proofs.Common.{◌≡◌, ℕ, List, Result, Ok, Err, OnOk, IfErr, sym, subst, inl, inr}
 use Rattle.wc_program.specs.Files.{FileChange, Holds}
-use Rattle.wc_program.specs.declared.files.FileProblem.{FileProblem}
 use Rattle.wc_program.specs.Screen.{Printing}
 use Rattle.wc_options.specs.Wrong.{IsStop, Reading, wrong_view}
 use Rattle.wcwhy_command.specs.Arguments.{CommandView}
 use Rattle.wcwhy_command.specs.Reading.{AsksMemory, read_arguments}
-use Rattle.wcwhy_command.specs.Program.{CommandEnds, EndsWell, EndsWith, IsCauseBy, IsPrintCause, IsPrintedOf, IsRunCause, ReadingEnds, input_path}
+use Rattle.wcwhy_command.specs.Program.{CommandEnds, EndsWell, EndsWith, IsPrintCause, IsPrintedOf, IsRunCause, ReadingEnds, input_path}
 use Rattle.wcwhy_command.specs.Private.Execution.{AnswersStop, PrintsSome}
 use Rattle.wc_options.specs.declared.wrong.NoCommand.{NoCommand}
 use Rattle.wc_options.specs.declared.wrong.NoCommand.TheVariants.{Memory, Help, Version, Wrong}
@@ -36,12 +34,8 @@ module _ (c : CommandView) (files : FileChange) (bytes : List ℕ) (read : Holds
   read_well (Ok x) (text, is, shown) = (bytes, text, read, is, shown)
   read_well (Err f) h = tt
 
-  no_unread_cause : (b : Bool) (path : Bor (List ℕ)) (p : FileProblem) → IsCauseBy b c bytes (CannotRead path p) → ⊥
-  no_unread_cause true path p h = h
-  no_unread_cause false path p h = h
-
   cause_of_read : (f : WhyFault) → IsPrintCause c bytes out f → IsRunCause c files out f
-  cause_of_read (CannotRead path p) h = absurd (no_unread_cause c.dot path p h.0)
+  cause_of_read (CannotRead path p) h = absurd h.0
   cause_of_read why_memory h = inr (bytes, read, h)
   cause_of_read f h = (bytes, read, h)
 

@@ -4,7 +4,6 @@ pub mod Usage
 pub mod Texts
 pub mod Patterns
 pub mod Lines
-pub mod Graph
 pub mod NearExports
 pub mod Fault
 pub mod Tree

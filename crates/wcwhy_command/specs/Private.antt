@@ -1,5 +1,5 @@
 -- Words of contracts of private functions. No contract of a public function cites these, directly or through others.
-pub mod Reasons
+pub mod Puts
 pub mod Followed
 pub mod Tree
 pub mod Execution

@@ -5,13 +5,7 @@ use Rattle.std.specs.Str.{bytes_eq}
 use Rattle.std.specs.declared.alloc.Global.{Global}
 use Rattle.wc_json.specs.Escape.{escaped}
 use Rattle.wc_read.specs.Imports.{ImportValue}
-use Rattle.wc_read.specs.Modules.{ModuleValue, SpellsModule}
-use Rattle.wc_read.specs.Names.{GlobalNameValue}
 use Rattle.wc_read.specs.Reading.Names.{AreFunctionNames}
-use Rattle.wc_texts.specs.Names.{first_occurrences}
-use Rattle.wc_gc.specs.LiveItems.{IsFault, IsLivenessCause, trim_input_for_names}
-use Rattle.wc_gc.specs.TrimPlace.{IsExplained}
-use Rattle.wc_gc.specs.declared.fault.GcFault.{GcFault}
 use Rattle.wc_gc.specs.declared.fault.GcFault.TheVariants.{Memory as gc_memory}
 use Rattle.wc_texts.specs.FaultTexts.{memory_text}
 use Rattle.wc_program.specs.Files.{FileChange, Held, Holds}
@@ -27,75 +21,38 @@ use Rattle.wcwhy_command.specs.Reading.{AsksMemory, read_arguments}
 use Rattle.wcwhy_command.specs.Usage.{usage_text, help_text, version_text, no_text, fault_line, fault_and_usage}
 use Rattle.wc_import_paths.specs.Following.{FollowedView, IsFollowed, IsRefusal}
 use Rattle.wcwhy_command.specs.Lines.{AreLines}
-use Rattle.wcwhy_command.specs.Graph.{IsGraph}
 use Rattle.wcwhy_command.specs.NearExports.{IsNearFor}
 use Rattle.wcwhy_command.specs.Fault.{NeedsText, near_text, why_fault_text}
-use Rattle.wcwhy_command.specs.Tree.{IsTreeJson}
+use Rattle.wcwhy_command.specs.Tree.{IsTreeGraph, IsTreeJson}
 use Rattle.wc_import_paths.specs.declared.patterns.ImportPattern.{ImportPattern}
 use Rattle.wcwhy_command.specs.declared.fault.WhyFault.{WhyFault}
 use Rattle.wcwhy_command.specs.declared.fault.WhyFault.TheVariants.{Memory, CannotRead, Source, NoImport, Output}
 
--- with `--dot` the bytes spell an adapter that has some of the imports that each option asks for, and this is its graph, with each
--- export counted once
-pub record IsGraphOf (c : CommandView) (bytes text : List ℕ) : Type 0 where
-  pub adapter : ModuleValue
-  pub spelled : SpellsModule bytes adapter
-  pub known : first_unknown adapter.imports c.imports ≡ None
-  pub names : List GlobalNameValue
-  pub named : AreFunctionNames bytes names
-  pub is : IsGraph (first_occurrences c.exports) adapter names c.imports text
+-- what is printed of a module that is followed: the tree of its paths as a graph or as JSON, where that is asked for; else lines
+abbrev pub IsSourceTextBy : Bool → Bool → FollowedView → List PatternView → List ℕ → Type 0
+IsSourceTextBy true json f patterns text = IsTreeGraph f patterns text
+IsSourceTextBy false true f patterns text = IsTreeJson f patterns text
+IsSourceTextBy false false f patterns text = AreLines f patterns text
 
--- what is printed of a module that is followed: the tree of its paths as JSON, where it is asked for; else lines
-abbrev pub IsSourceTextBy : Bool → FollowedView → List PatternView → List ℕ → Type 0
-IsSourceTextBy true f patterns text = IsTreeJson f patterns text
-IsSourceTextBy false f patterns text = AreLines f patterns text
-
--- without it the bytes spell a module that is followed and has some of these imports, and this is printed of it
-pub record IsSourceOf (c : CommandView) (bytes text : List ℕ) : Type 0 where
+-- what is printed of bytes: they spell a module that is followed and has some of the imports that each option asks for
+pub record IsPrintedOf (c : CommandView) (bytes text : List ℕ) : Type 0 where
   pub source : FollowedView
   pub followed : IsFollowed bytes c.exports source
   pub known : first_unknown source.code.imports c.imports ≡ None
   pub named : AreFunctionNames bytes source.names
-  pub is : IsSourceTextBy c.json source c.imports text
-
-abbrev pub IsPrintedBy : Bool → CommandView → List ℕ → List ℕ → Type 0
-IsPrintedBy true c bytes text = IsGraphOf c bytes text
-IsPrintedBy false c bytes text = IsSourceOf c bytes text
-
--- what is printed of bytes
-abbrev pub IsPrintedOf : CommandView → List ℕ → List ℕ → Type 0
-IsPrintedOf c bytes text = IsPrintedBy c.dot c bytes text
-
--- no fault of liveness has a cause
-abbrev pub HasNoCause : CommandView → List ℕ → Type 0
-HasNoCause c bytes = (f : GcFault) → ¬ (IsLivenessCause (trim_input_for_names bytes c.exports) f)
+  pub is : IsSourceTextBy c.dot c.json source c.imports text
 
 -- the first option that asks for none of these imports, and what is there in their place
 abbrev pub IsNoImport : List ImportValue → List PatternView → ImportPattern → Option (String Global) → Type 0
 IsNoImport imports patterns p near =
     (first_unknown imports patterns ≡ Some (pattern_view p)) × (option_map string_bytes near ≡ near_text imports (pattern_view p))
 
--- why no graph is printed of the bytes of an adapter
-abbrev pub IsGraphCause : CommandView → List ℕ → WhyFault → Type 0
-IsGraphCause c bytes (Source f place near) =
-    (f ≢ gc_memory) × IsFault (trim_input_for_names bytes c.exports) f × IsExplained (trim_input_for_names bytes c.exports) f place × IsNearFor bytes f near
-IsGraphCause c bytes (NoImport p near) =
-    HasNoCause c bytes × (m : ModuleValue) × SpellsModule bytes m × IsNoImport m.imports c.imports p near
-IsGraphCause c bytes f = ⊥
-
--- why nothing else is printed of the bytes of a module
-abbrev pub IsSourceCause : CommandView → List ℕ → WhyFault → Type 0
-IsSourceCause c bytes (Source f place near) = (f ≢ gc_memory) × IsRefusal bytes c.exports f place × IsNearFor bytes f near
-IsSourceCause c bytes (NoImport p near) =
-    (source : FollowedView) × IsFollowed bytes c.exports source × IsNoImport source.code.imports c.imports p near
-IsSourceCause c bytes f = ⊥
-
-abbrev pub IsCauseBy : Bool → CommandView → List ℕ → WhyFault → Type 0
-IsCauseBy true c bytes f = IsGraphCause c bytes f
-IsCauseBy false c bytes f = IsSourceCause c bytes f
-
+-- why nothing is printed of the bytes of a module
 abbrev pub IsBytesCause : CommandView → List ℕ → WhyFault → Type 0
-IsBytesCause c bytes f = IsCauseBy c.dot c bytes f
+IsBytesCause c bytes (Source f place near) = (f ≢ gc_memory) × IsRefusal bytes c.exports f place × IsNearFor bytes f near
+IsBytesCause c bytes (NoImport p near) =
+    (source : FollowedView) × IsFollowed bytes c.exports source × IsNoImport source.code.imports c.imports p near
+IsBytesCause c bytes f = ⊥
 
 -- why bytes could not be printed of: where memory runs out, it is left open what was printed before
 abbrev pub IsPrintCause : CommandView → List ℕ → (Printing → Type 0) → WhyFault → Type 0

@@ -1,5 +1,5 @@
 -- What arguments are read as.
-use Rattle.std.specs.Prelude.{◌≡◌, ℕ, true, false, cond, List, [], ◌∷◌, codes, map, None, Ok, Err}
+use Rattle.std.specs.Prelude.{◌≡◌, ℕ, Bool, ◌&&◌, true, false, cond, List, [], ◌∷◌, codes, map, None, Ok, Err}
 use Rattle.wc_options.specs.Reading.{TokenView, is_given, plain_texts, read, values_of}
 use Rattle.wc_options.specs.Table.{Table}
 use Rattle.wc_options.specs.Wrong.{Reading, missing, together, wrong}
@@ -14,7 +14,7 @@ option_table =
     ∷ record { name = codes "--dot"; value = Nothing; repeats = false }
     ∷ record { name = codes "--json"; value = Nothing; repeats = false } ∷ []
 
--- a command by the texts that are no options: the path, and then the exports, one at least where a graph is asked for
+-- a command by the texts that are no options: the path, and then the exports
 abbrev pub command_with : List TokenView → List ℕ → List (List ℕ) → CommandView
 command_with tokens source exports = record {
   source = source;
@@ -31,16 +31,15 @@ command_by tokens (source ∷ exports) = command_with tokens source exports
 abbrev pub command_of : List TokenView → CommandView
 command_of tokens = command_by tokens (plain_texts tokens)
 
--- a graph is of required exports, and is no JSON
-abbrev pub graph_by : List TokenView → List ℕ → List (List ℕ) → Reading CommandView
-graph_by tokens source [] = Err (wrong (missing (codes "EXPORT")))
-graph_by tokens source (first ∷ others) =
-    cond (is_given (codes "--json") tokens) (Err (wrong (together (codes "--dot") (codes "--json")))) (Ok (command_with tokens source (first ∷ others)))
+-- a graph is no JSON
+
+abbrev pub is_graph_and_json : List TokenView → Bool
+is_graph_and_json tokens = is_given (codes "--dot") tokens && is_given (codes "--json") tokens
 
 abbrev pub finish_with : List TokenView → List (List ℕ) → Reading CommandView
 finish_with tokens [] = Err (wrong (missing (codes "IN")))
 finish_with tokens (source ∷ exports) =
-    cond (is_given (codes "--dot") tokens) (graph_by tokens source exports) (Ok (command_with tokens source exports))
+    cond (is_graph_and_json tokens) (Err (wrong (together (codes "--dot") (codes "--json")))) (Ok (command_with tokens source exports))
 
 abbrev pub finish : Reading (List TokenView) → Reading CommandView
 finish (Ok tokens) = finish_with tokens (plain_texts tokens)

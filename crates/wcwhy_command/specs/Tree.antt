@@ -1,4 +1,4 @@
--- The paths to imports as a tree, and its JSON.
+-- The paths to imports as a tree, its JSON, and its graph.
 use Rattle.std.specs.Prelude.{◌≡◌, ℕ, All, cond, List, [], ◌∷◌, ◌++◌, codes, length, map, MatchOption, Option, Some, None}
 use Rattle.std.specs.List.{filter_map, range_with_len, slice_get}
 use Rattle.json.specs.Lex.{tokens}
@@ -15,6 +15,7 @@ use Rattle.wc_import_paths.specs.JsonPaths.{IsPathTo, IsUnreached}
 use Rattle.wc_import_paths.specs.Patterns.{PatternView, is_shown}
 use Rattle.wc_tree.specs.ModuleTree.{IsRead, ShownView, ways_of}
 use Rattle.wc_tree.specs.Tree.{TreeModuleView, TreeView}
+use Rattle.wc_tree.specs.TreeGraph.{tree_graph}
 use Rattle.wc_tree.specs.TreeJson.{tree_json}
 
 -- an import, and its item
@@ -60,3 +61,9 @@ pub record IsTreeJson (f : FollowedView) (patterns : List PatternView) (text : L
   pub is_tree : IsTree f patterns tree
   pub is : text ≡ print (json_tokens (tree_json tree)) ++ codes "\n"
   pub back : tokens (print (json_tokens (tree_json tree))) ≡ json_tokens (tree_json tree)
+
+-- its text as a graph
+pub record IsTreeGraph (f : FollowedView) (patterns : List PatternView) (text : List ℕ) : Type 0 where
+  pub tree : TreeView
+  pub is_tree : IsTree f patterns tree
+  pub is : text ≡ tree_graph tree

@@ -8,7 +8,7 @@ usage_text = codes "usage: wcwhy IN [--import KEY[=NAME]]... [--dot] [--json] [E
 -- what each argument is
 abbrev pub options_text : List ℕ
 options_text =
-    codes "  IN                      a core module; with --dot an adapter\n"
+    codes "  IN                      a core module\n"
     ++ (codes "  EXPORT                  an export at which paths may begin; else all\n"
     ++ (codes "  --import KEY[=NAME]     imports of a module or a package; else all that stay\n"
     ++ (codes "  --dot                   print a graph, in the language of Graphviz\n"

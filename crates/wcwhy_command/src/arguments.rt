@@ -4,7 +4,7 @@ ghost use Rattle.std.specs.Prelude.{◌≡◌, ◌<◌, IfOk, length};
 ghost use Rattle.wc_options.specs.Reading.{lines_of, plain_texts, said_by, texts_in};
 ghost use Rattle.wc_options.specs.Wrong.{IsRead};
 ghost use Rattle.wcwhy_command.specs.Arguments.{command_view};
-ghost use Rattle.wcwhy_command.specs.Reading.{AsksMemory, command_of, option_table, read_arguments};
+ghost use Rattle.wcwhy_command.specs.Reading.{AsksMemory, command_of, is_graph_and_json, option_table, read_arguments};
 
 use std::alloc::{AllocError, Global};
 use wc_import_paths::{ImportPattern, patterns_of};
@@ -52,7 +52,7 @@ pub(crate) const OPTIONS: [ProgramOption; 3] = [
 ];
 
 /// The command of these arguments, the first of them the one after the program's name: `IN` and then each `EXPORT`, and
-/// options before, between and after them. With `--dot` there is one `EXPORT` at least, and no `--json`.
+/// options before, between and after them. With `--dot` there is no `--json`.
 /// `--import KEY[=NAME]` may come several times, `--dot` and `--json` once. What comes after `--import` is its value,
 /// whatever it is; in one argument there is a `=` between them, as in `--import=KEY`. KEY is the name of a module or a package
 /// of interfaces, each with its version or without (`wc_why::asks_about`), and ends at the first `=`. `--` is not an argument,
@@ -63,8 +63,8 @@ pub(crate) const OPTIONS: [ProgramOption; 3] = [
 /// They are read in order, and the first of these is named:
 ///
 /// - `Help`, `Version`: an option is `--help` or `-h`, or `--version`.
-/// - `Wrong`: an argument is wrong; or, after the last, the value of an option, or IN, or with
-///   `--dot` EXPORT, is missing, or `--json` is given with `--dot`.
+/// - `Wrong`: an argument is wrong; or, after the last, the value of an option, or IN is missing, or `--json` is given with
+///   `--dot`.
 /// - `Memory`: an allocation failed. It may come only where nothing is wrong.
 pub fn parse(alloc: Global, arguments: &[String]) -> Result<Command<'_>, NoCommand<'_>>
     ensures { IsRead command_view (AsksMemory (texts_in arguments.now)) result
@@ -73,15 +73,8 @@ pub fn parse(alloc: Global, arguments: &[String]) -> Result<Command<'_>, NoComma
     check(options(), None, arguments)?;
     match text_count(options(), arguments) {
         0 => Err(NoCommand::Wrong(WrongArgument::Missing("IN"))),
-        1 => {
-            if is_given(options(), arguments, "--dot") {
-                Err(NoCommand::Wrong(WrongArgument::Missing("EXPORT")))
-            } else {
-                Ok(command_of(alloc, arguments)?)
-            }
-        }
         _ => {
-            if is_given(options(), arguments, "--dot") && is_given(options(), arguments, "--json") {
+            if is_graph_and_json(arguments) {
                 Err(NoCommand::Wrong(WrongArgument::Together {
                     option: "--dot",
                     other: "--json",
@@ -91,6 +84,13 @@ pub fn parse(alloc: Global, arguments: &[String]) -> Result<Command<'_>, NoComma
             }
         }
     }
+}
+
+/// Whether a graph and JSON are asked for.
+fn is_graph_and_json(arguments: &[String]) -> bool
+    ensures { result ≡ is_graph_and_json (said_by option_table (texts_in arguments.now)) }
+{
+    is_given(options(), arguments, "--dot") && is_given(options(), arguments, "--json")
 }
 
 /// The options as a table.

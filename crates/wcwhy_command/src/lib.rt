@@ -9,12 +9,10 @@
 mod arguments;
 mod execution;
 mod fault;
-mod graph;
 mod lines;
 mod near_exports;
 mod patterns;
 mod program;
-mod reasons;
 mod texts;
 mod tree;
 mod usage;

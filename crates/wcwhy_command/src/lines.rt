@@ -8,7 +8,7 @@ ghost use Rattle.wc_why.specs.Paths.{path_view};
 ghost use Rattle.wcwhy_command.specs.Lines.{title, unreached_text};
 ghost use Rattle.wc_import_paths.specs.Followed.{AreMarksIn, HasPaths};
 ghost use Rattle.wcwhy_command.specs.Private.Followed.{AreLinesIn, IsLineIn};
-ghost use Rattle.wcwhy_command.specs.Private.Reasons.{PutsSome};
+ghost use Rattle.wcwhy_command.specs.Private.Puts.{PutsSome};
 
 use crate::fault::PrintFault;
 use std::alloc::{AllocError, Global};

@@ -142,8 +142,8 @@ fn run_and_report<F: FileStore, O: Output, E: Screen>(
 /// Paths begin at the exports that are asked for, in their order, or at all, in the order of the file, and then at the start
 /// function; only where none of these leads to an import, they begin at an active segment (`wc_paths`).
 ///
-/// With `--dot` it prints a graph instead, of the paths from required exports of an adapter, which are the chains that
-/// `wc_gc::why` answers. A repeated export counts once there.
+/// With `--json` it prints the tree of these paths instead, as JSON (`wc_tree::tree_to_json`), and with `--dot` as a graph
+/// (`wc_tree::tree_to_graph`). An import that nothing leads to is not in it.
 ///
 /// All lines are flushed. The path `-` of the module is that of `/dev/stdin`. `seed`: the seed of the maps that are made.
 ///
@@ -155,8 +155,8 @@ fn run_and_report<F: FileStore, O: Output, E: Screen>(
 ///
 /// - `CannotRead`: the module could not be read. It carries why.
 /// - `Source`: the module can't be followed: `Read` of a module that can't be read, and then of segments; `MissingExport`;
-///   `LiveBody`, of a body that paths reach. With `--dot` the fault of `wc_gc::why_imports`. With `MissingExport` it carries
-///   the first export that is equal but for its version and for the case of letters.
+///   `LiveBody`, of a body that paths reach. With `MissingExport` it carries the first export that is equal but for its version
+///   and for the case of letters.
 /// - `NoImport`: the module has none of the imports that an option asks for. It carries the first such, and the first
 ///   import that it would ask for by the module, or else by the package, if versions and the case of letters did not count.
 /// - `Output`: a put or the flush failed; `out` is failed, and how much was printed is left open.

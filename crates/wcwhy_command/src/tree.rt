@@ -1,10 +1,10 @@
-//! The paths to imports as a tree.
+//! The paths to imports as a tree: as JSON, or as a graph.
 
 ghost use Rattle.std.specs.Prelude.{◌≡◌, IfOk, IsErrOf, OnOk, true};
 ghost use Rattle.wc_import_paths.specs.Followed.{AreShown, HasPaths};
 ghost use Rattle.wc_tree.specs.Tree.{tree_view};
-ghost use Rattle.wcwhy_command.specs.Private.Reasons.{PutsSome};
-ghost use Rattle.wcwhy_command.specs.Private.Tree.{IsTreeIn, IsTreeJsonIn, shown_at, shown_if, shown_imports};
+ghost use Rattle.wcwhy_command.specs.Private.Puts.{PutsSome};
+ghost use Rattle.wcwhy_command.specs.Private.Tree.{IsTreeGraphIn, IsTreeIn, IsTreeJsonIn, shown_at, shown_if, shown_imports};
 
 use crate::fault::PrintFault;
 use std::alloc::{AllocError, Global};
@@ -12,7 +12,7 @@ use wc_import_paths::{Asked, Followed, marks_for};
 use wc_paths::PathItem;
 use wc_read::Import;
 use wc_texts::Sink;
-use wc_tree::{ShownImport, Source, Tree, tree_of_module, tree_to_json};
+use wc_tree::{ShownImport, Source, Tree, tree_of_module, tree_to_graph, tree_to_json};
 
 /// Puts the paths to the imports that are asked for, in order, as a tree, in JSON in a line (`wc_tree::tree_to_json`). An import
 /// to which no path leads is left out.
@@ -32,6 +32,26 @@ pub(crate) fn put_json<S: Sink>(
     let tree = tree_of(alloc, asked, followed)?;
     let text = tree_to_json(alloc, &tree)?;
     out.put(&text)?;
+    Ok(())
+}
+
+/// Puts them as a graph (`wc_tree::tree_to_graph`).
+pub(crate) fn put_graph<S: Sink>(
+    alloc: Global,
+    asked: &Asked<'_, '_>,
+    followed: &Followed<'_>,
+    out: &mut S,
+) -> Result<(), PrintFault>
+    requires paths { HasPaths followed.now }
+    requires shown { AreShown followed.now asked.now }
+    ensures done { OnOk result (PutsSome (IsTreeGraphIn followed.now asked.now)
+        (S.written out.old) (S.written out.new)) }
+    ensures works { OnOk result (S.is_failed out.new ≡ S.is_failed out.old) }
+    ensures output { IsErrOf result PrintFault.Output → S.is_failed out.new ≡ true }
+{
+    let tree = tree_of(alloc, asked, followed)?;
+    let text = tree_to_graph(alloc, asked.seed(), &tree)?;
+    out.put(text.as_bytes())?;
     Ok(())
 }
 

@@ -15,7 +15,7 @@ pub(crate) fn page() -> Page<'static>
     Page {
         usage: "usage: wcwhy IN",
         end: " [EXPORT]...\n       wcwhy --help | --version\n",
-        words: "  IN                      a core module; with --dot an adapter
+        words: "  IN                      a core module
   EXPORT                  an export at which paths may begin; else all
 ",
         last: "  -h, --help              print this text

@@ -2,16 +2,13 @@
 use Rattle.std.specs.Prelude.{◌≡◌, ◌⊎◌, ⊤, ℕ, List, None, string_bytes}
 use Rattle.std.specs.Option.{option_map}
 use Rattle.wc_read.specs.Imports.{ImportValue}
-use Rattle.wc_read.specs.Modules.{ModuleValue, module_value}
-use Rattle.wc_read.specs.Names.{GlobalNameValue}
+use Rattle.wc_read.specs.Modules.{module_value}
 use Rattle.wc_program.specs.Screen.{Printing, nothing, printed, failed}
 use Rattle.wc_options.specs.Wrong.{help, version, wrong, wrong_view}
-use Rattle.wc_texts.specs.Names.{first_occurrences}
 use Rattle.wc_import_paths.specs.Patterns.{first_unknown, pattern_view}
 use Rattle.wcwhy_command.specs.Arguments.{CommandView}
-use Rattle.wcwhy_command.specs.Graph.{IsGraph}
 use Rattle.wcwhy_command.specs.Fault.{near_text}
-use Rattle.wcwhy_command.specs.Program.{EndsWithoutMemory, IsGraphCause, IsNoImport, IsSourceCause, StopEnds}
+use Rattle.wcwhy_command.specs.Program.{EndsWithoutMemory, IsNoImport, StopEnds}
 use Rattle.wcwhy_command.specs.Private.Followed.{IsSourceText}
 use Rattle.wc_import_paths.specs.declared.followed.Followed.{Followed}
 use Rattle.wc_import_paths.specs.declared.patterns.ImportPattern.{ImportPattern}
@@ -27,15 +24,10 @@ AnswersStop Help out err status = StopEnds help out err status
 AnswersStop Version out err status = StopEnds version out err status
 AnswersStop (Wrong w) out err status = StopEnds (wrong (wrong_view w)) out err status ⊎ EndsWithoutMemory out err status
 
--- this adapter has some of the imports that each option asks for, and its graph is printed
-abbrev pub ArePrinted : CommandView → ModuleValue → List GlobalNameValue → (Printing → Type 0) → Type 0
-ArePrinted c m names out =
-    (text : List ℕ) × (first_unknown m.imports c.imports ≡ None) × IsGraph (first_occurrences c.exports) m names c.imports text × out (printed text)
-
--- the same of a module that is followed
+-- a module that is followed has some of the imports that each option asks for, and what is asked for is printed of it
 abbrev pub IsSourcePrinted : CommandView → Followed → (Printing → Type 0) → Type 0
 IsSourcePrinted c f out =
-    (text : List ℕ) × (first_unknown (module_value f.code).imports c.imports ≡ None) × IsSourceText c.json f c.imports text × out (printed text)
+    (text : List ℕ) × (first_unknown (module_value f.code).imports c.imports ≡ None) × IsSourceText c.dot c.json f c.imports text × out (printed text)
 
 -- why it could not be printed
 abbrev pub IsFollowedCause : CommandView → Followed → (Printing → Type 0) → WhyFault → Type 0
@@ -43,24 +35,6 @@ IsFollowedCause c f out why_memory = ⊤
 IsFollowedCause c f out Output = out failed
 IsFollowedCause c f out (NoImport p near) = IsNoImport (module_value f.code).imports c.imports p near × out nothing
 IsFollowedCause c f out fault = ⊥
-
--- why bytes could not be printed of, as a graph and otherwise
-abbrev pub IsGraphPrintCause : CommandView → List ℕ → (Printing → Type 0) → WhyFault → Type 0
-IsGraphPrintCause c bytes out why_memory = ⊤
-IsGraphPrintCause c bytes out Output = out failed
-IsGraphPrintCause c bytes out f = IsGraphCause c bytes f × out nothing
-
-abbrev pub IsSourcePrintCause : CommandView → List ℕ → (Printing → Type 0) → WhyFault → Type 0
-IsSourcePrintCause c bytes out why_memory = ⊤
-IsSourcePrintCause c bytes out Output = out failed
-IsSourcePrintCause c bytes out f = IsSourceCause c bytes f × out nothing
-
--- why it could not be printed of an adapter
-abbrev pub IsReasonsCause : CommandView → ModuleValue → (Printing → Type 0) → WhyFault → Type 0
-IsReasonsCause c m out why_memory = ⊤
-IsReasonsCause c m out Output = out failed
-IsReasonsCause c m out (NoImport p near) = IsNoImport m.imports c.imports p near × out nothing
-IsReasonsCause c m out f = ⊥
 
 -- the fault for what an option asks for, of which none of these imports is
 abbrev pub IsNoImportFault : List ImportValue → ImportPattern → WhyFault → Type 0

@@ -14,5 +14,6 @@ abbrev pub IsLineIn : Followed → List PatternView → ℕ → List ℕ → Typ
 IsLineIn f patterns position text =
     (names : List GlobalNameValue) → AreNamesIn f names → IsLineText (followed_view f names) patterns position text
 
-abbrev pub IsSourceText : Bool → Followed → List PatternView → List ℕ → Type 0
-IsSourceText json f patterns text = (names : List GlobalNameValue) → AreNamesIn f names → IsSourceTextBy json (followed_view f names) patterns text
+abbrev pub IsSourceText : Bool → Bool → Followed → List PatternView → List ℕ → Type 0
+IsSourceText dot json f patterns text =
+    (names : List GlobalNameValue) → AreNamesIn f names → IsSourceTextBy dot json (followed_view f names) patterns text

@@ -10,7 +10,7 @@ use Rattle.wc_import_paths.specs.Patterns.{PatternView, is_shown}
 use Rattle.wc_import_paths.specs.declared.followed.Followed.{Followed}
 use Rattle.wc_tree.specs.Tree.{TreeView}
 use Rattle.wc_tree.specs.declared.module_tree.ShownImport.{ShownImport}
-use Rattle.wcwhy_command.specs.Tree.{IsTree, IsTreeJson}
+use Rattle.wcwhy_command.specs.Tree.{IsTree, IsTreeGraph, IsTreeJson}
 
 -- whatever names the functions have
 
@@ -19,6 +19,9 @@ IsTreeIn f patterns t = (names : List GlobalNameValue) → AreNamesIn f names �
 
 abbrev pub IsTreeJsonIn : Followed → List PatternView → List ℕ → Type 0
 IsTreeJsonIn f patterns text = (names : List GlobalNameValue) → AreNamesIn f names → IsTreeJson (followed_view f names) patterns text
+
+abbrev pub IsTreeGraphIn : Followed → List PatternView → List ℕ → Type 0
+IsTreeGraphIn f patterns text = (names : List GlobalNameValue) → AreNamesIn f names → IsTreeGraph (followed_view f names) patterns text
 
 -- the imports that are asked for, as they were read
 

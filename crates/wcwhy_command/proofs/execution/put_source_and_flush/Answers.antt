@@ -1,5 +1,5 @@
 use Rattle.std.proofs.Common.{◌∙◌, sym}
-use Rattle.wcwhy_command.proofs.GraphLemmas.{handed_on}
+use Rattle.wcwhy_command.proofs.JoinedLemmas.{handed_on}
 use Rattle.wcwhy_command.proofs.execution.put_source_and_flush.Goals as goal
 
 pub returns-clause-done : goal.returns-clause-done

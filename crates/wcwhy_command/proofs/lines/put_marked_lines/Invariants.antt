@@ -1,7 +1,7 @@
 use Rattle.std.proofs.Common.{◌≡◌}
 use Rattle.wc_why.specs.Joined.{AreJoined}
 use Rattle.wcwhy_command.specs.Private.Followed.{IsLineIn}
-use Rattle.wcwhy_command.specs.Private.Reasons.{PutsSome}
+use Rattle.wcwhy_command.specs.Private.Puts.{PutsSome}
 use Rattle.wcwhy_command.proofs.lines.put_marked_lines.Given as goal
 
 abbrev pub invariant-loop-position : goal.invariant-loop-position
