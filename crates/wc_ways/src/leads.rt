@@ -164,7 +164,8 @@ fn note_body(
     number: usize,
     def: Def<&[u8]>,
 ) -> Result<(), AllocError>
-    ensures { OnOk result (bodies.new.items ≡ bodies.old.items ++ sized_in number (def_value (λ b. b.now) def.entry)) }
+    ensures { OnOk result (bodies.new.items ≡ bodies.old.items
+        ++ sized_in number (def_value (λ b. b.now) def.entry)) }
 {
     match def {
         Def::Local(body) => {
