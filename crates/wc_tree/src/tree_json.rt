@@ -47,7 +47,8 @@ use wc_why::{
 pub fn tree_to_json(alloc: Global, tree: &Tree<'_>) -> Result<Vec<u8>, AllocError>
     ensures text { IfOk result (λ v. v.items
         ≡ print (json_tokens (tree_json (tree_view tree.now))) ++ codes "\n") }
-    ensures reads_back { IfOk result (λ _. tokens (print (json_tokens (tree_json (tree_view tree.now))))
+    ensures reads_back { IfOk result (λ _. tokens
+        (print (json_tokens (tree_json (tree_view tree.now))))
         ≡ json_tokens (tree_json (tree_view tree.now))) }
 {
     let mut out = Writer::new(Vec::new(alloc));

@@ -130,7 +130,8 @@ fn items_by_name<'a>(
 
 /// Notes the item of an export, if none of its name is noted.
 fn note_named<'a>(named: &mut Map<&'a str, PathItem>, export: &Export<'a>) -> Result<(), AllocError>
-    ensures { OnOk result (AddsNamed (export_value export.now) named.old.entries named.new.entries) }
+    ensures { OnOk result (AddsNamed (export_value export.now)
+        named.old.entries named.new.entries) }
 {
     if named.contains_key(export.name) {
         return Ok(());

@@ -107,8 +107,8 @@ fn put_source_and_flush<O: Output>(
 ) -> Result<(), PrintFault>
     requires paths { HasPaths followed.now }
     requires shown { AreShown followed.now asked.now }
-    ensures done { OnOk result (PrintsSome (IsSourceText command.now.dot command.now.json followed.now
-        asked.now)
+    ensures done { OnOk result (PrintsSome (IsSourceText command.now.dot command.now.json
+        followed.now asked.now)
         (Becomes (output_ends O.written O.sent O.is_failed) out.old out.new)) }
     ensures output { IsErrOf result PrintFault.Output → O.is_failed out.new ≡ true }
 {
