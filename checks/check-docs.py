@@ -43,7 +43,7 @@ WRITTEN = {"out.wasm", "main.wasm", "adapter.wasm", "hello.wasm", "no-repeats.wa
            "repeats-100000.wasm"}
 # names of other crates, of the kit and of other tools, which no source of the repository has
 FOREIGN = {"TypeRef", "Default", "Dec", "ValidatedAdapter", "wasm-component-ld", "wasm-encoder", "wasmparser", "wit-parser",
-           "anyhow", "serde", "serde_json", "escape_debug", "deps", "Cargo", "toml", "_start", "fd_close", "unfold", "nice"}
+           "anyhow", "serde", "serde_json", "escape_debug", "deps", "Cargo", "toml", "_start", "fd_close", "fd_fdstat_get", "unfold", "nice"}
 
 faults = []
 

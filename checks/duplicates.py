@@ -42,7 +42,9 @@ STORED_HEAD = """# Lemmas and definitions that stand more than once: a sum of wh
 
 # Texts that may stand twice: their places, as a regular expression on how they are printed, and why.
 BOILERPLATE = [
-    (r"wc_calls/src/\w+\.rt:\S+ \((\w+)\), nuigatre/src/lib\.rt:\S+ \(nuigatre_\1\)$",
+    (r"wc_paths/src/fronts\.rt:\S+ \(find_dominators\), wc_paths/src/graph_dominators\.rt:\S+ \(dominators_on_way\)$",
+     "clauses: the function that finds the dominators of a graph requires what the one does that it calls"),
+    (r"wc_(?:component_)?calls/src/\w+\.rt:\S+ \((\w+)\), nuigatre/src/lib\.rt:\S+ \(nuigatre_\1\)$",
      "clauses: an exported function has those of the call that it makes"),
     (r"wc_calls/src/validation\.rt:\S+ \((\w+)\), wc_calls/src/validation\.rt:\S+ \((\w+)\)$",
      "clauses: a function that finds the module has those of the one that validates it"),
@@ -55,6 +57,8 @@ BOILERPLATE = [
      "heads: the function that looks for one text and then for one alike has those of the two that it calls"),
     (r"wcplan_command/src/fault\.rt:\S+ \(fixed_text\), wcplan_command/src/json_faults\.rt:\S+ \(fixed_json\)$",
      "a match that names each fault without a fixed text: as lines in the one, as JSON in the other"),
+    (r"wc_module_ways/src/paths\.rt:\S+ \(wanted_steps\), wc_ways/src/paths\.rt:\S+ \(wanted_steps\)$",
+     "the steps to an import of the main module that an adapter provides: of modules alone in the one, of a world in the other"),
 ]
 # Definitions that may be alike: their names, with the crates, and why.
 ALIKE = [
@@ -65,7 +69,10 @@ ALIKE = [
      "refusals of six types: of worlds, of a module, of a trim, of a component's world, of a plan, of a command"),
     ("wc_validate::IsRefusedAt wc_world::IsRefusedAt", "a refusal of a module, and one of a world"),
     ("wc_json::innermost wc_json::first_path wc_options::first", "the first of a list: of what is open, of paths, of values"),
-    ("wc_dedupe::Texts wc_ways::Key", "two texts: names of an import, each private to what sorts or finds by them"),
+    ("wc_dedupe::Texts wc_component_tree::Key", "two texts: names of an import, each for what sorts or finds by them"),
+    ("wcwhy_command::IsSummary wcplan_command::IsPrintedImports", "what is printed of interfaces: of modules alone in the one, of a world in the other"),
+    ("wc_module_ways::IsFollowedBy wc_ways::IsFollowedBy", "what paths are read with is that of a followed module, a struct of two crates"),
+    ("wc_module_ways::is_name wc_summary::is_name", "whether a text is a name: of an adapter in the one, of an export in the other"),
     ("wc_dedupe::new_name wc_dedupe::import_name", "the name of a rename and that of an import: records of two types"),
     ("wc_read::func_value wc_read::global_value", "one for each kind of item, at its types"),
     ("wc_read::table_value wc_read::memory_value", "one for each kind of item, at its types"),
@@ -79,7 +86,9 @@ ALIKE = [
     ("wc_selection::text_of wc_options::text_of wc_why::text_of", "the bytes of a text, in crates that don't cite each other"),
     ("wc_selection::unversioned_text wc_why::unversioned_text", "a name without its version, in crates that don't cite each other"),
     ("wc_import_paths::PatternView wc_import_paths::ModuleKey", "a text and perhaps another: what a pattern asks for, and a key cut at its version"),
-    ("wc_why::Halves wc_ways::FunctionName", "two texts: what a text is cut into, and the names of a function"),
+    ("wc_why::Halves wc_component_tree::FunctionName wc_module_ways::Given wc_module_ways::NamePair",
+     "two texts: what a text is cut into, the names of a function, an adapter with its bytes, and a name under another"),
+    ("wc_selection::text_pair wc_module_ways::given_view wc_module_ways::pair_view", "two texts: of any pair, of an adapter with its bytes, of a name under another"),
     ("wcwhy_command::is_package_alike wcplan_command::package_alike", "each over the `is_alike` that it has"),
     ("wcwhy_command::finish wcplan_command::finish", "what is read is made a command, each over its own `finish_with`"),
     ("wc_validate::core_import wc_validate::imported_function", "records of two types: of any import, of a function's"),

@@ -59,7 +59,10 @@ ANSWERED = {
     "ProgramFault": "wcplan, wcplan_failing",
     "NoCommand": "parse_wcplan",
     "MessageFault": "plan_into, world_into, validate_into, record_into",
+    "ComponentFault": "component_paths_into, component_imports_into",
 }
+# The enums of other faults that such calls answer too.
+OTHERS = {"ComponentFault": "MessageFault"}
 CALLS = {call: enum for enum, calls in ANSWERED.items() for call in calls.split(", ")}
 
 
@@ -90,7 +93,7 @@ BARRED = listed({
     "a section of 2^32 bytes": "DedupeFault::TooLarge GcFault::TooLarge",
     "of the arguments of a name the first counts": "ValidateFault::WholeDiffers ValidateFault::Mixed",
     "a row is text": "MessageFault::NotText",
-    "none but memory is known to come of an adapter that was trimmed": "ProgramFault::Ways",
+    "none but memory is known to come of an adapter that was trimmed": "ProgramFault::Ways ComponentFault::Ways",
 })
 FAILED = "where an allocation fails"
 # The enums whose faults have places.
@@ -169,7 +172,7 @@ def texts_in_buffer(lines):
 
 def texts(call, lines):
     """The texts of faults among a row's lines of answer."""
-    if call in ("world_into", "plan_into", "validate_into", "record_into"):
+    if CALLS[call] in ("MessageFault", "ComponentFault"):
         yield from texts_in_buffer(lines)
         return
     for line in lines:
@@ -212,7 +215,7 @@ def reached(known):
         # with status 2 `wcwhy` says which argument is wrong
         enum = "WrongArgument" if call.startswith("wcwhy") and "status 2" in lines else CALLS[call]
         for text in texts(call, lines):
-            faults_shown = readings(known, enum, text)
+            faults_shown = readings(known, enum, text) or (enum in OTHERS and readings(known, OTHERS[enum], text))
             if not faults_shown:
                 unread.append("%s: %s: no fault of `%s`: %s" % (file, name, call, text))
             for depth, fault in enumerate(faults_shown or []):

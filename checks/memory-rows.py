@@ -37,7 +37,11 @@ FAULTS = {
 # Functions of traits that are called without their names.
 IMPLIED = ("fmt", "from", "drop", "clone", "eq", "hash", "cmp", "next", "default")
 # Functions whose status says that memory ran out.
-OTHERS = {"wctrim_command": "run", "wc_calls": "dedupe paths plan planned_world scan trim validate validated_module why world"}
+OTHERS = {
+    "wctrim_command": "run",
+    "wc_calls": "answer_for_world dedupe paths plan planned_world scan trim validate validated_module why world",
+    "wc_component_calls": "component_imports component_paths",
+}
 WORD = re.compile(r"(?:((?:\w+::)+)|(\.\s*))?\b([a-z_]\w*)\b(?!\s*!)")
 
 

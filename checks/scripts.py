@@ -221,12 +221,9 @@ def wrong_pages():
         for code in re.findall(r"`( +[^ `\n][^`\n]*?)`", re.sub(r"(?m)^    .*$|`[^ `\n][^`\n]*`", "", page)):
             if not code.endswith(" ") and "\\ " * (len(code) - len(code.lstrip())) not in path.read_text(encoding="utf-8"):
                 yield f"docs/{path.name}: `{code}` has no blanks at its front"
-    numbers = "no one two three four five six seven eight nine".split()
-    drawn = read("docs", "pictures", "why.dot")
-    said = re.search(r"!\[From (\w+) exports .* to (\w+) imports\]\(pictures/why.svg\)", read("docs", "WHY.md"))
-    counts = drawn.count('[label="export '), sum(box.count(r"\l  ") for box in re.findall(r"^  i\d+ \[.*", drawn, re.M))
-    if not said or (numbers.index(said[1]), numbers.index(said[2])) != counts:
-        yield "docs/WHY.md says of its picture another number of exports and imports than docs/pictures/why.dot has: %d and %d" % counts
+    path = re.search(r"(?m)^    wasi:filesystem/preopens\S* get-directories\n(?:    (?:  |\* ).*\n)*", read("docs", "WHY.md"))
+    if not path or re.findall(r"func (\d+)", path[0]) != re.findall(r"func (\d+)", read("docs", "pictures", "why.dot")):
+        yield "docs/WHY.md has another path than docs/pictures/why.dot"
     asked = """compopt() { :; }; cd examples/wcplan; . ../../docs/wcplan.bash
         for option in --why --export --adapter-export; do
             COMP_WORDS=(wcplan notes.json app main.wasm --adapt old-notes = adapter.wasm "$option" "") COMP_CWORD=9

@@ -2,9 +2,11 @@
 _wcwhy() {
     local word=${COMP_WORDS[COMP_CWORD]} what=(-f)
     case ${COMP_WORDS[COMP_CWORD - 1]} in
+        --adapt) what=(-f) ;;
+        --adapter-export) what=(-W '') ;;
         --import) what=(-W '') ;;
     esac
-    [[ $word != -* ]] || what=(-W '--import --dot --json --help --version')
+    [[ $word != -* ]] || what=(-W '--adapt --adapter-export --import --dot --json --imports --help --version')
     mapfile -t COMPREPLY < <(compgen "${what[@]}" -- "$word")
 }
 complete -o filenames -F _wcwhy wcwhy

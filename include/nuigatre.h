@@ -54,6 +54,8 @@ extern "C" {
 #define nuigatre_validated_module nuigatre9_validated_module
 #define nuigatre_scan nuigatre9_scan
 #define nuigatre_paths nuigatre9_paths
+#define nuigatre_component_paths nuigatre9_component_paths
+#define nuigatre_component_imports nuigatre9_component_imports
 #define nuigatre_fault_text nuigatre9_fault_text
 #define nuigatre_abi nuigatre9_abi
 #endif
@@ -224,6 +226,33 @@ nuigatre_answer nuigatre_paths(uint64_t seed0, uint64_t seed1, const uint8_t *wa
                                const nuigatre_slice *exports, size_t exports_length, const nuigatre_slice *imports,
                                size_t imports_length, uint8_t *out, size_t out_length);
 
+/* Answers why a component imports what a key asks about: the paths through its main module and its adapters that lead to
+ * imports of its world. The message and the modules are those of nuigatre_world. The key is `all`; `$root`, for all that is
+ * the world's own; or it asks about imports of the world: an interface or a package, as `wasi:io/error` and `wasi:io`, each
+ * with its version or without, or a function or a type of the world itself. No plan is made.
+ *
+ * NUIGATRE_DONE: `out` has a line of JSON, what `wcplan --why KEY --json` prints.
+ * NUIGATRE_BAD_ARGUMENT: the key is not UTF-8.
+ * NUIGATRE_FAULT: a fault of nuigatre_message_fault, as of nuigatre_world, or one of nuigatre_component_fault: their numbers
+ * differ. `out` has its text, `position` bytes, and then, if `length` is more, a JSON object that says what it is about. Of
+ * NUIGATRE_COMPONENT_UNKNOWN_IMPORT its `kind` is `imports`; it has the key as `key`, and as `imports` the list of all that the
+ * world imports, as texts that a key may be.
+ * NUIGATRE_TOO_SMALL, NUIGATRE_MEMORY. */
+nuigatre_answer nuigatre_component_paths(uint64_t seed0, uint64_t seed1, const uint8_t *message, size_t message_length,
+                                         const uint8_t *modules, size_t modules_length, const uint8_t *key,
+                                         size_t key_length, uint8_t *out, size_t out_length);
+
+/* Answers what a component imports of each interface: which modules import it, and what has to go for it to go. The message
+ * and the modules are those of nuigatre_world. No plan is made.
+ *
+ * NUIGATRE_DONE: `out` has a line of JSON, what `wcplan --imports --json` prints: an object whose member `imports` lists the
+ * interfaces, each with `interface`, `kind` and `modules`.
+ * NUIGATRE_FAULT: as of nuigatre_component_paths, but for NUIGATRE_COMPONENT_UNKNOWN_IMPORT.
+ * NUIGATRE_TOO_SMALL, NUIGATRE_MEMORY. */
+nuigatre_answer nuigatre_component_imports(uint64_t seed0, uint64_t seed1, const uint8_t *message, size_t message_length,
+                                           const uint8_t *modules, size_t modules_length, uint8_t *out,
+                                           size_t out_length);
+
 /* Gives the text of a fault of a call on bytes, by the number that it answers: `call` is one of nuigatre_call. The text of a
  * fault that is carried is there too, as in `Read: NotWasm`; the name of a missing export is not.
  *
@@ -233,7 +262,7 @@ nuigatre_answer nuigatre_paths(uint64_t seed0, uint64_t seed1, const uint8_t *wa
 nuigatre_answer nuigatre_fault_text(uint32_t call, uint32_t number, uint8_t *out, size_t out_length);
 
 /* The number of the form of these calls, their messages and answers: NUIGATRE_ABI. It goes up with each change that a
- * caller can see, but for objects of a new kind that say what a fault is about. */
+ * caller can see, but for new calls, and for objects of a new kind that say what a fault is about. */
 uint32_t nuigatre_abi(void);
 
 /* Faults. The number of a fault is one of its enum. Where it carries another one, 256 times the number of that is
@@ -390,6 +419,13 @@ enum nuigatre_message_fault {
     NUIGATRE_MESSAGE_UNKNOWN_KEY = 13,
     NUIGATRE_MESSAGE_SEVERAL_KEYS = 14,
     NUIGATRE_MESSAGE_REPEATED_KEY = 15
+};
+
+/* Why it can't be said why a component imports something, where it has a world. The numbers are none of
+ * nuigatre_message_fault. */
+enum nuigatre_component_fault {
+    NUIGATRE_COMPONENT_UNKNOWN_IMPORT = 16,
+    NUIGATRE_COMPONENT_WAYS = 17 /* carries a nuigatre_gc_fault */
 };
 
 /* What the program defines: nuigatre_heap.c has it, over malloc, realloc and free. The names are hidden: a shared

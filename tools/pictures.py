@@ -2,16 +2,13 @@
 """Makes the pictures in docs/pictures, which the pages show, and compares them with what they are made of.
 
     tools/pictures.py [--write] [NAME ..]
-    tools/pictures.py --readable
 
 Without --write it prints a line for each picture that is another one now, and ends with status 1 where there is one.
---readable reads a graph that `wcplan --dot` printed, from standard input, and prints it with names of functions as they were
-before they were mangled, shortened to their last parts. `wcwhy --dot` has short names by itself.
 
     NAME            made of
     paths, why      paths.dot and why.dot beside them, which hold what `wcplan --why all --dot` of examples/wcplan and
-                    `wcwhy --dot` of examples/wasi printed, drawn by Graphviz. Where that is missing, or of another version
-                    than drew the picture, only the graph that it was drawn of is compared
+                    `wcplan --why wasi:filesystem/preopens --dot` of examples/wasi printed, drawn by Graphviz. Where that is
+                    missing, or of another version than drew the picture, only the graph that it was drawn of is compared
     instantiation   the lines of the plan of examples/wcplan, on examples/README.md
     crates          crates.txt, and the table of costs and the longest chain on docs/MAP.md
     trimming        examples/adapter.wat and examples/trimmed.wat
@@ -35,45 +32,6 @@ WIDTH = 880
 # Graphs, drawn by Graphviz
 
 
-def demangled(name):
-    """A mangled name of Rust as a path of names, without its hash; any other name as it is."""
-    rest, parts = name[3:], []
-    while name.startswith("_ZN") and (size := re.match(r"\d+", rest)):
-        end = size.end() + int(size[0])
-        parts.append(rest[size.end():end])
-        rest = rest[end:]
-    return "::".join(part for part in parts if not re.fullmatch("h[0-9a-f]{16}", part)) or name
-
-
-def wrapped(word):
-    """A name in lines of at most some letters, cut before or after the signs between its parts."""
-    lines = [""]
-    for part in re.findall(r"@[^/]*|(?:::|[./_])?(?:(?!::)[^./@_])*", word):
-        if lines[-1] and len(lines[-1] + part) > 21:
-            lines.append("")
-        lines[-1] += part
-    return "\\n".join(lines)
-
-
-def readable_label(label):
-    """A label of a node: the last two parts of a mangled name, one where the part before is that of a module; the names in
-    lines of their own."""
-    words = label.split(" ")
-    if words[0] in ("type", "func", "table", "memory", "global"):
-        *rest, last = demangled(" ".join(words[2:])).split("::")
-        owner = [part for part in rest[-1:] if not re.fullmatch("wasi_snapshot_preview1|descriptors", part)]
-        return "\\n".join([" ".join(words[:2]), *([wrapped("::".join([*owner, last]))] if last else [])])
-    return " ".join(words) if words[0] == "export" else "\\n".join(map(wrapped, words))
-
-
-def readable(graph):
-    """A graph with labels to be read, and with the exports and the imports in colour."""
-    found = re.sub(r'\[label="((?:[^"\\]|\\.)*)"', lambda label: '[label="%s"' % readable_label(label[1]), graph)
-    found = re.sub(r'(export\d+ \[.*)\];', r'\1, style=filled, fillcolor="#dfe8f7"];', found)
-    found = re.sub(r'((?:import\d+|^ *"(?:[^"\\]|\\.)*") \[.*)\];', r'\1, style=filled, fillcolor="#f7e6d5"];', found, flags=re.M)
-    return re.sub(r'(item\d+ \[.*)\];', r'\1, shape=box, style=rounded];', found)
-
-
 def graphviz_version():
     if not shutil.which("dot"):
         return None
@@ -85,8 +43,7 @@ def drawn_by_graphviz(name):
     graph = read(FOLDER / (name + ".dot"))
     options = ["-Grankdir=TB", "-Nfontsize=13", "-Nheight=0.3", "-Nmargin=0.06,0.04", "-Granksep=0.28", "-Gnodesep=0.15", "-Nfontname=Helvetica",
                "-Gfontname=Helvetica", "-Tsvg"]
-    shown = graph if name == "why" else readable(graph)
-    drawn = subprocess.run(["dot", *options], input=shown, capture_output=True, text=True, check=True).stdout
+    drawn = subprocess.run(["dot", *options], input=graph, capture_output=True, text=True, check=True).stdout
     return drawn.replace("<svg ", "<!-- %s -->\n<svg " % mark_of(graph), 1)
 
 
@@ -181,8 +138,8 @@ def instantiation():
 
 COLUMNS = ["components", "modules and formats", "programs", "tests"]
 ROOMS = dict(zip(COLUMNS, map(str.split, [
-    "wc_maps wc_resolve wc_adapters wc_names wc_validate wc_world wc_plan wc_why wc_tree wc_import_paths wc_ways",
-    "wc_texts wc_read wc_write wc_uses wc_gc wc_dedupe wc_segments wc_paths wc_spread wc_encoder wc_json wc_selection wc_record wc_calls nuigatre",
+    "wc_maps wc_resolve wc_adapters wc_names wc_validate wc_world wc_plan wc_why wc_tree wc_component_tree wc_import_paths wc_module_ways wc_summary wc_ways wc_component_calls",
+    "wc_texts wc_read wc_write wc_uses wc_gc wc_dedupe wc_segments wc_paths wc_spread wc_component_graph wc_encoder wc_json wc_selection wc_record wc_calls nuigatre",
     "wc_program wc_options wctrim_command wctrim wcwhy_command wcwhy wcplan_command wcplan",
     "wc_lines wc_rows wc_fixtures wc_name_rows wc_module_rows wc_component_rows wc_example_rows wc_tests"])))
 
@@ -378,12 +335,8 @@ PICTURES = {"paths": lambda: graph("paths"), "why": lambda: graph("why"), "insta
 def main():
     parser = argparse.ArgumentParser(description=__doc__, formatter_class=argparse.RawDescriptionHelpFormatter)
     parser.add_argument("--write", action="store_true")
-    parser.add_argument("--readable", action="store_true")
     parser.add_argument("names", nargs="*", metavar="NAME")
     given = parser.parse_args()
-    if given.readable:
-        print(readable(sys.stdin.read()), end="")
-        return 0
     unknown = [name for name in given.names if name not in PICTURES]
     if unknown:
         parser.error("no picture is called " + unknown[0])

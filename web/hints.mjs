@@ -9,8 +9,9 @@ const CARRIED = {
   validate: { READ: "read" },
   world: { MAIN: "validate", ADAPTER: "validate", TRIM: "gc", MINIMIZED: "validate" },
   message: { JSON: "json", RESOLVE: "resolve", DEDUPE: "dedupe", ENCODER: "encoder", WORLD: "world", PLAN: "plan" },
+  component: { WAYS: "gc" },
 };
-/** The enum of the faults of each call; those of a component have `message`. */
+/** The enum of the faults of each call; those of a component have `message`, or else `component`. */
 const ENUMS = { dedupe: "dedupe", trim: "gc", why: "gc", paths: "gc", scan: "read" };
 
 const DAMAGED = "Build or download it again; wasm-validate of wabt says more.";
@@ -150,13 +151,19 @@ export const HINTS = {
     SEVERAL_KEYS: ["The world has several such exports.", "Choose another world."],
     REPEATED_KEY: ["An export is asked of two modules.", "Take one of the adapters away."],
   },
+  component: {
+    UNKNOWN_IMPORT: ["The world imports nothing that this key asks about.", "Take one of what it imports, which is listed with the fault."],
+    WAYS: ["An adapter can't be searched.", DAMAGED],
+  },
 };
+
+const nameOf = (of, number) => Object.keys(FAULTS[of]).find((it) => FAULTS[of][it] === number);
 
 /** Which fault a number is, and each that it carries: the enum and the name of each. */
 export function faultsOf(call, number) {
-  const list = [];
-  for (let of = ENUMS[call] ?? "message", rest = number; of; rest = Math.floor(rest / 256)) {
-    const name = Object.keys(FAULTS[of]).find((it) => FAULTS[of][it] === rest % 256);
+  const list = [], ofComponent = nameOf("component", number % 256) === undefined ? "message" : "component";
+  for (let of = ENUMS[call] ?? ofComponent, rest = number; of; rest = Math.floor(rest / 256)) {
+    const name = nameOf(of, rest % 256);
     if (name === undefined) break;
     list.push([of, name]);
     of = CARRIED[of]?.[name];
@@ -194,6 +201,7 @@ const PLACES = {
   package: (it) => `packages[${it.index}]`,
   key: (it) => `export ${quoted(it.key)} of the world`,
   worlds: (it) => `worlds: ${it.worlds.join(", ")}`,
+  imports: (it) => `key ${quoted(it.key)} of ${it.imports.length ? `imports ${it.imports.map(quoted).join(", ")}` : "no imports"}`,
   "json-byte": (it) => `byte ${it.byte}`,
   "json-path": (it) => it.path.replace(/^resolve\.?/, "") || "the whole",
 };

@@ -164,6 +164,24 @@ export interface ModuleRecord {
   exports: { name: string; export: { kind: string } }[];
 }
 
+/** An interface of which a component imports something; `$root` stands for what is the world's own. */
+export interface ImportedInterface {
+  interface: string;
+  /** `main`: the main module imports it itself; `goes`: with exports of adapters; `types`: for its types alone; `stays`. */
+  kind: "main" | "goes" | "types" | "stays";
+  /** The main module, whose `adapter` is null, with the functions that name an import of it; and adapters, with the exports that
+   *  lead there. */
+  modules: {
+    adapter: string | null;
+    imports: number;
+    by?: { index: number; name: string | null }[];
+    exports?: string[];
+    stays?: string[];
+    functions?: number;
+    bytes?: number;
+  }[];
+}
+
 /** A component's world, and its modules: the main one with its repeated imports renamed, the adapters trimmed. */
 export interface World {
   record: WorldRecord;
@@ -219,6 +237,11 @@ export class Nuigatre {
   plan(component: Component): Use[];
   /** Makes both at once: the record has the plan. */
   plannedWorld(component: Component): World;
+  /** Why a component imports what a key asks about: what `wcplan --why KEY --json` prints. The key is `all`, `$root` for what is
+   *  the world's own, or an interface, a package, a function or a type that the world imports, with its version or without. */
+  componentPaths(component: Component, key: string): unknown;
+  /** What a component imports of each interface, with what has to go for it to go: what `wcplan --imports --json` prints. */
+  componentImports(component: Component): ImportedInterface[];
   /** Validates the main module of a component, or the adapter of a name. It returns if that is valid. */
   validate(component: Component, adapter?: string | null): void;
   /** Validates the main module of a component, or the adapter of a name for the functions that are required of it, and

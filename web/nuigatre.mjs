@@ -187,11 +187,12 @@ export class Nuigatre {
 
   /** One call, with so much room for its answer. */
   #once(name, given, room) {
-    const { parameters } = CALLS[name], frame = new Frame(this.#started());
+    const { parameters } = CALLS[name], frame = new Frame(this.#started()), call = frame.exports[`nuigatre_${name}`];
+    if (call === undefined) throw new NuigatreError(`nuigatre.wasm is older than the call ${name}`, { call: name });
     try {
       const at = frame.room(ANSWER_LENGTH), out = frame.room(room);
       const words = parameters.flatMap(([of, kind]) => (kind === "out" ? [BigInt(out), BigInt(room)] : frame.words(kind, given[of])));
-      frame.exports[`nuigatre_${name}`](BigInt(at), ...words);
+      call(BigInt(at), ...words);
       const answer = frame.answer(at);
       const isWritten = answer.length <= room && answer.status <= STATUSES.FAULT;
       return { ...answer, bytes: isWritten ? frame.bytes.slice(out, out + answer.length) : null };
@@ -268,6 +269,14 @@ export class Nuigatre {
   plannedWorld(component) {
     const given = messageOf(component);
     return this.#modules(this.#call("planned_world", given, given.modules.length + 4 * ROOM));
+  }
+
+  componentPaths(component, key) {
+    return parsed(this.#call("component_paths", { ...messageOf(component), key }).bytes);
+  }
+
+  componentImports(component) {
+    return parsed(this.#call("component_imports", messageOf(component)).bytes).imports;
   }
 
   /** The record and the modules of an answer: the main module comes first, and then the adapters in the record's order. */

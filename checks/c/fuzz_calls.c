@@ -17,7 +17,7 @@
 #include <string.h>
 #include <sys/mman.h>
 
-#define CALLS 10
+#define CALLS 12
 #define STATUSES 6
 #define PAGE 4096u
 // what an arena has room for
@@ -25,6 +25,7 @@
 
 static const char *const names_of_calls[CALLS] = {
     "dedupe", "trim", "why", "world", "plan", "validate", "planned_world", "scan", "paths", "validated_module",
+    "component_paths", "component_imports",
 };
 
 // The heap: the blocks that are held, and which allocation fails.
@@ -236,6 +237,8 @@ static question make_question(const example *of) {
     // those of the adapter of examples/wcplan, and none; and what asks for its imports
     static const char *const exports[] = {"length_of", "read_text", "is-ready", "length_of", "read_text", ""};
     static const char *const imports[] = {"__main_module__", "env=memory", "notes:store/notes", "=", "other"};
+    // what a key of paths asks about
+    static const char *const keys[] = {"all", "$root", "my:notes/store", "my:notes", "other"};
     // what is required of an adapter: nothing, or `f` without parameters and results
     static const uint8_t required[] = {1, 1, 'f', 0x60, 0, 0};
     question made;
@@ -271,6 +274,10 @@ static question make_question(const example *of) {
     }
     made.has_name = one_in(2);
     made.name = text_of(one_in(4) ? "" : made.call == 5 || made.call == 9 ? of->adapter : "cabi_realloc");
+    if (made.call == 10) {
+        free(made.name.bytes);
+        made.name = text_of(keys[below(sizeof keys / sizeof *keys)]);
+    }
     if (one_in(8)) damage_bytes(&made.name);
     made.page_size_log2 = one_in(8) ? (uint32_t)drawn() : 16;
     free(modules[0].bytes);
@@ -332,6 +339,11 @@ static nuigatre_answer ask(const question *of, size_t room) {
         return nuigatre_validated_module(seed0, seed1, message, message_length, modules, modules_length, of->has_name, name,
                                          name_length, functions, of->required.length, out, room);
     }
+    case 10:
+        return nuigatre_component_paths(seed0, seed1, message, message_length, modules, modules_length, name, name_length, out,
+                                        room);
+    case 11:
+        return nuigatre_component_imports(seed0, seed1, message, message_length, modules, modules_length, out, room);
     default:
         return nuigatre_validate(seed0, seed1, message, message_length, modules, modules_length, of->has_name, name,
                                  name_length, out, room);

@@ -4,7 +4,7 @@
 #
 #     examples/wasi/make.sh [--picture]
 #
-# With --picture it makes why.svg there besides, by `wcwhy --dot` and Graphviz: why the component imports some interfaces.
+# With --picture it makes why.svg there besides, by `wcplan --dot` and Graphviz: why the component imports the host's folders.
 set -e
 here=$(CDPATH='' cd -P -- "$(dirname -- "$0")" && pwd -P)
 case ${1-} in
@@ -35,10 +35,8 @@ clang --target=wasm32-wasi -s "$here/out/hello.o" -o "$here/out/hello.wasm"
 "$here/../../checks/adapters.py" --cut 'wasi:cli/run@0.2.6#run' "$here/out/adapter.wasm"
 [ $# -gt 0 ] || exit 0
 need dot graphviz
-asked='--import=wasi:filesystem/preopens@0.2.6 --import=wasi:cli/terminal-stdout@0.2.6 --import=wasi:cli/exit@0.2.6
-    --import=wasi:io/streams@0.2.6=[method]output-stream.check-write
-    --import=wasi:io/streams@0.2.6=[method]output-stream.blocking-flush'
-used='fd_close fd_fdstat_get fd_seek fd_write proc_exit wasi:cli/run@0.2.6#run cabi_import_realloc'
-# shellcheck disable=SC2086
-"$here/../../wcwhy" "$here/out/adapter.wasm" --dot $asked $used |
-    dot -Nfontsize=13 -Nheight=0.3 -Nmargin=0.06,0.04 -Granksep=0.28 -Gnodesep=0.15 -Tsvg >"$here/out/why.svg"
+# with the names of functions, which -s takes out
+clang --target=wasm32-wasi "$here/out/hello.o" -o "$here/out/named.wasm"
+"$here/../../wcplan" "$here/wasi-command.json" wasi:cli/command "$here/out/named.wasm" \
+    --adapt "wasi_snapshot_preview1=$here/out/adapter.wasm" --why wasi:filesystem/preopens --dot |
+    dot -Grankdir=TB -Nfontsize=13 -Nheight=0.3 -Nmargin=0.06,0.04 -Granksep=0.28 -Gnodesep=0.15 -Tsvg >"$here/out/why.svg"

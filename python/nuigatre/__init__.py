@@ -22,7 +22,8 @@ from ._calls import FAULTS, NUMBERS, STATUSES
 from ._library import ROOM, Answer, NoLibrary, asked, is_proved
 
 __all__ = ["Adapter", "BadArgument", "Chains", "Error", "Fault", "Function", "Item", "NoLibrary", "OutOfMemory", "Rename", "World",
-           "dedupe", "fault_text", "is_proved", "paths", "plan", "planned_world", "scan", "trim", "validate", "validated_module", "why", "world"]
+           "component_imports", "component_paths", "dedupe", "fault_text", "is_proved", "paths", "plan", "planned_world", "scan", "trim",
+           "validate", "validated_module", "why", "world"]
 
 # what a message begins with: the worlds come next
 HEAD = b'{"resolve":'
@@ -238,6 +239,28 @@ def planned_world(worlds: Worlds, world: str | int, main: Bytes, adapters: Itera
     """Makes both at once: the record has the plan as its member ``plan``. The parameters are those of :func:`world`."""
     given = _message(worlds, world, main, adapters, options)
     return _world(call("planned_world", given, len(given["modules"]) + 4 * ROOM))
+
+
+def component_paths(worlds: Worlds, world: str | int, main: Bytes, adapters: Iterable[Adapter] = (), *, key: str, **options: Any) -> dict[str, Any]:
+    """Says why a component imports what a key asks about.
+
+    :param key: ``all``; ``$root``, for what is the world's own; or an interface, a package, a function or a type that the world
+        imports, with its version or without
+    :return: what ``wcplan --why KEY --json`` prints. The other parameters are those of :func:`world`.
+    """
+    given = {**_message(worlds, world, main, adapters, options), "key": _name(key)}
+    found: dict[str, Any] = json.loads(call("component_paths", given).content)
+    return found
+
+
+def component_imports(worlds: Worlds, world: str | int, main: Bytes, adapters: Iterable[Adapter] = (), **options: Any) -> list[dict[str, Any]]:
+    """Lists what a component imports of each interface.
+
+    :return: the interfaces, as ``wcplan --imports --json`` prints them: each with ``interface``; ``kind``, which is ``main``,
+        ``goes``, ``types`` or ``stays``; and ``modules``, which import it. The parameters are those of :func:`world`.
+    """
+    found: list[dict[str, Any]] = json.loads(call("component_imports", _message(worlds, world, main, adapters, options)).content)["imports"]
+    return found
 
 
 def validate(worlds: Worlds, world: str | int, main: Bytes, adapters: Iterable[Adapter] = (), *, adapter: str | None = None,

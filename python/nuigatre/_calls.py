@@ -42,6 +42,8 @@ CALLS: dict[str, Any] = {
     "validated_module": {"parameters": [["seed0", "u64"], ["seed1", "u64"], ["message", "bytes"], ["modules", "bytes"], ["has_adapter", "bool"], ["adapter", "bytes"], ["required", "bytes"], ["out", "out"]], "result": "answer"},
     "scan": {"parameters": [["wasm", "bytes"], ["out", "out"]], "result": "answer"},
     "paths": {"parameters": [["seed0", "u64"], ["seed1", "u64"], ["wasm", "bytes"], ["exports", "slices"], ["imports", "slices"], ["out", "out"]], "result": "answer"},
+    "component_paths": {"parameters": [["seed0", "u64"], ["seed1", "u64"], ["message", "bytes"], ["modules", "bytes"], ["key", "bytes"], ["out", "out"]], "result": "answer"},
+    "component_imports": {"parameters": [["seed0", "u64"], ["seed1", "u64"], ["message", "bytes"], ["modules", "bytes"], ["out", "out"]], "result": "answer"},
     "fault_text": {"parameters": [["call", "u32"], ["number", "u32"], ["out", "out"]], "result": "answer"},
     "abi": {"parameters": [], "result": "u32"},
 }
@@ -59,4 +61,5 @@ FAULTS = {
     "world": {"MAIN": 1, "ADAPTER": 2, "TRIM": 3, "MINIMIZED": 4, "PAGE_SIZE": 5},
     "plan": {"NO_MEMORY": 1, "NO_REALLOC": 2, "NO_LOWERING": 3, "WORLD": 4, "OUTPUT": 5},
     "message": {"NOT_TEXT": 1, "JSON": 2, "UNKNOWN_WORLD": 3, "LENGTHS": 4, "RESOLVE": 5, "ADAPTER_TWICE": 6, "DEDUPE": 7, "ENCODER": 8, "WORLD": 9, "PLAN": 10, "SEVERAL_WORLDS": 11, "PACKAGE_RANGE": 12, "UNKNOWN_KEY": 13, "SEVERAL_KEYS": 14, "REPEATED_KEY": 15},
+    "component": {"UNKNOWN_IMPORT": 16, "WAYS": 17},
 }

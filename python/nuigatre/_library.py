@@ -43,7 +43,7 @@ class Answer(NamedTuple):
 
 
 class NoLibrary(ImportError):
-    """There is no shared library, or one with calls of another form."""
+    """There is no shared library, or one with calls of another form, or without a newer call."""
 
 
 def argument_types(kind: str) -> list[Any]:
@@ -87,9 +87,11 @@ def library() -> ctypes.CDLL:
     except OSError as why:
         raise NoLibrary(f"{path} cannot be loaded ({why}): {PATH} can name another file") from why
     for name, call in _calls.CALLS.items():
-        function = function_of(loaded, name)
-        function.argtypes = [it for _, kind in call["parameters"] for it in argument_types(kind)]
-        function.restype = AnswerStruct if call["result"] == "answer" else TYPES[call["result"]]
+        # an older library of the form may lack a newer call
+        if any(hasattr(loaded, symbol) for symbol in symbols_of(name)):
+            function = function_of(loaded, name)
+            function.argtypes = [it for _, kind in call["parameters"] for it in argument_types(kind)]
+            function.restype = AnswerStruct if call["result"] == "answer" else TYPES[call["result"]]
     form = function_of(loaded, "abi")()
     if form != _calls.ABI:
         raise NoLibrary(f"{path} has the calls of form {form}, and not {_calls.ABI}")

@@ -118,6 +118,10 @@ test("each fault has what it means and what to do", () => {
   const number = message.WORLD + 256 * (world.MAIN + 256 * (validate.READ + 256 * read.TRUNCATED));
   assert.deepEqual(faultsOf("world", number), [["message", "WORLD"], ["world", "MAIN"], ["validate", "READ"], ["read", "TRUNCATED"]]);
   assert.deepEqual(faultsOf("world", FAULTS.message.JSON + 256 * FAULTS.json.WRONG).at(-1), ["problem", "MISSING"]);
+  assert.deepEqual(faultsOf("component_paths", number).length, 4);
+  assert.deepEqual(faultsOf("component_paths", FAULTS.component.WAYS + 256 * FAULTS.gc.TOO_LARGE), [["component", "WAYS"], ["gc", "TOO_LARGE"]]);
+  assert.deepEqual(faultsOf("component_paths", FAULTS.component.UNKNOWN_IMPORT), [["component", "UNKNOWN_IMPORT"]]);
+  assert.equal(placeOf({ kind: "imports", key: "a", imports: ["b:c/d"] }), 'key "a" of imports "b:c/d"');
   assert.equal(hintOf({ call: "scan", number: read.COMPONENT }).means, HINTS.read.COMPONENT[0]);
   assert.deepEqual(hintOf({ call: "scan", number: 99999 }), { means: "", hint: "" });
 });

@@ -1,5 +1,5 @@
-//! The calls of `wc_calls` as a static library for programs in other languages: functions of numbers and slices, each of
-//! which is one call. A slice is passed as a pointer and then a length, a slice of slices as a pointer to such pairs and
+//! The calls of `wc_calls` and of `wc_component_calls` as a static library for programs in other languages: functions of numbers
+//! and slices, each of which is one call. A slice is passed as a pointer and then a length, a slice of slices as a pointer to such pairs and
 //! then how many they are; for `alloc` nothing is passed. The answer is a struct by value.
 //!
 //! No function requires anything of its arguments, but what their types say: a pointer with a length is to so many bytes,
@@ -35,6 +35,8 @@ ghost use Rattle.wc_calls.specs.Scanning.{IsScanFault, IsScanText};
 ghost use Rattle.wc_calls.specs.Trimming.{AreArguments, IsTrimmingFault};
 ghost use Rattle.wc_calls.specs.ValidatedModules.{IsNoneAskedOf, IsRecordAnswer, IsRecordFaultOf};
 ghost use Rattle.wc_calls.specs.Validation.{IsNoModuleOf, IsValidOf, IsValidationFaultOf};
+ghost use Rattle.wc_component_calls.specs.ImportsCall.{AreComponentImports, IsImportsFault};
+ghost use Rattle.wc_component_calls.specs.PathsCall.{IsComponentPaths, IsPathsFault as IsComponentPathsFault};
 ghost use Rattle.nuigatre.specs.Arguments.{optional_name, settings_of};
 
 use std::alloc::Global;
@@ -42,6 +44,7 @@ use wc_calls::{
     Answer, dedupe, fault_text, paths, plan, planned_world, scan, trim, validate, validated_module,
     why, world,
 };
+use wc_component_calls::{component_imports, component_paths};
 use wc_maps::Seed;
 
 /// Renames the imports of a module so that no two share a module and a name: `wc_calls::dedupe`.
@@ -319,6 +322,63 @@ pub extern "C" fn nuigatre_paths(
 {
     let seed = Seed::new(seed0, seed1);
     paths(alloc, seed, wasm, exports, imports, out)
+}
+
+/// Answers why a component, which the message describes in JSON, imports what a key asks about: the paths that lead to it:
+/// `wc_component_calls::component_paths`.
+#[unsafe(no_mangle)]
+pub extern "C" fn nuigatre_component_paths(
+    alloc: Global,
+    seed0: u64,
+    seed1: u64,
+    message: &[u8],
+    modules: &[u8],
+    key: &[u8],
+    out: &mut [u8],
+) -> Answer
+    ensures done { result.status ≡ done
+        → IsPut (IsComponentPaths message.now modules.now key.now) result.length
+        out.old out.new }
+    ensures too_small { result.status ≡ too_small
+        → IsTooLong (IsComponentPaths message.now modules.now key.now) result.length out.old }
+    ensures fault { result.status ≡ failed → IsComponentPathsFault message.now modules.now key.now
+        result out.old out.new }
+    ensures module_length { result.module_length ≡ 0 }
+    ensures bad_argument { result.status ≡ bad_argument → ¬ (IsUtf8 key.now) }
+    ensures arguments { result.status ≢ bad_argument → IsUtf8 key.now }
+    ensures unchanged { result.status ≢ done → result.status ≢ failed → out.new ≡ out.old }
+    ensures statuses { (result.status ≤ 5) × (result.status ≢ same) }
+    ensures others { AreOthersOfTextZero result }
+{
+    let seed = Seed::new(seed0, seed1);
+    component_paths(alloc, seed, message, modules, key, out)
+}
+
+/// Answers what a component, which the message describes in JSON, imports of each interface, and what has to go for it to go:
+/// `wc_component_calls::component_imports`.
+#[unsafe(no_mangle)]
+pub extern "C" fn nuigatre_component_imports(
+    alloc: Global,
+    seed0: u64,
+    seed1: u64,
+    message: &[u8],
+    modules: &[u8],
+    out: &mut [u8],
+) -> Answer
+    ensures done { result.status ≡ done
+        → IsPut (AreComponentImports message.now modules.now) result.length out.old out.new }
+    ensures too_small { result.status ≡ too_small
+        → IsTooLong (AreComponentImports message.now modules.now) result.length out.old }
+    ensures fault { result.status ≡ failed → IsImportsFault message.now modules.now
+        result out.old out.new }
+    ensures module_length { result.module_length ≡ 0 }
+    ensures unchanged { result.status ≢ done → result.status ≢ failed → out.new ≡ out.old }
+    ensures statuses { (result.status ≤ 5) × (result.status ≢ same)
+        × (result.status ≢ bad_argument) }
+    ensures others { AreOthersOfTextZero result }
+{
+    let seed = Seed::new(seed0, seed1);
+    component_imports(alloc, seed, message, modules, out)
 }
 
 /// Writes the text of a fault of `nuigatre_dedupe` (`call` is 0), `nuigatre_trim` (1), `nuigatre_why` (2), `nuigatre_scan`

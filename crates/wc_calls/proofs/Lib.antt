@@ -6,7 +6,7 @@ mod ExportNameLemmas
 mod MissingLemmas
 mod TrimmingLemmas
 mod AskedKeyLemmas
-mod FaultAnswerLemmas
+pub mod FaultAnswerLemmas
 mod FaultTextLemmas
 mod HeapLemmas
 mod ModuleLemmas
@@ -17,3 +17,4 @@ mod RefusalLemmas
 mod RequiredFunctionLemmas
 mod ScanningLemmas
 mod ValidatedModuleLemmas
+mod WorldCallLemmas

@@ -21,3 +21,4 @@ pub mod Scanning
 pub mod Trimming
 pub mod ValidatedModules
 pub mod Validation
+pub mod WorldCalls

@@ -8,3 +8,4 @@ pub mod RecordAnswers
 pub mod Refusals
 pub mod RequiredFunctions
 pub mod TrimArguments
+pub mod WorldAnswers

@@ -44,7 +44,7 @@ pub struct Answer {
 }
 
 /// An answer that is its status alone.
-pub(crate) fn answer_without_bytes(status: u32) -> Answer
+pub fn answer_without_bytes(status: u32) -> Answer
     ensures status { result.status ≡ status }
     ensures no_fault { HasNoFault result }
     ensures no_bytes { HasNoBytes result }
@@ -60,7 +60,7 @@ pub(crate) fn answer_without_bytes(status: u32) -> Answer
 
 /// Writes a module, and then the rest of the answer, to the front of the buffer. Where it is too small nothing is
 /// written.
-pub(crate) fn put(wasm: &[u8], others: &[u8], out: &mut [u8]) -> Answer
+pub fn put(wasm: &[u8], others: &[u8], out: &mut [u8]) -> Answer
     ensures length { result.length ≡ length (wasm.now ++ others.now) }
     ensures module_length { result.module_length ≡ length wasm.now }
     ensures done { result.status ≡ done → IsFront (wasm.now ++ others.now) out.old out.new }
@@ -95,7 +95,7 @@ pub(crate) fn put(wasm: &[u8], others: &[u8], out: &mut [u8]) -> Answer
 
 /// Answers a fault by its number and a position, and writes what it is about to the front of the buffer, if it has room
 /// for that.
-pub(crate) fn put_refusal(fault: u32, position: usize, place: &[u8], out: &mut [u8]) -> Answer
+pub fn put_refusal(fault: u32, position: usize, place: &[u8], out: &mut [u8]) -> Answer
     ensures { IsFaultPut fault position place.now result out.old out.new }
 {
     let answer = put(&[], place, out);

@@ -53,12 +53,17 @@ mod scanning;
 mod trimming;
 mod validated_modules;
 mod validation;
+mod world_calls;
 
-pub use answers::{Answer, BAD_ARGUMENT, DONE, FAULT, MEMORY, NO_SUCH_FAULT, SAME, TOO_SMALL};
+pub use answers::{
+    Answer, BAD_ARGUMENT, DONE, FAULT, MEMORY, NO_SUCH_FAULT, SAME, TOO_SMALL,
+    answer_without_bytes, put, put_refusal,
+};
 pub use component_plans::plan;
 pub use component_worlds::world;
 pub use fault_texts::{DEDUPE_CALL, PATHS_CALL, SCAN_CALL, TRIM_CALL, WHY_CALL, fault_text};
 pub use import_chains::why;
+pub use memory_faults::gc_is_memory;
 pub use message_fault::MessageFault;
 pub use module_paths::paths;
 pub use planned_worlds::planned_world;
@@ -67,3 +72,4 @@ pub use scanning::scan;
 pub use trimming::trim;
 pub use validated_modules::validated_module;
 pub use validation::validate;
+pub use world_calls::{WorldCall, answer_for_world};

@@ -36,7 +36,7 @@ pub(crate) fn dedupe_is_memory(fault: DedupeFault) -> bool
 }
 
 /// Whether a fault of trimming is or carries that an allocation failed.
-pub(crate) fn gc_is_memory(fault: &GcFault) -> bool
+pub fn gc_is_memory(fault: &GcFault) -> bool
     ensures { result ≡ gc_is_memory fault.now }
 {
     match fault {

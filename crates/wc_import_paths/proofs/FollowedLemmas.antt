@@ -20,17 +20,17 @@ use Rattle.wc_segments.specs.Segments.{IsRefused, SegmentsValue}
 use Rattle.wc_segments.specs.declared.segments.SegmentSection.{SegmentSection}
 use Rattle.wc_paths.specs.Items.{graph_of}
 use Rattle.wc_paths.specs.Roots.{roots_of, second_roots}
-use Rattle.wc_import_paths.specs.Following.{IsRefusal, SpellsBoth}
+use Rattle.wc_import_paths.specs.Following.{IsCodeRefusal, IsRefusal, SpellsBoth}
 use Rattle.wc_import_paths.specs.Roots.{exports_for}
-use Rattle.wc_import_paths.specs.Private.Followed.{IsExportRefusal, IsPathsRefusal, IsReadRefusal, IsSegmentsRefusal, IsUnreadSegments}
+use Rattle.wc_import_paths.specs.Private.Followed.{IsExportRefusal, IsPathsRefusal, IsSegmentsRefusal, IsUnreadSegments}
 
 -- each step by itself
 
-pub read_refusal : (bytes : List ℕ) (f : ReadFault) (place : Option ReadPlace) → (f ≢ read_memory → SpellsNothing SpellsModule bytes)
-    → ((f ≡ Component) ↔ IsComponent bytes) → IsPlaced bytes f place → IsReadRefusal bytes (of_read f) (option_map (λ p. Bytes p) place)
-read_refusal bytes read_memory place nothing component at = tt
-read_refusal bytes f None nothing component at = absurd (let both : f ≡ read_memory = at in cc)
-read_refusal bytes f (Some p) nothing component at = ((nothing at.0, at.0, component), p, at.1, refl)
+pub code_refusal : (bytes : List ℕ) (f : ReadFault) (place : Option ReadPlace) → (f ≢ read_memory → SpellsNothing SpellsModule bytes)
+    → ((f ≡ Component) ↔ IsComponent bytes) → IsPlaced bytes f place → IsCodeRefusal bytes (of_read f) (option_map (λ p. Bytes p) place)
+code_refusal bytes read_memory place nothing component at = tt
+code_refusal bytes f None nothing component at = absurd (let both : f ≡ read_memory = at in cc)
+code_refusal bytes f (Some p) nothing component at = ((nothing at.0, at.0, component), p, at.1, refl)
 
 pub segments_refusal : (m : ModuleValue) (bytes : List ℕ) (f : ReadFault) (place : Option SegmentSection) (fault : GcFault) (at : Option TrimPlace)
     → IsUnreadSegments f place fault at → IsRefused m bytes f place → IsSegmentsRefusal m bytes fault at
@@ -48,7 +48,7 @@ module _ (bytes : List ℕ) (names : List (List ℕ)) where
   pub of_memory : (f : GcFault) (place : Option TrimPlace) → f ≡ Memory → IsRefusal bytes names f place
   of_memory f place e = subst (λ z. IsRefusal bytes names z place) (sym e) tt
 
-  pub of_read_step : (f : GcFault) (place : Option TrimPlace) → IsReadRefusal bytes f place → IsRefusal bytes names f place
+  pub of_read_step : (f : GcFault) (place : Option TrimPlace) → IsCodeRefusal bytes f place → IsRefusal bytes names f place
   of_read_step Memory place h = tt
   of_read_step (Read f) place h = inl h
   of_read_step f place h = absurd h

@@ -66,6 +66,12 @@ section_id Data = data_id
 abbrev pub body_place : ℕ → Option TrimPlace
 body_place n = cond (nat_lt n (2 ^ 32)) (Some (Body n None)) None
 
+-- why bytes are not read as a module: they are none, from this byte on
+abbrev pub IsCodeRefusal : List ℕ → GcFault → Option TrimPlace → Type 0
+IsCodeRefusal bytes Memory place = ⊤
+IsCodeRefusal bytes (Read f) place = IsUnread bytes f × (p : ReadPlace) × IsPlaceIn bytes p × (place ≡ Some (Bytes p))
+IsCodeRefusal bytes f place = ⊥
+
 -- the bytes are no module, from this byte on; or a section of segments can't be read
 abbrev pub IsReadCause : List ℕ → ReadFault → Option TrimPlace → Type 0
 IsReadCause bytes f place =

@@ -10,10 +10,10 @@ ghost use Rattle.wc_segments.specs.Segments.{SpellsSegments, segments_value};
 ghost use Rattle.wc_paths.specs.Paths.{AreClosed, ArePaths, IsReachedInAny, graph_in};
 ghost use Rattle.wc_paths.specs.Roots.{roots_of, second_roots};
 ghost use Rattle.wc_why.specs.Paths.{text_of};
-ghost use Rattle.wc_import_paths.specs.Following.{IsRefusal, body_place, section_id};
+ghost use Rattle.wc_import_paths.specs.Following.{IsCodeRefusal, IsRefusal, body_place, section_id};
 ghost use Rattle.wc_import_paths.specs.Roots.{exports_for};
 ghost use Rattle.wc_import_paths.specs.Followed.{AreShown, IsSource};
-ghost use Rattle.wc_import_paths.specs.Private.Followed.{IsExportRefusal, IsPathsRefusal, IsReadRefusal, IsSegmentsRefusal, IsUnreadRefusal, IsUnreadSegments};
+ghost use Rattle.wc_import_paths.specs.Private.Followed.{IsExportRefusal, IsPathsRefusal, IsSegmentsRefusal, IsUnreadRefusal, IsUnreadSegments};
 
 use crate::asked::Asked;
 use crate::function_names::{names_on, shown_on};
@@ -83,7 +83,7 @@ pub fn follow<'r>(
     ensures refused { IfErr result (λ r.
         IsRefusal bytes.now (map text_of export_names.now) r.fault r.place) }
 {
-    let code = read(alloc, bytes)?;
+    let code = read_code(alloc, bytes)?;
     let segments = segments_of(alloc, bytes, &code)?;
     let exports = asked_exports(alloc, asked.seed(), export_names, &code)?;
     let paths = paths_from(alloc, &code, &segments, &exports)?;
@@ -105,10 +105,15 @@ pub fn follow<'r>(
     })
 }
 
-/// Reads a module.
-fn read(alloc: Global, bytes: &[u8]) -> Result<Module<'_>, Refusal>
+/// Reads the module with these bytes, and of others says where they stop to be one.
+///
+/// # Errors
+///
+/// - `Read`: the bytes are no module, with the byte at which they stop to be one.
+/// - `Memory`: an allocation failed; it may come in place of the other.
+pub fn read_code(alloc: Global, bytes: &[u8]) -> Result<Module<'_>, Refusal>
     ensures found { IfOk result (λ m. SpellsModule bytes.now (module_value m)) }
-    ensures refused { IfErr result (λ r. IsReadRefusal bytes.now r.fault r.place) }
+    ensures refused { IfErr result (λ r. IsCodeRefusal bytes.now r.fault r.place) }
 {
     match read_module_explained(alloc, bytes) {
         Ok(code) => Ok(code),

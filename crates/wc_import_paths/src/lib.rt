@@ -16,7 +16,7 @@ mod roots;
 
 pub use asked::Asked;
 pub use asked_marks::marks_for;
-pub use followed::{Followed, Refusal, follow};
+pub use followed::{Followed, Refusal, follow, read_code};
 pub use import_paths::reached_path;
 pub use json_paths::{json_text, paths_to_json};
 pub use patterns::{ImportPattern, patterns_of};

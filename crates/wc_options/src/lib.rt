@@ -1,13 +1,17 @@
 //! Options of programs: a table of them, by which arguments are read, and of which the usage text and the help are made.
 #![tactic(auto)]
 
+mod adapters;
 mod given;
+mod listing;
 mod reading;
 mod table;
 mod usage;
 mod wrong;
 
+pub use adapters::{adapters_of, count_standard, first_parts, is_standard, pairs_of};
 pub use given::{is_given, text_count, texts, value, values};
+pub use listing::{MOST_LISTED, more_text, name_listing, push_name};
 pub use reading::{check, pair};
 pub use table::{ProgramOption, Value};
 pub use usage::{Help, Page, Usage, WrongCall};

@@ -1,11 +1,20 @@
 -- Positions are marked, and then their finders.
 use Rattle.std.proofs.Common.{◌≡◌, ◌≢◌, ◌⊎◌, ℕ, zero, suc, ◌+◌, ◌<◌, ◌≤◌, Bool, true, false, List, [], ◌∷◌, length, replicate, set, take, get_or, Some, refl, sym, ◌∙◌, ap, subst, arith, inl, inr}
-use Rattle.std.specs.Prelude.{All}
+use Rattle.std.specs.Prelude.{All, Contains}
 use Rattle.std.specs.List.{slice_get}
 use Rattle.std.proofs.lemmas.List.{length-set, get_or_default, get_or-take, length-take}
+use Rattle.std.proofs.lemmas.List.Elements.{All-contains, Contains-get_or}
 use Rattle.std.proofs.lemmas.Option.{same_Some, slice_get_within}
 use Rattle.wc_paths.specs.ChainMarks.{AreOnChains, IsOnChain, here, before}
 use Rattle.wc_paths.specs.Private.ChainMarks.{AreTaken, AreTargets, IsTaken, first, next}
+
+-- what is on a chain to one of some positions, each of which is on one to others, is on one to these
+pub on_more : (finder ts ss : List ℕ) → All (IsOnChain finder ss) ts → (k : ℕ) → IsOnChain finder ts k → IsOnChain finder ss k
+on_more finder ts ss all k (here c) = All-contains (IsOnChain finder ss) ts k all c
+on_more finder ts ss all k (before from on e) = before from (on_more finder ts ss all from on) e
+
+pub on_among : (finder ts ss : List ℕ) → ((k : ℕ) → Contains ts k → Contains ss k) → (k : ℕ) → IsOnChain finder ts k → IsOnChain finder ss k
+on_among finder ts ss among = on_more finder ts ss (λ i d lt. here (among (get_or ts i d) (Contains-get_or ts i d lt)))
 
 -- marks, when one is set
 

@@ -1,19 +1,22 @@
 -- A tree of chains that grows.
 use Rattle.std.proofs.Common.{◌≡◌, ◌≢◌, ℕ, zero, suc, ◌+◌, ◌<◌, ◌≤◌, List, [], ◌∷◌, ◌++◌, length, set, get_or, Option, Some, None, Bool, true, false, not, is_some, refl, sym, ◌∙◌, ap, subst, inl, inr, ◌⊎◌, arith, append_assoc, append-nil}
-use Rattle.std.specs.Prelude.{Contains}
+use Rattle.std.specs.Prelude.{All, Contains, take, ◌↔◌}
 use Rattle.std.specs.List.{slice_get}
-use Rattle.std.proofs.lemmas.Bool.{cases_eq}
+use Rattle.std.proofs.lemmas.Bool.{cases_eq, cases_lt}
 use Rattle.std.specs.Prelude.{replicate}
-use Rattle.std.proofs.lemmas.List.{length-replicate, length-set, length_push}
-use Rattle.std.proofs.lemmas.List.Elements.{Contains-get_or, Contains-push_cases}
+use Rattle.std.proofs.lemmas.List.{length-append, length-replicate, length-set, length_push, take-append-le, take_all, take_more}
+use Rattle.std.proofs.lemmas.List.Elements.{All-append, All-cons, All-contains, All-nil, All-weaker, Contains-append_left, Contains-append_right, Contains-get_or, Contains-push, Contains-push_cases, filter_map-append}
 use Rattle.std.proofs.lemmas.List.Quantifiers.{all_pairs_push}
-use Rattle.std.proofs.lemmas.Option.{get_or_from_slice_get, slice_get_within, same_Some}
+use Rattle.std.proofs.lemmas.Option.{get_or_from_slice_get, slice_get-get_or, slice_get_read, slice_get_within, same_Some}
 use Rattle.wc_gc.proofs.BodyCutLemmas.{get_set_other}
 use Rattle.wc_gc.proofs.ImportPositionLemmas.{set_same}
 use Rattle.wc_gc.proofs.TypedGlobalLemmas.{get_front, get_last}
-use Rattle.wc_paths.specs.ChainTree.{IsChainTree, IsEnd, IsFromOf}
-use Rattle.wc_paths.specs.Private.ChainTree.{IsGrowthOf, IsNewPart, none_new, new_root, one_new}
+use Rattle.wc_paths.specs.ChainMarks.{IsOnChain, before as on_before, here as on_here}
+use Rattle.wc_paths.specs.ChainTree.{IsChainTree, IsEnd, IsFromOf, given}
+use Rattle.wc_paths.specs.Private.ChainTree.{AreFor, IsGrowthOf, IsNewPart, none_new, new_root, one_new}
 use Rattle.wc_paths.specs.declared.chain_tree.ChainTree.{ChainTree}
+use Rattle.wc_paths.proofs.ChainMarkLemmas.{on_among, on_more}
+use Rattle.wc_paths.proofs.OnChainLemmas.{mapped_from}
 
 -- what is in a list with one more: what was, or the last
 pub push_cases : {A : Type 0} (xs : List A) (y : A) (i : ℕ) (x : A) → slice_get (xs ++ y ∷ []) i ≡ Some x → (slice_get xs i ≡ Some x) ⊎ ((i ≡ length xs) × (x ≡ y))
@@ -82,6 +85,22 @@ module _ (finder : List ℕ) where
       subst (λ z. (slice_get places z ≡ Some None) × IsFromBy places z after) same
       (none, subst (IsFromBy places k) (sym eq) (j, is, other, at))
   last_from (one_new k j new after none is other p) (x ∷ front) m e = last_from p front m (let same : new ≡ front ++ m ∷ [] = cc in same)
+
+  -- the new positions are on the chain to the first of them
+  new_on : {places : List (Option ℕ)} {k : ℕ} {new : List ℕ} {after : Option ℕ} → IsNewPart finder places k new after → All (IsOnChain finder (k ∷ [])) new
+  new_on (none_new k place is) = All-nil (IsOnChain finder (k ∷ []))
+  new_on (new_root k none own) = All-cons (IsOnChain finder (k ∷ [])) k [] (on_here (Contains-push [] k)) (All-nil (IsOnChain finder (k ∷ [])))
+  new_on (one_new k j new after none is other p) =
+      let first : IsOnChain finder (k ∷ []) k = on_here (Contains-push [] k) in
+      All-cons (IsOnChain finder (k ∷ [])) k new first
+      (All-weaker (IsOnChain finder (j ∷ [])) (IsOnChain finder (k ∷ []))
+      (on_more finder (j ∷ []) (k ∷ []) (All-cons (IsOnChain finder (k ∷ [])) j [] (on_before k first is) (All-nil (IsOnChain finder (k ∷ [])))))
+      new (new_on p))
+
+  pub last_on : {places : List (Option ℕ)} {k : ℕ} {new : List ℕ} {after : Option ℕ} → IsNewPart finder places k new after
+      → (front : List ℕ) (m : ℕ) → new ≡ front ++ m ∷ [] → IsOnChain finder (k ∷ []) m
+  last_on {k} {new} p front m e =
+      All-contains (IsOnChain finder (k ∷ [])) new m (new_on p) (subst (λ z. Contains z m) (sym e) (Contains-push front m))
 
   module _ (earlier : (k : ℕ) → k < length finder → get_or finder k 0 ≤ k) where
     less : (k j : ℕ) → slice_get finder k ≡ Some j → j ≢ k → j < k
@@ -179,36 +198,134 @@ end_more : (order more : List ℕ) (o end : Option ℕ) → IsEnd order o end �
 end_more order more None end e = e
 end_more order more (Some k) end (place, is, at) = (place, is, get_front order more place k at)
 
+-- what is in the first part of a list
+at_front : {A : Type 0} (n : ℕ) (xs : List A) (k : ℕ) (x : A) → slice_get (take n xs) k ≡ Some x → (k < n) × (slice_get xs k ≡ Some x)
+at_front zero xs k x e = absurd cc
+at_front (suc n) [] k x e = absurd cc
+at_front (suc n) (y ∷ xs) zero x e = (omega arith, e)
+at_front (suc n) (y ∷ xs) (suc k) x e = let r = at_front n xs k x e in let lt = r.0 in (omega (arith, lt), r.1)
+
+-- so many positions, the first, are those on the chains to the first n targets
+abbrev AreFirst : List ℕ → List (Option ℕ) → List ℕ → ℕ → Type 0
+AreFirst finder targets order n =
+    (count : ℕ) × (count ≤ length order) × ((k : ℕ) → Contains (take count order) k ↔ IsOnChain finder (given (take n targets)) k)
+
+first_more : (finder : List ℕ) (targets : List (Option ℕ)) (order more : List ℕ) (n : ℕ) → AreFirst finder targets order n
+    → AreFirst finder targets (order ++ more) n
+first_more finder targets order more n (count, le, are) = (
+  count,
+  (let sizes = length-append order more in omega (arith, le, sizes)),
+  λ k.
+      subst (λ z. Contains z k ↔ IsOnChain finder (given (take n targets)) k) (sym (take-append-le count order more le)) (are k),
+)
+
+-- what is on the chain to one more target
+new_used : (finder ts : List ℕ) (target : Option ℕ) (more : List ℕ) → AreFor finder target more → All (IsOnChain finder (ts ++ given (target ∷ []))) more
+new_used finder ts None more none =
+    subst (All (IsOnChain finder (ts ++ given (None ∷ [])))) (sym none) (All-nil (IsOnChain finder (ts ++ given (None ∷ []))))
+new_used finder ts (Some k) more all =
+    All-weaker (IsOnChain finder (k ∷ [])) (IsOnChain finder (ts ++ k ∷ []))
+    (on_among finder (k ∷ []) (ts ++ k ∷ []) (λ i c. Contains-append_right ts (k ∷ []) i c)) more all
+
+used_more : (finder : List ℕ) (targets : List (Option ℕ)) (order more : List ℕ) (index : ℕ) (target : Option ℕ) → slice_get targets index ≡ Some target
+    → All (IsOnChain finder (given (take index targets))) order → AreFor finder target more
+    → All (IsOnChain finder (given (take (index + 1) targets))) (order ++ more)
+used_more finder targets order more index target is used new =
+    let ts = given (take index targets) in
+    let one = given (target ∷ []) in
+    let split : given (take (index + 1) targets) ≡ ts ++ one =
+    ap given (take_more targets index target (slice_get_within targets index target is)
+    ∙ ap (λ o. take index targets ++ o ∷ []) (get_or_from_slice_get targets index target target is))
+    ∙ filter_map-append (λ (o : Option ℕ). o) (take index targets) (target ∷ []) in
+    subst (λ z. All (IsOnChain finder z) (order ++ more)) (sym split)
+    (All-append (IsOnChain finder (ts ++ one)) order more
+    (All-weaker (IsOnChain finder ts) (IsOnChain finder (ts ++ one)) (on_among finder ts (ts ++ one) (λ i c. Contains-append_left ts one i c)) order used)
+    (new_used finder ts target more new))
+
+-- the finder of a position that has the one before it
+finder_in : (finder order : List ℕ) (place k j : ℕ) (earlier : Option ℕ) → Contains order k → IsFromOf finder order place k earlier
+    → slice_get finder k ≡ Some j → Contains order j
+finder_in finder order place k j None c own e = subst (Contains order) (same_Some k j (sym own ∙ e)) c
+finder_in finder order place k j (Some earlier) c (i, is, other, lt, at) e =
+    let there : Contains order i = (earlier, slice_get_within order earlier i at, get_or_from_slice_get order earlier i i at) in
+    subst (Contains order) (same_Some i j (sym is ∙ e)) there
+
 -- the chains to the targets below a position were added
 pub record IsTreeTo (finder : List ℕ) (targets : List (Option ℕ)) (order : List ℕ) (from places found : List (Option ℕ)) (index : ℕ) : Type 0 where
   pub growth : IsGrowthOf finder order from places
+  pub used : All (IsOnChain finder (given (take index targets))) order
+  pub in_order : (n : ℕ) → n < index → AreFirst finder targets order n
   pub each : length found ≡ index
   pub ends : (n : ℕ) (o : Option ℕ) → n < index → slice_get targets n ≡ Some o → (end : Option ℕ) × (slice_get found n ≡ Some end) × IsEnd order o end
 
-pub tree_more : (finder : List ℕ) (targets : List (Option ℕ)) (order : List ℕ) (from places ends : List (Option ℕ)) (index : ℕ)
-    → IsTreeTo finder targets order from places ends index → (target end : Option ℕ) (more new : List ℕ) (new_from new_places : List (Option ℕ))
-    → slice_get targets index ≡ Some target → IsGrowthOf finder new new_from new_places → new ≡ order ++ more → IsEnd new target end
-    → IsTreeTo finder targets new new_from new_places (ends ++ end ∷ []) (index + 1)
-tree_more finder targets order from places ends index t target end more new new_from new_places is g grown here = record {
-  growth = g;
-  each = length_push ends end ∙ ap (λ n. n + 1) t.each;
-  ends = λ n o lt e. elim (cases_eq n index) [
-    | inl same ↦ (
-      end,
-      subst (λ z. slice_get (ends ++ end ∷ []) z ≡ Some end) (t.each ∙ sym same) (get_last ends end),
-      subst (λ z. IsEnd new z end) (same_Some target o (sym is ∙ subst (λ z. slice_get targets z ≡ Some o) same e)) here,
-    )
-    | inr apart ↦
-        (let (old, at, there) = t.ends n o (omega (arith, lt, apart)) e in
-        (old, get_front ends (end ∷ []) n old at, subst (λ z. IsEnd z o old) (sym grown) (end_more order more o old there)))
-  ];
-}
+module _ (finder : List ℕ) (targets : List (Option ℕ)) (order : List ℕ) (from places ends : List (Option ℕ)) (index : ℕ)
+    (t : IsTreeTo finder targets order from places ends index) where
+  target_in : (k : ℕ) → Contains (given (take index targets)) k → Contains order k
+  target_in k c =
+      let (o, there, is) = mapped_from (λ (o : Option ℕ). o) (take index targets) k c in
+      let (n, low, same) = there in
+      let (lt, asked) = at_front index targets n o (slice_get_read (take index targets) (length (take index targets)) n o refl low (sym same)) in
+      let (end, found, ended) = t.ends n (Some k) lt (asked ∙ ap (λ z. Some z) is) in
+      let (place, eq, placed) = ended in
+      (place, slice_get_within order place k placed, get_or_from_slice_get order place k k placed)
+
+  -- they are there
+  tree_has : (k : ℕ) → IsOnChain finder (given (take index targets)) k → Contains order k
+  tree_has k (on_here c) = target_in k c
+  tree_has k (on_before next on e) =
+      let c = tree_has next on in
+      let (place, low, same) = c in
+      let (earlier, there, f) = t.growth.froms place next (slice_get_read order (length order) place next refl low (sym same)) in
+      finder_in finder order place next k earlier c f e
+
+  all_first : AreFirst finder targets order index
+  all_first = (
+    length order,
+    omega arith,
+    λ k.
+        subst (λ z. Contains z k ↔ IsOnChain finder (given (take index targets)) k) (sym (take_all (length order) order (omega arith)))
+        ((λ c. All-contains (IsOnChain finder (given (take index targets))) order k t.used c), tree_has k),
+  )
+
+  pub tree_more : (target end : Option ℕ) (more new : List ℕ) (new_from new_places : List (Option ℕ)) → slice_get targets index ≡ Some target
+      → IsGrowthOf finder new new_from new_places → new ≡ order ++ more → AreFor finder target more → IsEnd new target end
+      → IsTreeTo finder targets new new_from new_places (ends ++ end ∷ []) (index + 1)
+  tree_more target end more new new_from new_places is g grown used here = record {
+    growth = g;
+    used =
+        subst (All (IsOnChain finder (given (take (index + 1) targets)))) (sym grown) (used_more finder targets order more index target is t.used used);
+    in_order = λ n lt. subst (λ z. AreFirst finder targets z n) (sym grown) (first_more finder targets order more n (elim (cases_eq n index) [
+      | inl same ↦ subst (AreFirst finder targets order) (sym same) all_first
+      | inr apart ↦ t.in_order n (omega (arith, lt, apart))
+    ]));
+    each = length_push ends end ∙ ap (λ n. n + 1) t.each;
+    ends = λ n o lt e. elim (cases_eq n index) [
+      | inl same ↦ (
+        end,
+        subst (λ z. slice_get (ends ++ end ∷ []) z ≡ Some end) (t.each ∙ sym same) (get_last ends end),
+        subst (λ z. IsEnd new z end) (same_Some target o (sym is ∙ subst (λ z. slice_get targets z ≡ Some o) same e)) here,
+      )
+      | inr apart ↦
+          (let (old, at, there) = t.ends n o (omega (arith, lt, apart)) e in
+          (old, get_front ends (end ∷ []) n old at, subst (λ z. IsEnd z o old) (sym grown) (end_more order more o old there)))
+    ];
+  }
 
 pub tree_done : (finder : List ℕ) (targets : List (Option ℕ)) (t : ChainTree) (places : List (Option ℕ)) (index : ℕ) → length targets ≤ index
     → IsTreeTo finder targets t.order.items t.from.items places t.ends.items index → index ≡ length targets → IsChainTree finder targets t
 tree_done finder targets t places index over is end = record {
   even = is.growth.even;
   once = is.growth.once;
+  used = subst (λ z. All (IsOnChain finder (given z)) t.order.items) (take_all index targets over) is.used;
+  in_order = λ n. elim (cases_lt n index) [
+    | inl lt ↦ (let (count, le, are) = is.in_order n lt in (count, are))
+    | inr past ↦
+        (let (count, le, are) = all_first finder targets t.order.items t.from.items places t.ends.items index is in (
+          count,
+          λ k. subst (λ z. Contains (take count t.order.items) k ↔ IsOnChain finder (given z) k)
+              (take_all index targets over ∙ sym (take_all n targets (omega (arith, over, past)))) (are k),
+        ))
+  ];
   froms = is.growth.froms;
   each = is.each ∙ end;
   ends = λ n o e. is.ends n o (let lt = slice_get_within targets n o e in omega (arith, lt, over)) e;
@@ -229,6 +346,8 @@ tree_empty finder targets places none = record {
     placed = λ k place e. absurd (let eq : None ≡ Some place = replicated (length finder) k None (Some place) (subst (λ z. slice_get z k ≡ Some (Some place)) none e) in cc);
     missing = λ k e h. (let lt = h.1 in omega (arith, lt));
   };
+  used = All-nil (IsOnChain finder (given (take 0 targets)));
+  in_order = λ n lt. absurd (omega (arith, lt));
   each = refl;
   ends = λ n o lt e. absurd (omega (arith, lt));
 }
@@ -239,3 +358,14 @@ tree_none finder targets order from places ends o f e none =
     subst (λ z. IsTreeTo finder targets z from places ends 0) (sym o)
     (subst (λ z. IsTreeTo finder targets [] z places ends 0) (sym f)
     (subst (λ z. IsTreeTo finder targets [] [] places z 0) (sym e) (tree_empty finder targets places none)))
+
+-- the place of what is before a position is earlier
+pub from_earlier : (finder : List ℕ) (targets : List (Option ℕ)) (t : ChainTree) → IsChainTree finder targets t → (k j : ℕ)
+    → slice_get t.from.items k ≡ Some (Some j) → j < k
+from_earlier finder targets t is k j at =
+    let even = is.even in
+    let lt = slice_get_within t.from.items k (Some j) at in
+    let q = get_or t.order.items k 0 in
+    let (earlier, there, f) = is.froms k q (slice_get-get_or t.order.items k 0 (omega (arith, lt, even))) in
+    let (i, by, other, less, placed) = subst (IsFromOf finder t.order.items k q) (same_Some earlier (Some j) (sym there ∙ at)) f in
+    less

@@ -184,7 +184,7 @@ named_below : (g : GraphValue) (x y : ℕ) → Contains (numbers_in g x) y → y
 named_below g x y c =
     All-contains (λ n. n < item_count (counts_of g)) (numbers_in g x) y (numbers_below (counts_of g) (items_of g (item_at (counts_of g) x))) c
 
-shortest_to : (names : ℕ → List ℕ) (some roots targets : List ℕ) → ((x : ℕ) → Contains some x → Contains roots x) → (t : ℕ) → Contains targets t → (chain : List ℕ)
+pub shortest_to : (names : ℕ → List ℕ) (some roots targets : List ℕ) → ((x : ℕ) → Contains some x → Contains roots x) → (t : ℕ) → Contains targets t → (chain : List ℕ)
     → IsShortestChain names some t chain → IsChainTo names roots targets chain
 shortest_to names some roots targets among t c chain s = record {
   root = s.root;

@@ -12,6 +12,7 @@ pub mod StopLemmas
 pub mod ChainWayLemmas
 pub mod TargetLemmas
 pub mod DominatorLemmas
+pub mod GraphDominatorLemmas
 pub mod ImportLemmas
 pub mod ChainMarkLemmas
 pub mod ChainFrontLemmas
@@ -22,3 +23,4 @@ pub mod EqualTypeLemmas
 pub mod CallerLemmas
 pub mod ChainTreeLemmas
 pub mod PathTreeLemmas
+pub mod PathTreeUseLemmas

@@ -69,7 +69,7 @@ pub is_marked : (marks : List Bool) (k : ℕ) → slice_get marks k ≡ Some tru
 is_marked marks k e = ap (λ o. option_map_or (λ b. b) o false) e
 
 -- where a thing is, it is once
-once_at : (xs : List ℕ) → AllPairs (λ x y. x ≢ y) xs → (j k x : ℕ) → slice_get xs j ≡ Some x → slice_get xs k ≡ Some x → j ≡ k
+pub once_at : (xs : List ℕ) → AllPairs (λ x y. x ≢ y) xs → (j k x : ℕ) → slice_get xs j ≡ Some x → slice_get xs k ≡ Some x → j ≡ k
 once_at xs once j k x e f = elim (cases_eq j k) [
   | inl same ↦ same
   | inr differ ↦ elim (cases_lt j k) [

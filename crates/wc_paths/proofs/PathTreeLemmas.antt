@@ -9,19 +9,18 @@ use Rattle.std.proofs.lemmas.Option.{get_or_from_slice_get, same_Some, slice_get
 use Rattle.wc_gc.specs.ImportChains.{IsFinderChain, at_named, at_root}
 use Rattle.wc_gc.proofs.ImageUnfoldingLemmas.{back_at}
 use Rattle.wc_gc.proofs.TypedGlobalLemmas.{get_front}
-use Rattle.wc_paths.specs.ChainTree.{HasFroms, IsChainTree, IsEnd, IsFromOf, IsInside}
+use Rattle.wc_paths.specs.ChainTree.{HasFroms, IsEnd, IsFromOf, IsInside}
 use Rattle.wc_paths.specs.Counts.{counts_value}
 use Rattle.wc_paths.specs.Items.{CountsValue, GraphValue, counts_of, has_item}
 use Rattle.wc_paths.specs.Numbers.{item_at, item_count, number_of, numbers_in, numbers_of}
 use Rattle.wc_paths.specs.Paths.{ArePaths}
-use Rattle.wc_paths.specs.PathTree.{IsPathTo, IsPathTree, begins, goes_on}
+use Rattle.wc_paths.specs.PathTree.{IsPathTo, begins, goes_on}
 use Rattle.wc_paths.specs.Private.PathTree.{finders_in, found_in, is_past, item_in, position_by, position_in}
 use Rattle.wc_paths.specs.Callers.{entry_by}
 use Rattle.wc_paths.specs.Private.Places.{place_at}
 use Rattle.wc_paths.specs.declared.chain_tree.ChainTree.{ChainTree}
 use Rattle.wc_paths.specs.declared.items.PathItem.{PathItem}
 use Rattle.wc_paths.specs.declared.items.PathItem.TheVariants.{Data}
-use Rattle.wc_paths.specs.declared.path_tree.PathTree.{PathTree}
 use Rattle.wc_paths.specs.declared.paths.Paths.{Paths}
 use Rattle.wc_gc.specs.ImportChains.{IsShortestChain}
 use Rattle.wc_gc.specs.Reached.{IsReachedFrom}
@@ -123,7 +122,7 @@ inside_cond finder true o i = i
 inside_cond finder false o i = tt
 
 module _ (p : Paths) where
-  sizes : length (finders_in p) ≡ length p.first.tree.order.items + length p.second.tree.order.items
+  pub sizes : length (finders_in p) ≡ length p.first.tree.order.items + length p.second.tree.order.items
   sizes =
       let count = length p.first.tree.order.items in
       let a = length-append p.first.tree.finder.items (shifted count p.second.tree.finder.items) in
@@ -139,6 +138,19 @@ module _ (p : Paths) where
       both_earlier p.first.tree.finder.items p.second.tree.finder.items (length p.first.tree.order.items) f
       (λ k lt. p.first.tree.finders.earlier k (omega (arith, lt, f))) (λ k lt. p.second.tree.finders.earlier k (omega (arith, lt, s)))
 
+  pub finders_later : (i j : ℕ) → length p.first.tree.order.items ≤ i → slice_get (finders_in p) i ≡ Some j → length p.first.tree.order.items ≤ j
+  finders_later i j le is =
+      let count = length p.first.tree.order.items in
+      let f = p.first.tree.finders.sized in
+      let lt = slice_get_within (finders_in p) i j is in
+      let all = length-append p.first.tree.finder.items (shifted count p.second.tree.finder.items) in
+      let same = length-map p.second.tree.finder.items (λ m. count + m) in
+      let within : i - count < length p.second.tree.finder.items = omega (arith, lt, all, same, f, le) in
+      let right = get_or-append_right p.first.tree.finder.items (shifted count p.second.tree.finder.items) count i 0 f le in
+      let at = get_or-map (λ m. count + m) p.second.tree.finder.items (i - count) 0 0 within in
+      let here = get_or_from_slice_get (finders_in p) i j 0 is in
+      omega (arith, right, at, here)
+
   pub positions_there : (x : PathItem) → IsInside (finders_in p) (position_in p x)
   positions_there x =
       let n = number_of (counts_value p.counts) x in
@@ -152,10 +164,10 @@ module _ (p : Paths) where
       let same = length-map xs (position_in p) in
       subst (IsInside (finders_in p)) (sym (get_or-map (position_in p) xs k (Data 0) d (omega (arith, lt, same)))) (positions_there (get_or xs k (Data 0)))
 
-below_true : (j count : ℕ) → j < count → nat_lt j count ≡ true
+pub below_true : (j count : ℕ) → j < count → nat_lt j count ≡ true
 below_true j count lt = lt-ltb j count lt
 
-below_false : (j count : ℕ) → count ≤ j → nat_lt j count ≡ false
+pub below_false : (j count : ℕ) → count ≤ j → nat_lt j count ≡ false
 below_false j count le = by (nat_lt j count) refl
   where
     by : (b : Bool) → nat_lt j count ≡ b → nat_lt j count ≡ false
@@ -231,21 +243,9 @@ module _ (p : Paths) (t : ChainTree) (has : HasFroms (finders_in p) t.order.item
           path_shown g counts a.counted second x there n refl chain shortest (map (item_at counts) chain) refl,
         ),
         read counts (found_in p) (finders_in p) t.order.items t.from.items has count true (λ j. count ≤ j)
-            (λ i j le is. later i j le is) (λ j le. ap not (below_false j count le))
+            (finders_later p) (λ j le. ap not (below_false j count le))
             (in_second p.first.tree.order.items p.second.tree.order.items p.first.tree.finder.items p.second.tree.finder.items count refl f finds) (omega arith) place at,
       )
-    where
-      later : (i j : ℕ) → count ≤ i → slice_get (finders_in p) i ≡ Some j → count ≤ j
-      later i j le is =
-          let f = p.first.tree.finders.sized in
-          let lt = slice_get_within (finders_in p) i j is in
-          let sizes = length-append p.first.tree.finder.items (shifted count p.second.tree.finder.items) in
-          let same = length-map p.second.tree.finder.items (λ m. count + m) in
-          let within : i - count < length p.second.tree.finder.items = omega (arith, lt, sizes, same, f, le) in
-          let right = get_or-append_right p.first.tree.finder.items (shifted count p.second.tree.finder.items) count i 0 f le in
-          let at = get_or-map (λ m. count + m) p.second.tree.finder.items (i - count) 0 0 within in
-          let here = get_or_from_slice_get (finders_in p) i j 0 is in
-          omega (arith, right, at, here)
 
   neither : (x : PathItem) → has_item counts x ≡ true → place_at p.first.places.items (number_of counts x) ≡ None
       → place_at p.second.places.items (number_of counts x) ≡ None → IsRead x None
@@ -273,22 +273,3 @@ module _ (p : Paths) (t : ChainTree) (has : HasFroms (finders_in p) t.order.item
       by true there i = by_places x there (place_at p.first.places.items (number_of counts x)) (place_at p.second.places.items (number_of counts x)) end refl refl i
       by false out eq =
           subst (IsRead x) (sym eq) (missing_unreached g counts a.counted first x out, missing_unreached g counts a.counted second x out)
-
--- the tree of paths
-pub path_tree_is : (p : Paths) (targets : List PathItem) (t : ChainTree) (tree : PathTree) → IsChainTree (finders_in p) (map (position_in p) targets) t
-    → tree.items.items ≡ map (item_in (counts_value p.counts) (found_in p)) t.order.items → tree.from.items ≡ t.from.items
-    → tree.is_second.items ≡ map (is_past (length p.first.tree.order.items)) t.order.items → tree.ends.items ≡ t.ends.items → IsPathTree p targets tree
-path_tree_is p targets t tree is items from flags ends = record {
-  even = ap length from ∙ (is.even ∙ sym (ap length items ∙ length-map t.order.items (item_in (counts_value p.counts) (found_in p))));
-  all =
-      ap length flags ∙ (length-map t.order.items (is_past (length p.first.tree.order.items))
-      ∙ sym (ap length items ∙ length-map t.order.items (item_in (counts_value p.counts) (found_in p))));
-  each = ap length ends ∙ (is.each ∙ length-map targets (position_in p));
-  ends = λ g first second a n x at.
-      let place = slice_get-map (position_in p) targets n ∙ ap (option_map (position_in p)) at in
-      let (end, here, ended) = is.ends n (position_in p x) place in (
-        end,
-        subst (λ z. slice_get z n ≡ Some end) (sym ends) here,
-        rw (items, from, flags) (is_read p t is.froms g first second a x end ended),
-      );
-}

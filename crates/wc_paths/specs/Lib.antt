@@ -14,6 +14,7 @@ pub mod CallLists
 pub mod Callers
 pub mod OnPaths
 pub mod Dominators
+pub mod GraphDominators
 pub mod Private
 pub mod ChainTree
 pub mod PathTree

@@ -2,6 +2,7 @@ pub mod Search
 pub mod Ways
 pub mod Fronts
 pub mod Dominators
+pub mod GraphDominators
 pub mod Roots
 pub mod Paths
 pub mod PathRoots

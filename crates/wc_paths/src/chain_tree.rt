@@ -1,7 +1,6 @@
 //! The chains to some positions of what a search found, as a tree, which has each position once.
 
-ghost use Rattle.std.specs.Prelude.{◌≡◌, ◌<◌, ◌≤◌, ℕ, All, IfOk, OnOk, Some, None, length, slice_index_or};
-ghost use Rattle.std.specs.List.{slice_get};
+ghost use Rattle.std.specs.Prelude.{◌≡◌, ◌<◌, ◌≤◌, ℕ, All, IfOk, Some, None, length, slice_index_or};
 ghost use Rattle.wc_paths.specs.ChainTree.{IsChainTree, IsInside};
 ghost use Rattle.wc_paths.specs.Private.ChainTree.{IsGrowth, IsGrown, IsGrownIf, IsNewPart, IsPut};
 

@@ -176,7 +176,7 @@ fn chain_to(alloc: Global, paths: &Paths, number: usize) -> Result<Option<Vec<us
 }
 
 /// How many items of a chain there are up to the first target; `places`: the positions of targets.
-fn up_to_first(places: &[Option<usize>], chain: &[usize]) -> usize
+pub(crate) fn up_to_first(places: &[Option<usize>], chain: &[usize]) -> usize
     requires { All (λ x. x < length places.now) chain.now }
     ensures { (targets : List ℕ) (size : ℕ) → ArePlaces targets size places.now
         → IsCut targets chain.now result }

@@ -1,4 +1,4 @@
-//! Calls of `wc_calls`, on a buffer whose bytes are all `ee` before.
+//! Calls of `wc_calls` and of `wc_component_calls`, on a buffer whose bytes are all `ee` before.
 
 use crate::call_example::trim_to_write;
 use std::alloc::{AllocError, Global};
@@ -6,6 +6,7 @@ use wc_calls::{
     Answer, MEMORY, dedupe, fault_text, paths, plan, scan, trim, validate, validated_module, why,
     world,
 };
+use wc_component_calls::{component_imports, component_paths};
 use wc_lines::input::{Stop, bad_row, bytes_of, end_answer};
 use wc_lines::lines::Lines;
 use wc_lines::rows::Row;
@@ -15,7 +16,7 @@ use wc_lines::values::put_bytes_lines;
 /// Each byte of a buffer before a call.
 const UNTOUCHED: u8 = 0xee;
 
-/// Appends the answer of a call of `wc_calls`. False where a row has another call.
+/// Appends the answer of a call of these crates. False where a row has another call.
 pub(crate) fn answer(alloc: Global, row: &Row<'_>, out: &mut Lines) -> bool {
     let answered = match row.call {
         "dedupe_into" => answer_dedupe(alloc, row, out),
@@ -26,6 +27,7 @@ pub(crate) fn answer(alloc: Global, row: &Row<'_>, out: &mut Lines) -> bool {
         "paths_into" => answer_paths(alloc, row, out),
         "fault_text_into" => answer_fault_text(alloc, row, out),
         "world_into" | "plan_into" | "validate_into" => answer_message(alloc, row, out),
+        "component_paths_into" | "component_imports_into" => answer_message(alloc, row, out),
         "record_into" => answer_record(alloc, row, out),
         _ => return false,
     };
@@ -155,7 +157,9 @@ fn answer_fault_text(alloc: Global, row: &Row<'_>, out: &mut Lines) -> Result<()
 
 /// `world_into ROOM LINES`, `plan_into ROOM LINES`: the world of a component, or its plan, in a buffer of so many bytes. So
 /// many lines of input are the message, and the others the bytes of modules. `validate_into ROOM LINES [NAME]`: whether its
-/// main module is valid, or the adapter or the library of a name.
+/// main module is valid, or the adapter or the library of a name. `component_paths_into ROOM LINES [KEY]`: the paths to what a
+/// key asks about, which is `all` where it is left out. `component_imports_into ROOM LINES`: what the component imports of each
+/// interface.
 fn answer_message(alloc: Global, row: &Row<'_>, out: &mut Lines) -> Result<(), Stop> {
     let Some((message, bytes)) = parts_of(row) else {
         return Err(bad_row(out, "no message", row.call));
@@ -229,12 +233,17 @@ struct Asked<'a> {
     names: &'a [Vec<u8>],
 }
 
-/// Calls `plan`, `world` or `validate` on a message.
+/// Makes one of these calls on a message.
 fn answer_to(alloc: Global, call: &str, asked: &Asked<'_>, buffer: &mut [u8]) -> Answer {
     let (seed, message, modules) = (row_seed(), asked.message, asked.modules);
     match call {
         "plan_into" => plan(alloc, seed, message, modules, buffer),
         "world_into" => world(alloc, seed, message, modules, buffer),
+        "component_imports_into" => component_imports(alloc, seed, message, modules, buffer),
+        "component_paths_into" => match first_of(asked.names) {
+            Some(key) => component_paths(alloc, seed, message, modules, key, buffer),
+            None => component_paths(alloc, seed, message, modules, b"all", buffer),
+        },
         _ => {
             let name = first_of(asked.names);
             validate(alloc, seed, message, modules, name, buffer)

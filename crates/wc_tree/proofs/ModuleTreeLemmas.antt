@@ -6,7 +6,7 @@ use Rattle.std.specs.List.{slice_get}
 use Rattle.std.specs.Option.{option_map}
 use Rattle.std.specs.Prelude.{drop}
 use Rattle.std.proofs.lemmas.Bool.{cases_lt}
-use Rattle.std.proofs.lemmas.List.{drop_all, drop_more, get_or-map, get_or_past, length-map, length_push, map-append}
+use Rattle.std.proofs.lemmas.List.{drop_all, drop_more, get_or-map, get_or_past, length-map, length_push, map-append, same_lists}
 use Rattle.std.proofs.lemmas.Option.{get_or_from_slice_get, same_Some, slice_get-get_or, slice_get-map, slice_get_within}
 use Rattle.wc_gc.proofs.TypedGlobalLemmas.{get_front}
 use Rattle.wc_read.specs.Names.{GlobalNameValue, name_entries}
@@ -14,15 +14,15 @@ use Rattle.wc_paths.specs.Callers.{Calling, calling_of}
 use Rattle.wc_segments.specs.Segments.{segments_value}
 use Rattle.wc_paths.specs.Items.{GraphValue}
 use Rattle.wc_paths.specs.PathRoots.{IsPathRoot, IsRootFrom, RootView}
-use Rattle.wc_paths.specs.PathTree.{IsPathTo, IsPathTree, IsReadFrom, begins as path_begins, goes_on as path_goes_on}
+use Rattle.wc_paths.specs.PathTree.{AreUsedInOrder, IsPathTo, IsPathTree, IsReadFrom, begins as path_begins, goes_on as path_goes_on}
 use Rattle.wc_paths.specs.declared.items.PathItem.{PathItem}
 use Rattle.wc_paths.specs.declared.items.PathItem.TheVariants.{Item, Elements, Data}
 use Rattle.wc_paths.specs.declared.path_tree.PathTree.{PathTree}
 use Rattle.wc_paths.proofs.ChainTreeLemmas.{push_cases}
 use Rattle.wc_why.specs.MarkedPaths.{marking_of}
 use Rattle.wc_why.specs.Paths.{CalledByView, begun as begun_step, called_by, callers_after, path_step, path_steps}
-use Rattle.wc_tree.specs.ModuleTree.{IsBegun, IsModuleTree, IsReadTo, IsUnreached, IsWayTo, ShownView, begins, called_next, called_of, caller_of, goes_on, item_name, shown_item, shown_view, step_by, tree_steps, ways_of, ways_one}
-use Rattle.wc_tree.specs.Private.ModuleTree.{AreCalled, AreItemsTo, IsItemAt, IsItemPut, IsModuleOf, IsRootAt, callers_at, callers_between, callers_from, caller_named}
+use Rattle.wc_tree.specs.ModuleTree.{IsBegun, IsInPathOrder, IsModuleTree, IsReadTo, IsUnreached, IsWayTo, ShownView, begins, called_next, called_of, caller_of, goes_on, item_name, items_in, shown_item, shown_view, step_by, tree_steps, ways_of, ways_one}
+use Rattle.wc_tree.specs.ModuleItems.{AreCalled, AreItemsTo, IsItemAt, IsItemPut, IsModuleOf, IsRootAt, callers_at, callers_between, callers_from, caller_named}
 use Rattle.wc_tree.specs.Tree.{TreeCallerView, TreeItemView, TreeModuleView, TreeRootView, TreeView, TreeWayView}
 use Rattle.wc_tree.specs.TreeJson.{shown_callers}
 use Rattle.wc_tree.specs.declared.tree.Callers.{Callers}
@@ -230,6 +230,25 @@ module _ (s : Source) (t : PathTree) where
             nothing (x ∷ xs) zero lt e = cc
             nothing (x ∷ xs) (suc k) lt e = nothing xs k (omega (arith, lt)) e
 
+    -- the items are those of the tree, in its order
+    items_same : items_in m ≡ t.items.items
+    items_same = same_lists (items_in m) t.items.items (length-map m.items (λ i. i.item) ∙ is.sized) at
+      where
+        at : (k : ℕ) (d : PathItem) → k < length (items_in m) → get_or (items_in m) k d ≡ get_or t.items.items k d
+        at k d lt =
+            let sizes = length-map m.items (λ (i : TreeItemView). i.item) in
+            let sized = is.sized in
+            let x = get_or t.items.items k d in
+            let there = slice_get-get_or t.items.items k d (omega (arith, lt, sizes, sized)) in
+            let (i, found, a) = item_at k x there in
+            get_or_from_slice_get (items_in m) k i.item d (slice_get-map (λ i. i.item) m.items k ∙ ap (option_map (λ i. i.item)) found)
+            ∙ (ap (λ z. z.item) a.is ∙ same_Some a.x x (sym a.there ∙ there))
+
+    path_order : ((k j : ℕ) → slice_get t.from.items k ≡ Some (Some j) → j < k) → IsInPathOrder m
+    path_order earlier = λ k j i at from.
+        let a = is.are k i at in
+        earlier k j (a.before ∙ ap (λ z. Some z) (sym (ap (λ z. z.from) a.is) ∙ from))
+
     -- the item at a position, after the one before it
     step_at : (k : ℕ) (i : TreeItemView) (a : IsItemAt s t m.roots m.callers k i) (x : PathItem) (before : Option PathItem) → slice_get t.items.items k ≡ Some x
         → callers_at calling t.from.items t.items.items k ≡ callers_between calling before (Some x) → IsStepOf names calling m before i x
@@ -292,6 +311,26 @@ module _ (s : Source) (t : PathTree) where
           last = at ∙ sym (last_push None path x);
         }
 
+  -- the path to an item, if one leads there, is read back from the module
+  pub way_read : (m : TreeModuleView) → IsModuleOf s t m → (g : GraphValue) (first second : List PathItem) (x : PathItem) (end : Option ℕ)
+      → IsReadFrom g first second t x end → MatchOption end (IsUnreached g first second x) (IsWayTo g first second s m x)
+  way_read m is g first second x None none = none
+  way_read m is g first second x (Some k) (is_second, path, leads, tree_path) =
+      let b = back m is tree_path in (
+        is_second,
+        path,
+        b.root,
+        leads,
+        subst (λ z. IsPathRoot s.roots.now (segments_value s.segments.now) is_second z b.root) (sym b.path_is) b.from,
+        record {
+          items = b.items;
+          read = b.read;
+          root = b.root;
+          begins = b.begins;
+          are = ap (λ z. begun_step false b.root ∷ z) (sym (steps_same names calling m None b.items path b.steps));
+        },
+      )
+
   -- the tree of a module with these items and ends
   pub module_tree_is : (imports : List ShownView) (targets : List PathItem) (tree : TreeView) (m : TreeModuleView) → targets ≡ map (λ i. i.item) imports
       → IsPathTree s.paths.now targets t → IsModuleOf s t m → tree.modules ≡ m ∷ [] → tree.ways ≡ ways_of imports t.ends.items → IsModuleTree s imports tree
@@ -305,31 +344,16 @@ module _ (s : Source) (t : PathTree) where
     paths = λ g first second a n i at.
         let target : slice_get targets n ≡ Some i.item = ap (λ z. slice_get z n) asked ∙ (slice_get-map (λ j. j.item) imports n ∙ ap (option_map (λ j. j.item)) at) in
         let (end, here, read) = p.ends g first second a n i.item target in
-        (end, here, by g first second i end read);
+        (end, here, way_read m is g first second i.item end read);
+    earlier = path_order m is p.earlier;
+    items = λ g first second a.
+        subst (AreUsedInOrder g first second (map (λ i. i.item) imports)) (sym (items_same m is))
+        (subst (λ z. AreUsedInOrder g first second z t.items.items) asked (p.items g first second a));
     marked = λ k d lt.
         let at = slice_get-get_or m.items k d lt in
         let a = is.are k (get_or m.items k d) at in
         subst (λ z. z.only ≡ marking_of s.marks.now z.item) (sym a.is) refl;
   }
-    where
-      by : (g : GraphValue) (first second : List PathItem) (i : ShownView) (end : Option ℕ) → IsReadFrom g first second t i.item end
-          → MatchOption end (IsUnreached g first second i.item) (IsWayTo g first second s m i.item)
-      by g first second i None none = none
-      by g first second i (Some k) (is_second, path, leads, tree_path) =
-          let b = back m is tree_path in (
-            is_second,
-            path,
-            b.root,
-            leads,
-            subst (λ z. IsPathRoot s.roots.now (segments_value s.segments.now) is_second z b.root) (sym b.path_is) b.from,
-            record {
-              items = b.items;
-              read = b.read;
-              root = b.root;
-              begins = b.begins;
-              are = ap (λ z. begun_step false b.root ∷ z) (sym (steps_same names calling m None b.items path b.steps));
-            },
-          )
 
 -- the ends that are left
 

@@ -5,12 +5,9 @@ use Rattle.std.proofs.lemmas.List.Folds.{list_any-append, list_any_more}
 use Rattle.std.proofs.lemmas.List.FromFn.{map-range_with_len_more}
 use Rattle.std.specs.List.{list_any, range_with_len}
 use Rattle.indexmap.specs.IndexSet.{insert_key}
-use Rattle.std.proofs.lemmas.List.{map-append, map_more}
 use Rattle.wc_paths.proofs.CallListLemmas.{key_same}
 use Rattle.wc_paths.specs.CallLists.{is_call_key as is_place}
-use Rattle.wc_tree.specs.Runs.{Place, first_of, is_among, way_place}
-use Rattle.wc_tree.specs.Tree.{tree_way_view}
-use Rattle.wc_tree.specs.declared.tree.TreeWay.{TreeWay}
+use Rattle.wc_tree.specs.Runs.{Place, first_of, is_among}
 
 -- what is among items, when one more is put to a set of them
 
@@ -58,12 +55,3 @@ firsts_more joined k before first firsts new done last is put =
       put ∙ (λ i. done i ++ here i ∷ []) ∙ sym (map-range_with_len_more (first_of joined) 0 k k (omega arith)),
       here ∙ ap (first_of joined) (after_next k),
     )
-
--- the item at which one more path ends
-pub way_more : (ways : List TreeWay) (i : ℕ) (d : TreeWay) (ends new : List Place) (end : Place) → i < length ways
-    → ends ≡ map way_place (map tree_way_view (take i ways)) → new ≡ ends ++ end ∷ [] → end ≡ way_place (tree_way_view (get_or ways i d))
-    → new ≡ map way_place (map tree_way_view (take (i + 1) ways))
-way_more ways i d ends new end within before put is =
-    put ∙ (λ j. before j ++ is j ∷ [])
-    ∙ sym (ap (map way_place) (map_more tree_way_view ways i d within)
-    ∙ map-append way_place (map tree_way_view (take i ways)) (tree_way_view (get_or ways i d) ∷ []))

@@ -5,4 +5,4 @@ pub mod Runs
 pub mod Groups
 pub mod ShortNames
 pub mod TreeGraph
-pub mod Private
+pub mod ModuleItems

@@ -1,11 +1,12 @@
 -- The tree of the paths through a module that stands alone.
-use Rattle.std.specs.Prelude.{◌≡◌, ℕ, ◌-◌, Bool, false, List, [], ◌∷◌, ◌++◌, All, length, map, MatchOption, Option, Some, None}
+use Rattle.std.specs.Prelude.{◌≡◌, ◌<◌, ℕ, ◌-◌, Bool, false, List, [], ◌∷◌, ◌++◌, All, length, map, MatchOption, Option, Some, None}
 use Rattle.std.specs.List.{slice_get}
 use Rattle.wc_read.specs.Names.{GlobalNameValue, name_entries}
 use Rattle.wc_segments.specs.Segments.{segments_value}
 use Rattle.wc_paths.specs.Callers.{calling_of}
 use Rattle.wc_paths.specs.Items.{GraphValue}
 use Rattle.wc_paths.specs.PathRoots.{IsPathRoot, RootView}
+use Rattle.wc_paths.specs.PathTree.{AreUsedInOrder}
 use Rattle.wc_paths.specs.Paths.{ArePaths, IsPathFrom, IsReachedIn}
 use Rattle.wc_paths.specs.declared.items.PathItem.{PathItem}
 use Rattle.wc_paths.specs.declared.items.PathItem.TheVariants.{Item, Elements, Data}
@@ -97,8 +98,8 @@ abbrev pub way_to : ShownView → ℕ → TreeWayView
 way_to i end = record {
   interface = i.from;
   name = Some i.name;
-  module_index = 0;
-  item = end;
+  module_index = Some 0;
+  item = Some end;
   origin = Some (record { from = i.from; name = i.name });
   ty = None;
 }
@@ -123,8 +124,15 @@ IsWayTo g first second s m x k =
 abbrev pub IsUnreached : GraphValue → List PathItem → List PathItem → PathItem → Type 0
 IsUnreached g first second x = ¬ (IsReachedIn g first x) × ¬ (IsReachedIn g second x)
 
+-- each item comes after the one before it on its path
+abbrev pub IsInPathOrder : TreeModuleView → Type 0
+IsInPathOrder m = (k j : ℕ) (i : TreeItemView) → slice_get m.items k ≡ Some i → i.from ≡ Some j → j < k
+
+abbrev pub items_in : TreeModuleView → List PathItem
+items_in m = map (λ (i : TreeItemView). i.item) m.items
+
 -- in whatever module and from whatever roots these are the paths: the tree has the path to each of these imports to which one leads,
--- in order, and the mark of each item
+-- in order; the items on these paths alone, each once, in the order of first use; and the mark of each
 pub record IsModuleTree (s : Source) (imports : List ShownView) (t : TreeView) : Type 0 where
   pub alone : TreeModuleView
   pub modules : t.modules ≡ alone ∷ []
@@ -134,4 +142,7 @@ pub record IsModuleTree (s : Source) (imports : List ShownView) (t : TreeView) :
   pub ways : t.ways ≡ ways_of imports ends
   pub paths : (g : GraphValue) (first second : List PathItem) → ArePaths g first second s.paths.now → (n : ℕ) (i : ShownView) → slice_get imports n ≡ Some i
       → (end : Option ℕ) × (slice_get ends n ≡ Some end) × MatchOption end (IsUnreached g first second i.item) (IsWayTo g first second s alone i.item)
+  pub earlier : IsInPathOrder alone
+  pub items : (g : GraphValue) (first second : List PathItem) → ArePaths g first second s.paths.now
+      → AreUsedInOrder g first second (map (λ (i : ShownView). i.item) imports) (items_in alone)
   pub marked : All (λ i. i.only ≡ marking_of s.marks.now i.item) alone.items

@@ -41,8 +41,13 @@ source m roots i = source_by m i.from (main_import roots i.root)
 -- the items with which runs end, though others may follow: those at which paths end, and those that lead to another item than
 -- the next
 
-abbrev pub way_place : TreeWayView → Place
-way_place w = (w.module_index, w.item)
+abbrev pub way_end : Option ℕ → Option ℕ → List Place
+way_end None item = []
+way_end (Some m) None = []
+way_end (Some m) (Some item) = (m, item) ∷ []
+
+abbrev pub way_places : TreeWayView → List Place
+way_places w = way_end w.module_index w.item
 
 abbrev pub item_end : Place → Option Place → List Place
 item_end item None = []
@@ -55,7 +60,7 @@ abbrev pub module_ends : ℕ → TreeModuleView → List Place
 module_ends m v = item_ends m v.roots v.items
 
 abbrev pub tree_ends : TreeView → List Place
-tree_ends t = map way_place t.ways ++ flat_map (λ (e : ℕ × TreeModuleView). module_ends e.0 e.1) (enumerate_from 0 t.modules)
+tree_ends t = flat_map way_places t.ways ++ flat_map (λ (e : ℕ × TreeModuleView). module_ends e.0 e.1) (enumerate_from 0 t.modules)
 
 -- an item is joined to the one before it, if that leads to it and no run ends with it
 

@@ -76,8 +76,8 @@ tree_import_view i = record { from = i.module.now; name = i.name.now }
 pub record TreeWayView : Type 0 where
   pub interface : List ℕ
   pub name : Option (List ℕ)
-  pub module_index : ℕ
-  pub item : ℕ
+  pub module_index : Option ℕ
+  pub item : Option ℕ
   pub origin : Option TreeImportView
   pub ty : Option (List ℕ)
 

@@ -157,10 +157,17 @@ abbrev pub arrow_style : Option (List ℕ) → List ℕ
 arrow_style None = codes " [style=dashed]"
 arrow_style (Some name) = []
 
+abbrev pub arrow_to : ℕ × ℕ → ℕ → List ℕ → List ℕ
+arrow_to from number style =
+    codes "  m" ++ (decimal from.0 ++ (codes "_" ++ (decimal from.1 ++ (codes " -> i" ++ (decimal number ++ (style ++ codes ";\n"))))))
+
+abbrev pub arrow_by : List (List ℕ) → ℕ → List ℕ → Option ℕ → Option ℕ → List ℕ
+arrow_by runs number style None item = []
+arrow_by runs number style (Some m) None = []
+arrow_by runs number style (Some m) (Some item) = arrow_to (m, first_in runs m item) number style
+
 abbrev pub end_arrow : List (List ℕ) → ℕ → TreeWayView → List ℕ
-end_arrow runs number w =
-    codes "  m" ++ (decimal w.module_index ++ (codes "_" ++ (decimal (first_in runs w.module_index w.item) ++ (codes " -> i"
-    ++ (decimal number ++ (arrow_style w.name ++ codes ";\n"))))))
+end_arrow runs number w = arrow_by runs number (arrow_style w.name) w.module_index w.item
 
 abbrev pub end_arrows : List (List ℕ) → List (List ℕ) → (List ℕ → List TreeWayView) → List ℕ
 end_arrows runs interfaces ways = flat_map (λ (e : ℕ × List ℕ). flat_map (end_arrow runs e.0) (ways e.1)) (enumerate_from 0 interfaces)

@@ -102,8 +102,8 @@ import_json i = object_of ((codes "module", string i.from) ∷ (codes "name", st
 abbrev pub way_json : TreeWayView → Json
 way_json w =
     object_of (
-    (codes "interface", string w.interface) ∷ (codes "name", text_or_null w.name) ∷ (codes "module", number_json w.module_index)
-    ∷ (codes "item", number_json w.item) ∷ (codes "import", nullable_json import_json w.origin) ∷ (codes "type", text_or_null w.ty) ∷ []
+    (codes "interface", string w.interface) ∷ (codes "name", text_or_null w.name) ∷ (codes "module", nullable_json number_json w.module_index)
+    ∷ (codes "item", nullable_json number_json w.item) ∷ (codes "import", nullable_json import_json w.origin) ∷ (codes "type", text_or_null w.ty) ∷ []
     )
 
 abbrev pub tree_json : TreeView → Json

@@ -12,7 +12,7 @@ mod tree;
 mod tree_graph;
 mod tree_json;
 
-pub use module_tree::{ShownImport, Source, tree_of_module};
+pub use module_tree::{ShownImport, Source, module_of, name_of, tree_of_module};
 pub use tree::{Callers, Tree, TreeCaller, TreeImport, TreeItem, TreeModule, TreeRoot, TreeWay};
 pub use tree_graph::tree_to_graph;
 pub use tree_json::tree_to_json;

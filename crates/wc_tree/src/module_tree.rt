@@ -9,7 +9,7 @@ ghost use Rattle.wc_paths.specs.Callers.{calling_of};
 ghost use Rattle.wc_why.specs.MarkedPaths.{marking_of};
 ghost use Rattle.wc_why.specs.Paths.{callers_after, name_in, text_of};
 ghost use Rattle.wc_tree.specs.ModuleTree.{IsModuleTree, item_name, shown_item, shown_view, tree_item, way_to, ways_of, ways_one};
-ghost use Rattle.wc_tree.specs.Private.ModuleTree.{AreCallersPut, AreEven, IsItemPut, IsModuleOf, IsRootPut, IsRootView, caller_named, callers_at, callers_between};
+ghost use Rattle.wc_tree.specs.ModuleItems.{AreCallersPut, AreEven, IsItemPut, IsModuleOf, IsRootPut, IsRootView, caller_named, callers_at, callers_between};
 ghost use Rattle.wc_tree.specs.Tree.{tree_caller_view, tree_item_view, tree_module_view, tree_root_view, tree_view, tree_way_view};
 
 use crate::tree::{Callers, Tree, TreeCaller, TreeImport, TreeItem, TreeModule, TreeRoot, TreeWay};
@@ -142,8 +142,8 @@ fn way_to<'r>(import: ShownImport<'r>, end: usize) -> TreeWay<'r>
     TreeWay {
         interface: import.module,
         name: Some(import.name),
-        module: 0,
-        item: end,
+        module: Some(0),
+        item: Some(end),
         import: Some(TreeImport {
             module: import.module,
             name: import.name,
@@ -153,7 +153,7 @@ fn way_to<'r>(import: ShownImport<'r>, end: usize) -> TreeWay<'r>
 }
 
 /// The module with the items of a tree.
-fn module_of<'r>(
+pub fn module_of<'r>(
     alloc: Global,
     source: Source<'_, 'r>,
     tree: &PathTree,
@@ -388,7 +388,7 @@ fn tree_item<'r>(
 }
 
 /// The name of an item that is a function, if it has one.
-fn name_of<'r>(names: &OrderedMap<u32, &'r str>, item: PathItem) -> Option<&'r str>
+pub fn name_of<'r>(names: &OrderedMap<u32, &'r str>, item: PathItem) -> Option<&'r str>
     ensures { option_map text_of result ≡ item_name (name_entries names.now) item }
 {
     match item {

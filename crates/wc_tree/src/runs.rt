@@ -2,7 +2,7 @@
 
 ghost use Rattle.std.specs.Prelude.{◌≡◌, ◌++◌, ◌<◌, IfOk, OnOk, cond, map};
 ghost use Rattle.std.specs.List.{enumerate_from, flat_map};
-ghost use Rattle.wc_tree.specs.Runs.{Place, first_in, follows, is_among, is_before, is_joined, item_end, item_ends, main_import, main_of, module_ends, module_firsts, runs_of, runs_under, runs_view, source, tree_ends, way_place};
+ghost use Rattle.wc_tree.specs.Runs.{Place, first_in, follows, is_among, is_before, is_joined, item_end, item_ends, main_import, main_of, module_ends, module_firsts, runs_of, runs_under, runs_view, source, tree_ends, way_places};
 ghost use Rattle.wc_tree.specs.Tree.{tree_item_view, tree_module_view, tree_root_view, tree_view, tree_way_view};
 
 use crate::tree::{Tree, TreeItem, TreeModule, TreeRoot, TreeWay};
@@ -49,20 +49,27 @@ fn tree_ends(alloc: Global, tree: &Tree<'_>) -> Result<Vec<(usize, usize)>, Allo
 
 /// The items at which paths end.
 fn way_ends(alloc: Global, ways: &[TreeWay<'_>]) -> Result<Vec<(usize, usize)>, AllocError>
-    ensures { IfOk result (λ v. v.items ≡ map way_place (map tree_way_view ways.now)) }
+    ensures { IfOk result (λ v. v.items ≡ flat_map way_places (map tree_way_view ways.now)) }
 {
     let mut ends = Vec::new(alloc);
-    for position in 0..ways.len() {
-        ends.push(place_of(&ways[position]))?;
+    for way in ways {
+        put_way_end(way, &mut ends)?;
     }
     Ok(ends)
 }
 
-/// The item at which a path ends.
-fn place_of(way: &TreeWay<'_>) -> (usize, usize)
-    ensures { result ≡ way_place (tree_way_view way.now) }
+/// Appends the item at which a path ends, if it ends at one.
+fn put_way_end(way: &TreeWay<'_>, ends: &mut Vec<(usize, usize)>) -> Result<(), AllocError>
+    ensures { OnOk result (ends.new.items
+        ≡ ends.old.items ++ way_places (tree_way_view way.now)) }
 {
-    (way.module, way.item)
+    match (way.module, way.item) {
+        (Some(module), Some(item)) => {
+            ends.push((module, item))?;
+            Ok(())
+        }
+        (Some(_), None) | (None, _) => Ok(()),
+    }
 }
 
 /// Appends the items that lead to another item than the next.

@@ -85,11 +85,12 @@ pub struct TreeWay<'a> {
     pub interface: &'a str,
     /// The name of the import; `None` where the interface is imported for its types alone.
     pub name: Option<&'a str>,
-    /// The position of the module in which the path ends.
-    pub module: usize,
-    /// The position of its last item there.
-    pub item: usize,
-    /// The import at its end, if it ends at one.
+    /// The position of the module in which the path ends, if it ends in one.
+    pub module: Option<usize>,
+    /// The position of its last item there, if an item leads to its end.
+    pub item: Option<usize>,
+    /// The import at its end, if it ends at one: of a module; or, where it ends in none, of `world imports` or `world exports`,
+    /// what the world itself imports or exports.
     pub import: Option<TreeImport<'a>>,
     /// The first type of the interface that is needed there, if the path is for types alone.
     pub ty: Option<&'a str>,

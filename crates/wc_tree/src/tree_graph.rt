@@ -8,7 +8,7 @@ ghost use Rattle.wc_why.specs.Paths.{text_of};
 ghost use Rattle.wc_tree.specs.Groups.{group_names, group_ways};
 ghost use Rattle.wc_tree.specs.Runs.{runs_view};
 ghost use Rattle.wc_tree.specs.Tree.{tree_caller_view, tree_item_view, tree_module_view, tree_root_view, tree_view, tree_way_view};
-ghost use Rattle.wc_tree.specs.TreeGraph.{arrow, arrow_from, arrow_style, arrow_text, arrows, begin_text, box_begin, box_end, box_part, boxes, caller_line, caller_lines, cluster, clusters, end_arrow, end_arrows, export_text, group_box, group_boxes, graph_by, item_arrows, item_line, item_lines, line, mark_text, module_arrows, more_line, named_text, root_line, short_item, short_root, some_caller_lines, tree_graph, type_text, way_line, way_text};
+ghost use Rattle.wc_tree.specs.TreeGraph.{arrow, arrow_from, arrow_style, arrow_text, arrow_to, arrows, begin_text, box_begin, box_end, box_part, boxes, caller_line, caller_lines, cluster, clusters, end_arrow, end_arrows, export_text, group_box, group_boxes, graph_by, item_arrows, item_line, item_lines, line, mark_text, module_arrows, more_line, named_text, root_line, short_item, short_root, some_caller_lines, tree_graph, type_text, way_line, way_text};
 
 use crate::groups::{Groups, group_at, groups_of};
 use crate::runs::{Runs, find_runs, first_in, source};
@@ -537,7 +537,7 @@ fn group_arrows(
     Ok(text)
 }
 
-/// The arrow to the box of an interface from the one in which a path ends.
+/// The arrow to the box of an interface from the one in which a path ends, if it ends in one.
 fn end_arrow(
     alloc: Global,
     runs: &Runs,
@@ -547,9 +547,25 @@ fn end_arrow(
     ensures { IfOk result (λ s. string_bytes s
         ≡ end_arrow (runs_view runs.now) number (tree_way_view way.now)) }
 {
-    let module = way.module;
-    let first = first_in(runs, module, way.item);
-    let style = arrow_style(way.name);
+    match (way.module, way.item) {
+        (Some(module), Some(item)) => {
+            let first = first_in(runs, module, item);
+            arrow_to(alloc, (module, first), number, arrow_style(way.name))
+        }
+        (Some(_), None) | (None, _) => Ok(String::new(alloc)),
+    }
+}
+
+/// An arrow from the box with this item to that of an interface.
+fn arrow_to(
+    alloc: Global,
+    from: (usize, usize),
+    number: usize,
+    style: &str,
+) -> Result<String, AllocError>
+    ensures { IfOk result (λ s. string_bytes s ≡ arrow_to from number style.now) }
+{
+    let (module, first) = from;
     format!(in alloc; "  m{module}_{first} -> i{number}{style};\n")
 }
 

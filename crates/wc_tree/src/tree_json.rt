@@ -38,8 +38,8 @@ use wc_why::{
 /// position of its root, and `from`, that of the item before it, each or null; `callers`: null, or an object with `first`, a list
 /// of functions by `index` and `name`, and `count`; and `only`, whether it is marked, where something is asked for.
 ///
-/// A way has `interface`, `name`, which is null for types alone, `module` and `item`, where it ends, `import`: an object with
-/// `module` and `name`, or null; and `type`, or null.
+/// A way has `interface`, `name`, which is null for types alone, `module` and `item`, where it ends, each or null, `import`: an object
+/// with `module` and `name`, or null; and `type`, or null.
 ///
 /// # Errors
 ///
@@ -361,8 +361,8 @@ fn put_way(out: &mut Writer, way: &TreeWay<'_>) -> Result<(), AllocError>
     begin_object(out)?;
     put_text(out, "interface", way.interface)?;
     put_text_or_null(out, "name", way.name)?;
-    put_number(out, "module", way.module)?;
-    put_number(out, "item", way.item)?;
+    put_number_or_null(out, "module", way.module)?;
+    put_number_or_null(out, "item", way.item)?;
     put_import(out, way.import)?;
     put_text_or_null(out, "type", way.ty)?;
     end_object(out)

@@ -1,102 +1,39 @@
 -- What is noted of libraries, and of adapters one after another.
-use Rattle.std.proofs.Common.{◌≡◌, ◌≢◌, ℕ, zero, Bool, true, false, List, [], ◌∷◌, ◌++◌, length, map, refl, sym, ◌∙◌, ap, append_assoc, append-nil, subst, inl, inr, arith, Option, Some, None}
-use Rattle.std.specs.Prelude.{AllPairs, Contains, MatchOption, String, string_bytes, unwrap_or}
-use Rattle.std.specs.Map.{keys_of, lookup}
+use Rattle.std.proofs.Common.{◌≡◌, zero, Bool, List, [], ◌∷◌, ◌++◌, map, is_some, refl, sym, ◌∙◌, ap, append_assoc, append-nil, subst, arith, Option, Some, None}
+use Rattle.std.specs.Prelude.{ℕ, Contains, MatchOption, String}
+use Rattle.std.specs.Map.{lookup}
 use Rattle.std.specs.declared.alloc.Global.{Global}
 use Rattle.std.specs.Str.{bytes_eq}
 use Rattle.std.proofs.lemmas.List.Elements.{Contains-append_right}
-use Rattle.std.specs.List.{slice_get}
-use Rattle.std.proofs.lemmas.Option.{slice_get-get_or, slice_get_within}
 use Rattle.wc_read.specs.Modules.{ModuleValue, SpellsModule}
+use Rattle.wc_read.specs.Types.{func_type_value}
+use Rattle.wc_read.specs.declared.types.FuncType.{FuncType}
+use Rattle.wc_resolve.proofs.LookupLemmas.{name_viewed}
 use Rattle.wc_adapters.specs.Adapters.{AdapterView, LibraryView}
-use Rattle.wc_spread.specs.Positions.{sets_view}
-use Rattle.wc_spread.specs.declared.alone.Alone.{Alone}
-use Rattle.wc_world.proofs.RestrictedLemmas.{occurrence_there}
+use Rattle.wc_summary.specs.Entries.{EntriesView, parts_of, with_adapters}
+use Rattle.wc_summary.specs.Leads.{Tags, found_in}
+use Rattle.wc_summary.specs.Notes.{NotesAdapterModule, NotesLibraryModule, NotesParts}
+use Rattle.wc_resolve.specs.Views.{named_view}
+use Rattle.wc_summary.specs.Summary.{AdapterPartView}
+use Rattle.wc_summary.proofs.AdapterPartLemmas.{no_more}
+use Rattle.wc_summary.proofs.NotedLemmas.{adapter_by, wanted_as, with_both}
+use Rattle.wc_summary.proofs.TagLemmas.{lists_more, lists_none}
+use Rattle.wc_summary.proofs.UseLemmas.{same_there}
+use Rattle.wc_validate.proofs.ArgumentLemmas.{is_some_map}
+use Rattle.wc_validate.specs.Imports.Map.{required_entry}
 use Rattle.wc_world.specs.Views.{ComponentWorldView, NamedWorldAdapter}
-use Rattle.wc_ways.specs.Imports.{AreAdapterParts, AreInterfacesBy, AreInterfacesOf, AreLibraryParts, ArePartsBy, ArePartsOf, IsOfTrimmed, IsOfWasm, library_part, library_tags, tags_of}
-use Rattle.wc_ways.specs.Leads.{Tags, count_tag, found_in, named_in}
+use Rattle.wc_ways.specs.Imports.{AreAdapterParts, AreInterfacesBy, AreInterfacesOf, AreLibraryParts, ArePartsBy, IsOfTrimmed, IsOfWasm, tags_of}
+use Rattle.wc_ways.specs.Tags.{library_tags}
 use Rattle.wc_ways.specs.Originals.{Original, required_of, wanted_of}
-use Rattle.wc_ways.specs.Said.{AreEach, Saying}
-use Rattle.wc_ways.specs.Summary.{AdapterPartView, PartsView}
-use Rattle.wc_ways.specs.Words.{WantedFunctions}
-use Rattle.wc_ways.specs.Private.SummaryAdapters.{AreUses, NotesAdapter, NotesLibrary, NotesOriginal, NotesParts, NotesWasm, entry_of, info_of, original_in, world_of}
-use Rattle.wc_ways.specs.Private.Entries.{EntriesView, entries_view, interfaces_of, parts_of, with_adapters}
+use Rattle.wc_component_tree.specs.Said.{AreEach}
+use Rattle.wc_ways.specs.Said.{Saying}
+use Rattle.wc_ways.specs.Words.{is_wanted}
+use Rattle.wc_ways.specs.Private.SummaryAdapters.{NotesAdapter, NotesLibrary, NotesOriginal, NotesWasm, entry_of, info_of, original_in, world_of}
 use Rattle.wc_ways.specs.Private.Notes.{NotesAdapters}
-use Rattle.wc_ways.specs.Private.Tags.{ArePlacesCounted, AreTagsAt, AreTagsPlaced}
-use Rattle.wc_ways.specs.Private.Uses.{ArePushed, alone_at, exports_at, led_at, no_items, part_at}
-use Rattle.wc_ways.specs.declared.summary.Entry.{Entry}
 use Rattle.wc_ways.specs.declared.summary_adapters.Adapter.{Adapter}
-use Rattle.wc_ways.specs.declared.uses.Uses.{Uses}
-use Rattle.wc_ways.proofs.AdapterLemmas.{count_is, distinct_found, found_at}
-use Rattle.wc_ways.proofs.EachLemmas.{each_more}
-use Rattle.wc_ways.proofs.AdapterPartLemmas.{no_more, original_noted, with_list}
-use Rattle.wc_ways.proofs.TagLemmas.{lists_more, lists_none}
-
--- ---- a library
-
-nothing_led : (uses : Uses) → uses.led.items ≡ [] → (k : ℕ) → led_at uses k ≡ []
-nothing_led uses e k = ap (λ z. unwrap_or (slice_get (sets_view z) k) []) e
-
-nothing_alone : (uses : Uses) → uses.alone.items ≡ [] → (k : ℕ) → alone_at uses k ≡ no_items
-nothing_alone uses e k = ap (λ (z : List Alone). unwrap_or (slice_get z k) no_items) e
-
--- the part by all of its members
-abbrev with_all : List ℕ → Bool → ℕ → List ℕ → List (List ℕ) → WantedFunctions → Alone → AdapterPartView
-with_all name b i ps names wanted a = record {
-  adapter = name;
-  is_library = b;
-  imports = i;
-  exports = exports_at true names wanted ps;
-  stays = exports_at false names wanted ps;
-  functions = a.items;
-  bytes = a.size;
-}
-
-library_is : (name : List ℕ) (names : List (List ℕ)) (wanted : WantedFunctions) (uses : Uses) (k n : ℕ) → uses.is_library ≡ true → uses.led.items ≡ [] → uses.alone.items ≡ []
-    → (part_at name names wanted uses k).imports ≡ n → part_at name names wanted uses k ≡ library_part name n
-library_is name names wanted uses k n l d a e =
-    ap (λ b. with_all name b (part_at name names wanted uses k).imports (led_at uses k) names wanted (alone_at uses k)) l
-    ∙ (ap (λ i. with_all name true i (led_at uses k) names wanted (alone_at uses k)) e
-    ∙ (ap (λ ps. with_all name true n ps names wanted (alone_at uses k)) (nothing_led uses d k)
-    ∙ ap (with_all name true n [] names wanted) (nothing_alone uses a k)))
-
-module _ (name : List ℕ) (names : List (List ℕ)) (wanted : WantedFunctions) (tags : Tags) (interfaces : List (List ℕ)) (distinct : AllPairs (λ x y. x ≢ y) interfaces)
-    (places : List (Option ℕ)) (at : AreTagsAt interfaces tags places) (uses : Uses) (l : uses.is_library ≡ true) (d : uses.led.items ≡ []) (a : uses.alone.items ≡ [])
-    (counts : ArePlacesCounted places (length interfaces) uses.counts.items) where
-  pub library_noted : (old new : EntriesView) → interfaces ≡ found_in tags → ArePushed (part_at name names wanted uses) interfaces old new
-      → NotesParts (λ found. found ≡ found_in tags) (λ q. ArePartsOf tags q (λ p. p ≡ library_part name (count_tag q tags))) old new
-  library_noted old new is p = record {
-    found = interfaces;
-    are_found = is;
-    listed = p.listed;
-    each = λ q. elim (p.each q) [
-      | inl none ↦ (
-        [],
-        inl (
-          (λ c. let e = subst (λ (z : List (List ℕ)). Contains z q) (sym is) (occurrence_there (named_in tags) q c) in
-              none.0 e.0 (slice_get-get_or interfaces e.0 q e.1 ∙ ap Some e.2)),
-          refl,
-        ),
-        none.1 ∙ no_more (parts_of old q),
-      )
-      | inr some ↦ (
-        part_at name names wanted uses some.0 ∷ [],
-        inr (
-          found_at (named_in tags) q some.0 (ap (λ (z : List (List ℕ)). slice_get z some.0) (sym is) ∙ some.1),
-          part_at name names wanted uses some.0,
-          library_is name names wanted uses some.0 (count_tag q tags) l d a
-              (counts.at some.0 (slice_get_within interfaces some.0 q some.1) ∙ count_is interfaces distinct some.0 q some.1 tags places at),
-          refl,
-        ),
-        some.2,
-      )
-    ];
-  }
+use Rattle.wc_component_tree.proofs.EachLemmas.{each_more}
 
 -- ---- one adapter after another
-
-with_both : (v : PartsView) (xs ys : List AdapterPartView) → with_adapters ys (with_adapters xs v) ≡ with_adapters (xs ++ ys) v
-with_both v xs ys = ap (with_list v) (append_assoc v.adapters xs ys)
 
 pub record AdaptersSoFar (w : ComponentWorldView) (rest : List NamedWorldAdapter) (old now : EntriesView) : Type 0 where
   pub passed : List NamedWorldAdapter
@@ -201,37 +138,19 @@ wasm_noted g wasm m s old new n =
     notes_as (AreInterfacesOf (original_in g m)) (IsOfWasm AreInterfacesOf (world_of g) g.name.now (info_of g) wasm) (λ q. AreAdapterParts q (original_in g m))
     (λ q. IsOfWasm (AreAdapterParts q) (world_of g) g.name.now (info_of g) wasm) old new (λ found h. (m, s, h)) (λ q parts h. (m, s, h)) n
 
--- what is listed in a map that had nothing
-pub found_is : (tags : Tags) (places : List (Option ℕ)) (old new : EntriesView) → old ≡ [] → AreTagsPlaced tags places old new → interfaces_of new ≡ found_in tags
-found_is tags places old new e p = p.listed.listed [] (ap interfaces_of e)
+-- ---- what the summary notes of a module
 
-pub found_distinct : (tags : Tags) (interfaces : List (List ℕ)) → interfaces ≡ found_in tags → AllPairs (λ x y. x ≢ y) interfaces
-found_distinct tags interfaces e = subst (AllPairs (λ x y. x ≢ y)) (sym e) (distinct_found (named_in tags))
+-- a function that the main module imports, by its name alone
+pub wanted_is : (es : List (String Global × FuncType)) (e : List ℕ) → is_some (lookup (bytes_eq e) (map named_view es)) ≡ is_wanted (map required_entry es) e
+wanted_is es e = sym (same_there es e) ∙ (sym (is_some_map func_type_value _) ∙ ap is_some (name_viewed func_type_value es e))
 
-pub keys_named : (entries : List (String Global × Entry)) → map string_bytes (keys_of entries) ≡ interfaces_of (entries_view entries)
-keys_named [] = refl
-keys_named (e ∷ es) = ap (λ (z : List (List ℕ)). string_bytes e.0 ∷ z) (keys_named es)
+pub original_noted : (a : Original) (tags : Tags) (names : List (List ℕ)) (is : List ℕ → Bool) (old new : EntriesView) → tags ≡ tags_of a → names ≡ required_of a
+    → ((e : List ℕ) → is e ≡ is_wanted (wanted_of a) e) → NotesAdapterModule (adapter_by a.name a.value tags names is) old new → NotesOriginal a old new
+original_noted a tags names is old new t n same h =
+    wanted_as a.name a.value (tags_of a) (required_of a) is (is_wanted (wanted_of a)) same old new
+    (subst (λ (z : List (List ℕ)). NotesAdapterModule (adapter_by a.name a.value (tags_of a) z is) old new) n
+    (subst (λ (z : Tags). NotesAdapterModule (adapter_by a.name a.value z names is) old new) t h))
 
-pub keys_many : (entries : List (String Global × Entry)) → length entries ≡ length (interfaces_of (entries_view entries))
-keys_many [] = refl
-keys_many (e ∷ es) = let n = keys_many es in omega (arith, n)
-
--- what was noted by a map of the module's own interfaces
-pub original_pushed : (a : Original) (interfaces slice : List (List ℕ)) (places : List (Option ℕ)) (names : List (List ℕ)) (wanted : WantedFunctions) (uses : Uses) (count : ℕ)
-    (old new : EntriesView) → slice ≡ interfaces → interfaces ≡ found_in (tags_of a) → AreTagsAt interfaces (tags_of a) places → names ≡ required_of a → wanted ≡ wanted_of a
-    → count ≡ length interfaces → AreUses a.value names places count uses → ArePushed (part_at a.name names wanted uses) slice old new → NotesOriginal a old new
-original_pushed a interfaces slice places names wanted uses count old new s f t n w k u p =
-    original_noted a interfaces (found_distinct (tags_of a) interfaces f) places t uses
-    (subst (λ (z : List (List ℕ)). AreUses a.value z places (length interfaces) uses) n (subst (λ (z : ℕ). AreUses a.value names places z uses) k u)) old new f
-    (subst (λ (z : WantedFunctions). ArePushed (part_at a.name (required_of a) z uses) interfaces old new) w
-    (subst (λ (z : List (List ℕ)). ArePushed (part_at a.name z wanted uses) interfaces old new) n
-    (subst (λ (z : List (List ℕ)). ArePushed (part_at a.name names wanted uses) z old new) s p)))
-
-pub library_pushed : (g : Adapter) (tags : Tags) (interfaces slice : List (List ℕ)) (places : List (Option ℕ)) (names : List (List ℕ)) (wanted : WantedFunctions) (uses : Uses) (count : ℕ)
-    (old new : EntriesView) → tags ≡ library_tags (world_of g).encoder.resolve (info_of g).imports → slice ≡ interfaces → interfaces ≡ found_in tags → AreTagsAt interfaces tags places
-    → count ≡ length interfaces → ArePlacesCounted places count uses.counts.items → uses.is_library ≡ true → uses.led.items ≡ [] → uses.alone.items ≡ []
-    → ArePushed (part_at g.name.now names wanted uses) slice old new → NotesLibrary g old new
-library_pushed g tags interfaces slice places names wanted uses count old new same s f t k c l d a p =
-    subst (λ (z : Tags). NotesParts (λ found. found ≡ found_in z) (λ q. ArePartsOf z q (λ x. x ≡ library_part g.name.now (count_tag q z))) old new) same
-    (library_noted g.name.now names wanted tags interfaces (found_distinct tags interfaces f) places t uses l d a (subst (λ (n : ℕ). ArePlacesCounted places n uses.counts.items) k c)
-    old new f (subst (λ (z : List (List ℕ)). ArePushed (part_at g.name.now names wanted uses) z old new) s p))
+pub library_noted : (g : Adapter) (tags : Tags) (old new : EntriesView) → tags ≡ library_tags (world_of g).encoder.resolve (info_of g).imports
+    → NotesLibraryModule g.name.now tags old new → NotesLibrary g old new
+library_noted g tags old new same n = subst (λ (z : Tags). NotesLibraryModule g.name.now z old new) same n

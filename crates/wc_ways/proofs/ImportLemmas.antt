@@ -14,7 +14,7 @@ use Rattle.wc_gc.specs.declared.import_chains.ImportChains.{ImportChains}
 use Rattle.wc_why.specs.Paths.{PathView, path_view}
 use Rattle.wc_why.specs.declared.paths.Path.{Path}
 use Rattle.wc_why.proofs.ItemLemmas.{index_there}
-use Rattle.wc_ways.specs.Asked.{FunctionName}
+use Rattle.wc_component_tree.specs.Found.{FunctionName}
 use Rattle.wc_ways.specs.Originals.{Original, asked_of, required_of}
 use Rattle.wc_ways.specs.Ways.{IsAdapterPath, IsImportPath, IsItemPath, IsPathAt}
 
@@ -70,6 +70,8 @@ module _ (a : Original) (position : ℕ) (j : ImportValue) (at : slice_get a.val
 
 -- the path by the chain that was taken
 pub chain_item : (a : Original) (f : FunctionName) (j : ImportValue) (chains : ImportChains) (item_index : ℕ) (c : Chain) (path : PathView)
-    → AreImportChains (required_of a) a.value chains → IsChainAt chains item_index c → IsAdapterPath a f c j path
+    → AreImportChains (required_of a) a.value chains → IsChainAt chains item_index c → IsAdapterPath a f c.export.now c.items.items j path
     → (x : ItemIndex) → slice_get chains.order.items item_index ≡ Some x → IsItemPath a f j x (path ∷ [])
-chain_item a f j chains item_index c path are found h x e = inr (c, path, found (required_of a) a.value x are e, h, refl)
+chain_item a f j chains item_index c path are found h x e =
+    let to = found (required_of a) a.value x are e in
+    inr (c.export.now, c.items.items, path, record { shortest = to.shortest; begins = to.begins }, h, refl)

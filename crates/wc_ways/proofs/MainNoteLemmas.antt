@@ -1,93 +1,41 @@
--- What the main module imports of each interface, once its imports and its functions are noted.
-use Rattle.std.proofs.Common.{◌≡◌, ℕ, List, [], length, map, Option, Some, None, option_map, slice_get, refl, sym, ◌∙◌, ap, inl, inr}
+-- What is noted of the main module, by its bytes.
+use Rattle.std.proofs.Common.{◌≡◌, List, Option, Some, None, length, refl, sym, ◌∙◌, ap, inl, inr}
 use Rattle.std.proofs.lemmas.List.{length-map}
-use Rattle.std.proofs.lemmas.List.Sums.{length-filter}
-use Rattle.std.proofs.lemmas.Option.{slice_get-map}
+use Rattle.std.specs.Prelude.{String}
+use Rattle.std.specs.declared.alloc.Global.{Global}
 use Rattle.wc_read.specs.Imports.{ImportValue}
 use Rattle.wc_read.specs.Modules.{ModuleValue, SpellsModule}
 use Rattle.wc_resolve.specs.Kinds.{ResolveView}
 use Rattle.wc_segments.specs.Segments.{SegmentsValue}
-use Rattle.wc_paths.specs.Items.{graph_of}
-use Rattle.wc_paths.specs.Roots.{first_roots, second_roots}
-use Rattle.wc_selection.proofs.KeyNameLemmas.{count_map}
+use Rattle.wc_summary.specs.Entries.{EntriesView}
+use Rattle.wc_summary.specs.Leads.{named_in, tag_view, tags_view}
+use Rattle.wc_summary.specs.Notes.{NotesMainModule}
 use Rattle.wc_validate.specs.Imports.Entries.{Records}
 use Rattle.wc_world.specs.Views.{ComponentWorldView}
 use Rattle.wc_why.specs.declared.paths.Unfollowed.{Unfollowed}
-use Rattle.wc_ways.specs.Imports.{IsNamer, main_tags, tag_in, tags_in}
-use Rattle.wc_ways.specs.Leads.{Tags, count_tag, is_tag, named_in}
+use Rattle.wc_ways.specs.Imports.{main_tags}
+use Rattle.wc_ways.specs.Tags.{tag_in, tags_in}
 use Rattle.wc_ways.specs.Main.{IsFollowed, IsUnfollowed}
-use Rattle.wc_ways.specs.Private.Entries.{EntriesView, interfaces_of, no_parts, parts_of}
-use Rattle.wc_ways.specs.Private.SummaryMain.{CountsEach, IsNamerBy, NotesOf, count_at, with_by, with_count}
-use Rattle.wc_ways.specs.Private.Notes.{NotesMain}
-use Rattle.wc_ways.specs.Private.Tags.{AreTagsPlaced, tag_at}
-use Rattle.wc_ways.specs.Summary.{MainPartView, PartsView}
-use Rattle.wc_ways.proofs.MainNamerLemmas.{tag_place}
+use Rattle.wc_ways.specs.Private.SummaryMain.{NotesMain}
 
-counted_tags : (interfaces : List (List ℕ)) (places : List (Option ℕ)) (interface : List ℕ) → count_at interfaces places interface ≡ count_tag interface (map (tag_at interfaces) places)
-counted_tags interfaces places interface =
-    sym (length-filter (λ p. is_tag interface (tag_at interfaces p)) places)
-    ∙ (sym (count_map (tag_at interfaces) (is_tag interface) places) ∙ length-filter (is_tag interface) (map (tag_at interfaces) places))
+module _ (w : ComponentWorldView) (m : ModuleValue) (spelled : SpellsModule w.encoder.module_bytes m) (old new : EntriesView) where
+  pub noted_unread : (why : Unfollowed) → IsUnfollowed w.encoder.module_bytes m why → NotesMainModule m None (main_tags w m) old new → NotesMain w old new
+  noted_unread why unread notes = record {
+    found = named_in (main_tags w m);
+    are_found = (m, spelled, refl);
+    listed = notes.listed;
+    each = λ interface. let n = notes.each interface in (n.0, (m, spelled, n.1.0, inr (why, unread, n.1.1)), n.2);
+  }
 
-module _ (w : ComponentWorldView) (m : ModuleValue) (spelled : SpellsModule w.encoder.module_bytes m) (places : List (Option ℕ)) (old mid counted : EntriesView)
-    (placed : AreTagsPlaced (main_tags w m) places old mid) (counts : CountsEach places mid counted)
-  where
-    -- a namer by the places of imports is one by their interfaces
-    by_tags : (s : SegmentsValue) (interface : List ℕ) (f : ℕ)
-        → IsNamerBy (graph_of m s) (first_roots m) (second_roots s) (interfaces_of counted) m.imports places interface f → IsNamer w m s interface f
-    by_tags s interface f (reached, (k, i, u, import, place, at, named)) =
-        let here : slice_get (interfaces_of mid) u ≡ Some interface = ap (λ l. slice_get l u) (sym counts.listed) ∙ at in
-        let tag : slice_get (main_tags w m) k ≡ Some (Some interface) =
-        ap (λ (l : Tags). slice_get l k) (sym placed.at.are) ∙ (slice_get-map (tag_at (interfaces_of mid)) places k
-        ∙ (ap (option_map (tag_at (interfaces_of mid))) place ∙ ap Some here)) in
-        (reached, (k, i, import, tag, named))
+  pub noted_followed : (s : SegmentsValue) → IsFollowed w.encoder.module_bytes m s → NotesMainModule m (Some s) (main_tags w m) old new → NotesMain w old new
+  noted_followed s followed notes = record {
+    found = named_in (main_tags w m);
+    are_found = (m, spelled, refl);
+    listed = notes.listed;
+    each = λ interface. let n = notes.each interface in (n.0, (m, spelled, n.1.0, inl (s, followed, n.1.1)), n.2);
+  }
 
-    by_places : (s : SegmentsValue) (interface : List ℕ) (f : ℕ) → IsNamer w m s interface f
-        → IsNamerBy (graph_of m s) (first_roots m) (second_roots s) (interfaces_of counted) m.imports places interface f
-    by_places s interface f (reached, (k, i, import, tag, named)) =
-        let seen : option_map (tag_at (interfaces_of mid)) (slice_get places k) ≡ Some (Some interface) =
-        sym (slice_get-map (tag_at (interfaces_of mid)) places k) ∙ (ap (λ (l : Tags). slice_get l k) placed.at.are ∙ tag) in
-        let (p, at, is) = there (slice_get places k) seen in
-        let (u, place, here) = tag_place (interfaces_of mid) p interface is in
-        (reached, (k, i, u, import, at ∙ ap Some place, ap (λ l. slice_get l u) counts.listed ∙ here, named))
-      where
-        there : (o : Option (Option ℕ)) → option_map (tag_at (interfaces_of mid)) o ≡ Some (Some interface) → (p : Option ℕ) × (o ≡ Some p) × (tag_at (interfaces_of mid) p ≡ Some interface)
-        there None e = absurd (let bad : None ≡ Some (Some interface) = e in cc)
-        there (Some p) e = (p, refl, (let is : tag_at (interfaces_of mid) p ≡ Some interface = cc in is))
-
-    part : ℕ → List ℕ → MainPartView
-    part n by = record { imports = n; by = by }
-
-    counted_part : (interface : List ℕ) → parts_of old interface ≡ no_parts → parts_of counted interface ≡ with_count (count_tag interface (main_tags w m)) no_parts
-    counted_part interface none =
-        let before : parts_of mid interface ≡ no_parts = placed.listed.same interface ∙ none in
-        counts.each interface (ap (λ (p : PartsView). p.main.imports) before)
-        ∙ (ap (with_count (count_at (interfaces_of mid) places interface)) before
-        ∙ ap (λ (n : ℕ). with_count n no_parts) (counted_tags (interfaces_of mid) places interface ∙ ap (count_tag interface) placed.at.are))
-
-    pub noted_unread : (why : Unfollowed) → IsUnfollowed w.encoder.module_bytes m why → NotesMain w old counted
-    noted_unread why unread = record {
-      found = named_in (main_tags w m);
-      are_found = (m, spelled, refl);
-      listed = λ before h. counts.listed ∙ placed.listed.listed before h;
-      each = λ interface. (record { imports = count_tag interface (main_tags w m); by = [] }, (m, spelled, refl, inr (why, unread, refl)), counted_part interface);
-    }
-
-    pub noted_followed : (s : SegmentsValue) (new : EntriesView) → IsFollowed w.encoder.module_bytes m s → NotesOf m s places counted new → NotesMain w old new
-    noted_followed s new followed notes = record {
-      found = named_in (main_tags w m);
-      are_found = (m, spelled, refl);
-      listed = λ before h. notes.listed ∙ (counts.listed ∙ placed.listed.listed before h);
-      each = λ interface.
-          let (by, ascending, noted) = notes.each interface in (
-            record { imports = count_tag interface (main_tags w m); by = by },
-            (m, spelled, refl, inl (s, followed, (ascending.0, λ f. (λ c. by_tags s interface f ((ascending.1 f).0 c), λ is. (ascending.1 f).1 (by_places s interface f is))))),
-            λ none. (let was = counted_part interface none in
-                noted (ap (λ (p : PartsView). p.main.by) was) ∙ ap (with_by by) was),
-          );
-    }
-
--- there are as many places as imports
-pub places_sized : (r : ResolveView) (records : Records) (imports : List ImportValue) (interfaces : List (List ℕ)) (places : List (Option ℕ))
-    → map (tag_at interfaces) places ≡ tags_in r records imports → length places ≡ length imports
-places_sized r records imports interfaces places are =
-    sym (length-map places (tag_at interfaces)) ∙ (ap length are ∙ length-map imports (tag_in r records))
+-- there are as many tags as imports
+pub tags_sized : (r : ResolveView) (records : Records) (imports : List ImportValue) (tags : List (Option (String Global))) → tags_view tags ≡ tags_in r records imports
+    → length tags ≡ length imports
+tags_sized r records imports tags are = sym (length-map tags tag_view) ∙ (ap length are ∙ length-map imports (tag_in r records))

@@ -5,11 +5,11 @@ use Rattle.std.specs.List.{cons_option, filter_map}
 use Rattle.std.specs.Map.{keys_of, lookup}
 use Rattle.std.specs.Option.{option_or, option_to_list}
 use Rattle.std.specs.Str.{bytes_eq}
-use Rattle.wc_ways.specs.Private.Entries.{EntriesView, IsChanged, IsPlace, Lists, parts_of, with_types}
+use Rattle.wc_summary.specs.Entries.{EntriesView, IsChanged, IsPlace, Lists, parts_of, with_types}
 use Rattle.wc_ways.specs.Private.Notes.{NotesTyped}
-use Rattle.wc_ways.specs.Summary.{PartsView}
+use Rattle.wc_summary.specs.Summary.{PartsView}
 use Rattle.wc_validate.proofs.FirstByKeyLemmas.{or_none}
-use Rattle.wc_ways.proofs.TagLemmas.{lists_more, lists_none}
+use Rattle.wc_summary.proofs.TagLemmas.{lists_more, lists_none}
 use Rattle.wc_ways.proofs.NeedLemmas.{or_first}
 
 -- ---- interfaces that are listed, some after others

@@ -8,6 +8,7 @@ use Rattle.wc_resolve.specs.Resolve.{key_text}
 use Rattle.wc_resolve.specs.Views.{KeyView, interface_key, plain_key}
 use Rattle.wc_names.specs.Views.{FunctionImportView, ImportView, PayloadTypeView, PayloadView, async_value, function_import, imported_resource_drop, interface_func, typed, world_func}
 use Rattle.wc_why.specs.Keys.{asks_about}
+use Rattle.wc_component_tree.specs.Found.{FunctionName}
 
 -- an import of a world, to which an import of a module belongs: the interface under a key, or the function or type of a name that is
 -- the world's own
@@ -51,10 +52,6 @@ root_text = codes "$root"
 -- an import of the world is asked about: by the name of its interface, or by its text; or all are
 abbrev pub is_asked : List ℕ → List ℕ → List ℕ → Bool
 is_asked key interface text = bytes_eq key (codes "all") || (bytes_eq key interface || asks_about key text)
-
--- the name of an interface, and that of a function or a built-in of it
-abbrev pub FunctionName : Type 0
-FunctionName = List ℕ × List ℕ
 
 -- these of what belongs to an import of the world that is asked about
 abbrev pub asked_name : List ℕ → List ℕ → List ℕ → List ℕ → Option FunctionName

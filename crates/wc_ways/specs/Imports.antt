@@ -1,6 +1,6 @@
 -- What a component imports, by interfaces: which there are, what its modules import of each, and what it takes for it to go.
-use Rattle.std.specs.Prelude.{◌≡◌, ◌⊎◌, ◌↔◌, ℕ, ◌-◌, ◌^◌, min, true, false, not, List, [], ◌∷◌, ◌++◌, AllPairs, Contains, MatchOption, filter, length, map, codes, Option, Some}
-use Rattle.std.specs.List.{filter_map, slice_get, sum_by}
+use Rattle.std.specs.Prelude.{◌≡◌, ◌⊎◌, ◌↔◌, ℕ, List, [], ◌++◌, AllPairs, Contains, MatchOption, map, codes, Option}
+use Rattle.std.specs.List.{filter_map}
 use Rattle.std.specs.Map.{lookup}
 use Rattle.std.specs.Option.{option_map}
 use Rattle.std.specs.Str.{bytes_eq}
@@ -8,86 +8,38 @@ use Rattle.json.specs.Lex.{tokens}
 use Rattle.json.specs.Print.{print}
 use Rattle.json.specs.Tree.{json_tokens}
 use Rattle.wc_texts.specs.Names.{first_occurrences}
-use Rattle.wc_read.specs.Imports.{ImportValue}
 use Rattle.wc_read.specs.Modules.{ModuleValue, SpellsModule}
 use Rattle.wc_read.specs.Names.{GlobalNameValue}
 use Rattle.wc_read.specs.Reading.Names.{AreFunctionNames}
-use Rattle.wc_read.specs.declared.operators.Space.TheVariants.{Funcs}
 use Rattle.wc_resolve.specs.Kinds.{ResolveView}
-use Rattle.wc_names.specs.Views.{ImportView}
-use Rattle.wc_validate.specs.Imports.Entries.{Records}
-use Rattle.wc_validate.specs.Imports.Map.{imports_in}
 use Rattle.wc_validate.specs.Validate.{ModuleRecord}
 use Rattle.wc_adapters.specs.Adapters.{AdapterView, LibraryView}
 use Rattle.wc_segments.specs.Segments.{SegmentsValue}
-use Rattle.wc_paths.specs.Items.{graph_of, names_in}
-use Rattle.wc_paths.specs.Paths.{IsReachedInAny}
-use Rattle.wc_paths.specs.Roots.{first_roots, import_item, second_roots}
-use Rattle.wc_paths.specs.declared.items.PathItem.TheVariants.{Item}
-use Rattle.wc_spread.specs.Alone.{ArePicked}
 use Rattle.wc_spread.specs.Positions.{AreAscending}
+use Rattle.wc_summary.specs.Leads.{Tags, count_tag, found_in, named_in}
+use Rattle.wc_summary.specs.Parts.{AdapterValue, ArePartsOf, IsAdapterPartOf, IsNamer, library_part}
+use Rattle.wc_summary.specs.Summary.{AdapterPartView, EntryView, IsListedBefore, MainPartView}
+use Rattle.wc_summary.specs.SummaryJson.{entries_json}
+use Rattle.wc_summary.specs.SummaryLines.{entry_lines}
 use Rattle.wc_world.specs.Views.{ComponentWorldView, NamedWorldAdapter}
-use Rattle.wc_ways.specs.Asked.{FunctionName, asked_function}
-use Rattle.wc_ways.specs.Leads.{IsGone, LeadsAt, Tags, count_tag, found_in, named_in, names_at, own_bodies}
 use Rattle.wc_ways.specs.Main.{IsFollowed, IsUnfollowed}
-use Rattle.wc_ways.specs.Originals.{Original, asked_in, original_of, required_of, wanted_of}
-use Rattle.wc_ways.specs.Said.{AreEach, Saying}
-use Rattle.wc_ways.specs.Summary.{AdapterPartView, EntryView, IsListedBefore, MainPartView}
-use Rattle.wc_ways.specs.SummaryJson.{entries_json}
-use Rattle.wc_ways.specs.SummaryLines.{entry_lines}
+use Rattle.wc_ways.specs.Originals.{Original, original_of, required_of, wanted_of}
+use Rattle.wc_component_tree.specs.Said.{AreEach}
+use Rattle.wc_ways.specs.Said.{Saying}
+use Rattle.wc_ways.specs.Tags.{all_key, library_tags, tags_in}
 use Rattle.wc_ways.specs.Types.{typed_name, user_in}
 use Rattle.wc_ways.specs.Words.{is_wanted}
 use Rattle.wc_why.specs.declared.paths.Unfollowed.{Unfollowed}
-
--- the key that asks about all
-abbrev pub all_key : List ℕ
-all_key = codes "all"
-
--- the interface to which what a module imports belongs, by what is recorded of it; and that of what is recorded
-abbrev pub interface_of : Option FunctionName → Option (List ℕ)
-interface_of f = option_map (λ (g : FunctionName). g.0) f
-
-abbrev pub tag_in : ResolveView → Records → ImportValue → Option (List ℕ)
-tag_in r records i = interface_of (asked_in r all_key records i)
-
-abbrev pub Recorded : Type 0
-Recorded = List ℕ × (List ℕ × ImportView)
-
-abbrev pub recorded_tag : ResolveView → Recorded → Option (List ℕ)
-recorded_tag r x = interface_of (asked_function r all_key x.1.0 x.1.1)
-
--- those of all that a module imports, in its order; of a library, of which only its imports are known, in the order of their records
-abbrev pub tags_in : ResolveView → Records → List ImportValue → Tags
-tags_in r records imports = map (tag_in r records) imports
-
-abbrev pub library_tags : ResolveView → Records → Tags
-library_tags r records = map (recorded_tag r) (imports_in records)
-
--- what is said of a module, if it imports something of the interface
-abbrev pub ArePartsOf : Tags → List ℕ → (AdapterPartView → Type 0) → List AdapterPartView → Type 0
-ArePartsOf tags interface Is parts =
-    (¬ (Contains (named_in tags) interface) × (parts ≡ []))
-    ⊎ (Contains (named_in tags) interface × (p : AdapterPartView) × Is p × (parts ≡ p ∷ []))
 
 -- ---- the main module
 
 abbrev pub main_tags : ComponentWorldView → ModuleValue → Tags
 main_tags w m = tags_in w.encoder.resolve w.info.imports m.imports
 
--- a function names an import of the interface
-abbrev pub NamesImport : ComponentWorldView → ModuleValue → SegmentsValue → List ℕ → ℕ → Type 0
-NamesImport w m s interface f =
-    (k : ℕ) × (i : ImportValue) × (slice_get m.imports k ≡ Some i) × (slice_get (main_tags w m) k ≡ Some (Some interface))
-    × Contains (names_in (graph_of m s) (Item Funcs f)) (import_item m.imports k i)
-
--- and is reached from the exports, the start function or an active segment
-abbrev pub IsNamer : ComponentWorldView → ModuleValue → SegmentsValue → List ℕ → ℕ → Type 0
-IsNamer w m s interface f = IsReachedInAny (graph_of m s) (first_roots m) (second_roots s) (Item Funcs f) × NamesImport w m s interface f
-
--- these functions; none, where the module can't be followed
+-- the functions that are reached and name an import of the interface; none, where the module can't be followed
 abbrev pub AreNamers : ComponentWorldView → ModuleValue → List ℕ → List ℕ → Type 0
 AreNamers w m interface by =
-    ((s : SegmentsValue) × IsFollowed w.encoder.module_bytes m s × AreAscending (IsNamer w m s interface) by)
+    ((s : SegmentsValue) × IsFollowed w.encoder.module_bytes m s × AreAscending (IsNamer m s (main_tags w m) interface) by)
     ⊎ ((why : Unfollowed) × IsUnfollowed w.encoder.module_bytes m why × (by ≡ []))
 
 abbrev pub IsMainPart : ComponentWorldView → List ℕ → MainPartView → Type 0
@@ -99,29 +51,18 @@ IsMainPart w interface p =
 abbrev pub tags_of : Original → Tags
 tags_of a = tags_in a.world.encoder.resolve a.info.imports a.value.imports
 
+-- as the summary sees it
+abbrev pub adapter_of : Original → AdapterValue
+adapter_of a = record { name = a.name; value = a.value; tags = tags_of a; required = required_of a; is_wanted = is_wanted (wanted_of a) }
+
 -- what it imports of the interface
-pub record IsAdapterPart (interface : List ℕ) (a : Original) (p : AdapterPartView) : Type 0 where
-  pub named : p.adapter ≡ a.name
-  pub trimmed : p.is_library ≡ false
-  pub imports : p.imports ≡ count_tag interface (tags_of a)
-  -- the required exports that lead there: those that the main module imports, and the others
-  pub led : List ℕ
-  pub are_led : AreAscending (LeadsAt a.value (tags_of a) (required_of a) interface) led
-  pub exports : p.exports ≡ filter (is_wanted (wanted_of a)) (names_at (required_of a) led)
-  pub stays : p.stays ≡ filter (λ (e : List ℕ). not (is_wanted (wanted_of a) e)) (names_at (required_of a) led)
-  -- and what is live for these alone, of whose bodies a number of 64 bits counts the bytes
-  pub gone : List (ℕ × ℕ)
-  pub are_gone : ArePicked (λ (b : ℕ × ℕ). IsGone a.value (tags_of a) (required_of a) interface b.0) (own_bodies a.value.funcs) gone
-  pub functions : p.functions ≡ length gone
-  pub bytes : p.bytes ≡ min (sum_by (λ (b : ℕ × ℕ). b.1) gone) (2 ^ 64 - 1)
+abbrev pub IsAdapterPart : List ℕ → Original → AdapterPartView → Type 0
+IsAdapterPart interface a p = IsAdapterPartOf interface (adapter_of a) p
 
 abbrev pub AreAdapterParts : List ℕ → Original → List AdapterPartView → Type 0
 AreAdapterParts interface a parts = ArePartsOf (tags_of a) interface (IsAdapterPart interface a) parts
 
 -- ---- a library, of which only its imports are known
-abbrev pub library_part : List ℕ → ℕ → AdapterPartView
-library_part name imports = record { adapter = name; is_library = true; imports = imports; exports = []; stays = []; functions = 0; bytes = 0 }
-
 abbrev pub AreLibraryParts : ResolveView → List ℕ → NamedWorldAdapter → List AdapterPartView → Type 0
 AreLibraryParts r interface y parts =
     ArePartsOf (library_tags r y.1.info.imports) interface (λ p. p ≡ library_part y.0 (count_tag interface (library_tags r y.1.info.imports))) parts

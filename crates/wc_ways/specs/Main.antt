@@ -18,6 +18,7 @@ use Rattle.wc_paths.specs.declared.paths.PathFault.TheVariants.{LiveBody}
 use Rattle.wc_why.specs.Paths.{StepView, begun, path_steps, unfollowed}
 use Rattle.wc_why.specs.declared.paths.Unfollowed.{Unfollowed}
 use Rattle.wc_why.specs.declared.paths.Unfollowed.TheVariants.{Unreached, Body, Section}
+use Rattle.wc_component_tree.specs.Keys.{IsNamed}
 
 -- a main module that can be followed: it has these segments, and no body that is reached is at fault
 abbrev pub IsFollowed : List ℕ → ModuleValue → SegmentsValue → Type 0
@@ -48,10 +49,6 @@ AreNoStepsTo m s x steps =
 
 abbrev pub AreStepsTo : ModuleValue → SegmentsValue → List GlobalNameValue → PathItem → List StepView → Type 0
 AreStepsTo m s names x steps = ArePathStepsTo m s names x steps ⊎ AreNoStepsTo m s x steps
-
--- an import of a name from a module
-abbrev pub IsNamed : ImportValue → List ℕ → List ℕ → Type 0
-IsNamed i from name = (i.module_name ≡ from) × (i.name ≡ name)
 
 -- the steps to an import of a name from a module: those to its item; nothing leads to one that isn't there. The main module of a
 -- world imports no name twice

@@ -1,15 +1,19 @@
 -- Words of contracts of private functions. No contract of a public function cites these, directly or through others.
 pub mod Adapters
-pub mod Entries
-pub mod Graph
+pub mod Found
+pub mod MainEnds
 pub mod Imported
 pub mod MainPaths
 pub mod MainWays
 pub mod Notes
 pub mod Needs
 pub mod TypeWays
-pub mod Leads
-pub mod SummaryMain
-pub mod Tags
-pub mod Uses
+pub mod PartItems
+pub mod AdapterPart
+pub mod Component
+pub mod Marked
 pub mod SummaryAdapters
+pub mod TypedFound
+pub mod TreeFrom
+pub mod MarkedTree
+pub mod SummaryMain

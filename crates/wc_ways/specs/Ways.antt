@@ -1,12 +1,9 @@
--- The paths to what a component imports, from its main module and through its adapters: as lines and as JSON.
+-- The paths to what a component imports, from its main module and through its adapters: as lines.
 use Rattle.std.specs.Prelude.{◌≡◌, ◌⊎◌, ℕ, Bool, true, false, List, [], ◌∷◌, ◌++◌, length, map, codes, MatchOption, Option, Some, None}
 use Rattle.std.specs.List.{flat_map, slice_get}
 use Rattle.std.specs.Map.{lookup}
-use Rattle.std.specs.Option.{option_map, option_map_or, option_to_list}
+use Rattle.std.specs.Option.{option_map_or}
 use Rattle.std.specs.Str.{bytes_eq}
-use Rattle.json.specs.Lex.{tokens}
-use Rattle.json.specs.Print.{print}
-use Rattle.json.specs.Tree.{json_tokens}
 use Rattle.wc_json.specs.Escape.{escaped}
 use Rattle.wc_read.specs.Imports.{ImportValue}
 use Rattle.semver.specs.Identifiers.{parts_text}
@@ -17,20 +14,22 @@ use Rattle.wc_names.specs.Views.{ImportView}
 use Rattle.wc_validate.specs.Imports.Entries.{Records}
 use Rattle.wc_validate.specs.Imports.Map.{imports_in}
 use Rattle.wc_gc.specs.Decoded.{ItemIndex}
-use Rattle.wc_gc.specs.LiveChains.{IsChainTo}
 use Rattle.wc_gc.specs.LiveItems.{IsLive}
 use Rattle.wc_gc.specs.RestrictionLaws.{IsImportItem}
-use Rattle.wc_gc.specs.declared.import_chains.Chain.{Chain}
 use Rattle.wc_world.specs.Views.{ComponentWorldView, WorldAdapterView}
 use Rattle.wc_why.specs.Joined.{AreJoined}
-use Rattle.wc_why.specs.JsonPaths.{paths_json}
-use Rattle.wc_why.specs.Lines.{path_lines}
-use Rattle.wc_why.specs.Paths.{PathView, StepView, exported, imported, item_step, named, of_type, of_world, typed}
+use Rattle.wc_why.specs.MarkedSteps.{lines_of}
+use Rattle.wc_why.specs.Paths.{PathView, StepView, exported, imported, item_step, named, of_world}
 use Rattle.wc_why.specs.declared.paths.WorldSide.{WorldSide}
-use Rattle.wc_ways.specs.Asked.{FunctionName, asked_function}
-use Rattle.wc_ways.specs.Main.{AreMainSteps, IsNamed}
+use Rattle.wc_component_tree.specs.Found.{FunctionName, IsChainFrom}
+use Rattle.wc_component_tree.specs.WaysTree.{typed_path}
+use Rattle.wc_ways.specs.Asked.{asked_function}
+use Rattle.wc_ways.specs.Main.{AreMainSteps}
+use Rattle.wc_component_tree.specs.Keys.{IsNamed}
+use Rattle.wc_ways.specs.Marked.{IsMarking, Marking, marked_path}
 use Rattle.wc_ways.specs.Originals.{Original, asked_of, required_of, wanted_of}
-use Rattle.wc_ways.specs.Said.{AreEach, IsAllSaid, IsSaidOfTrimmed}
+use Rattle.wc_component_tree.specs.Said.{AreEach}
+use Rattle.wc_ways.specs.Said.{IsAllSaid, IsSaidOfTrimmed}
 use Rattle.wc_ways.specs.TypeRoots.{TypeRoot, of_import, of_item}
 use Rattle.wc_ways.specs.Types.{TypeCite}
 use Rattle.wc_ways.specs.Words.{is_wanted}
@@ -45,6 +44,10 @@ recorded_path r key adapter x = option_map_or (λ (f : FunctionName). import_pat
 
 abbrev pub recorded_paths : ResolveView → List ℕ → Option (List ℕ) → Records → List PathView
 recorded_paths r key adapter records = flat_map (recorded_path r key adapter) (imports_in records)
+
+-- those of a library
+abbrev pub AreLibraryPaths : ResolveView → List ℕ → List ℕ → Records → List PathView → Type 0
+AreLibraryPaths r key name records paths = paths ≡ recorded_paths r key (Some name) records
 
 -- the path to a function from the main module: the steps to its import, and that
 abbrev pub main_path : FunctionName → List ℕ → List ℕ → List StepView → PathView
@@ -73,23 +76,24 @@ abbrev pub AreFirstSteps : Original → List ℕ → List StepView → Type 0
 AreFirstSteps a export first = AreFirstStepsBy (is_wanted (wanted_of a) export) a export first
 
 -- the path to a function through an adapter by a chain: these steps to the export that it begins with, its items, and the import
-abbrev pub adapter_path : Original → FunctionName → List StepView → Chain → ImportValue → PathView
-adapter_path a f first c i =
+abbrev pub adapter_path : Original → FunctionName → List StepView → List ItemIndex → ImportValue → PathView
+adapter_path a f first items i =
     record {
       interface = f.0;
       target = named f.1;
-      steps = first ++ (map (item_step a.names) c.items.items ++ imported (Some a.name) i.module_name i.name ∷ []);
+      steps = first ++ (map (item_step a.names) items ++ imported (Some a.name) i.module_name i.name ∷ []);
     }
 
-abbrev pub IsAdapterPath : Original → FunctionName → Chain → ImportValue → PathView → Type 0
-IsAdapterPath a f c i p = (first : List StepView) × AreFirstSteps a c.export.now first × (p ≡ adapter_path a f first c i)
+abbrev pub IsAdapterPath : Original → FunctionName → List ℕ → List ItemIndex → ImportValue → PathView → Type 0
+IsAdapterPath a f export items i p = (first : List StepView) × AreFirstSteps a export first × (p ≡ adapter_path a f first items i)
 
 -- the path to a function, which is this import and item of an adapter: by the first of the shortest chains from a required export;
 -- none, where no required export reaches the item
 abbrev pub IsItemPath : Original → FunctionName → ImportValue → ItemIndex → List PathView → Type 0
 IsItemPath a f i x paths =
     ((¬ (IsLive (required_of a) a.value x)) × (paths ≡ []))
-    ⊎ ((c : Chain) × (p : PathView) × IsChainTo (required_of a) a.value x c × IsAdapterPath a f c i p × (paths ≡ p ∷ []))
+    ⊎ ((export : List ℕ) × (items : List ItemIndex) × (p : PathView) × IsChainFrom (required_of a) a.value x export items
+    × IsAdapterPath a f export items i p × (paths ≡ p ∷ []))
 
 -- the path to an import at a position of the adapter, if it is asked about
 abbrev pub IsImportPath : Original → List ℕ → ℕ → ImportValue → List PathView → Type 0
@@ -133,9 +137,6 @@ AreNeederSteps w (of_item side key) steps = steps ≡ item_steps side (key_text 
 
 -- the path to an interface that is imported for its types alone: such steps to the first root that needs the one that is live first, and
 -- that, if it has a name
-abbrev pub typed_path : List ℕ → Option (List ℕ) → List StepView → PathView
-typed_path interface name steps = record { interface = interface; target = typed; steps = steps ++ option_to_list (option_map of_type name) }
-
 abbrev pub IsTypedBy : (List StepView → Type 0) → List ℕ → Option (List ℕ) → List PathView → Type 0
 IsTypedBy Are interface name paths = (steps : List StepView) × Are steps × (paths ≡ typed_path interface name steps ∷ [])
 
@@ -146,18 +147,17 @@ IsTypedPath w interface c paths = IsTypedBy (λ steps. MatchOption c.root (steps
 -- alone
 abbrev pub ArePaths : ComponentWorldView → List ℕ → List PathView → Type 0
 ArePaths w key paths =
-    IsAllSaid AreRecordedMainPaths (λ r k adapter id label records. recorded_paths r k adapter records) (λ k index. AreOriginalPaths k) IsTypedPath w key paths
+    IsAllSaid AreRecordedMainPaths AreLibraryPaths AreOriginalPaths IsTypedPath w key paths
 
--- their lines; or that nothing is imported
+-- the lines of a path, with marks
+abbrev pub way_lines : Marking → PathView → List ℕ
+way_lines marks p = lines_of (marked_path marks p)
+
+-- those of all; or that nothing is imported
 abbrev pub or_none : List ℕ → List ℕ → List ℕ
 or_none key [] = escaped key ++ codes ": in the world, not imported\n"
 or_none key (b ∷ bs) = b ∷ bs
 
 abbrev pub IsWaysText : ComponentWorldView → List ℕ → List ℕ → Type 0
-IsWaysText w key text = (paths : List PathView) × ArePaths w key paths × (text ≡ or_none key (flat_map path_lines paths))
-
--- the text of their JSON, without spaces and with the shortest escapes, in a line: it is read back as this JSON
-abbrev pub IsWaysJson : ComponentWorldView → List ℕ → List ℕ → Type 0
-IsWaysJson w key text =
-    (paths : List PathView) × ArePaths w key paths × (text ≡ print (json_tokens (paths_json paths)) ++ codes "\n")
-    × (tokens (print (json_tokens (paths_json paths))) ≡ json_tokens (paths_json paths))
+IsWaysText w key text =
+    (marks : Marking) × IsMarking w key marks × (paths : List PathView) × ArePaths w key paths × (text ≡ or_none key (flat_map (way_lines marks) paths))

@@ -9,10 +9,11 @@ ghost use Rattle.wc_resolve.specs.Dependencies.{id_of_interface};
 ghost use Rattle.wc_resolve.specs.Resolve.{key_text};
 ghost use Rattle.wc_resolve.specs.Views.{key_view};
 ghost use Rattle.wc_ways.specs.Asked.{asked_function, asked_world_import, asked_interface, asked_name, is_asked, own_name, payload_import, scoped_import, world_import};
-ghost use Rattle.wc_ways.specs.Private.Adapters.{function_value};
+ghost use Rattle.wc_component_tree.specs.Found.{function_value};
 ghost use Rattle.wc_ways.specs.Private.Imported.{imported_view};
 
 use std::alloc::{AllocError, Global};
+use wc_component_tree::Function;
 use wc_names::{Import, PayloadInfo, PayloadType};
 use wc_resolve::{InterfaceId, Resolve, WorldKey};
 use wc_why::asks_about;
@@ -22,13 +23,6 @@ const ALL: &str = "all";
 
 /// The name that stands for the interface of what is the world's own, as in the lines of a plan.
 const ROOT: &str = "$root";
-
-/// A function that is asked about: the name of its interface, and its own.
-#[derive(Drop)]
-pub(crate) struct Function<'a> {
-    pub(crate) interface: String,
-    pub(crate) name: &'a str,
-}
 
 /// An import of the world, to which an import of a module belongs.
 #[derive(Clone, Copy)]

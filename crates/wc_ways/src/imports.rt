@@ -4,20 +4,17 @@ ghost use Rattle.std.specs.Prelude.{IfErr, IfOk, map, string_bytes};
 ghost use Rattle.wc_plan.specs.Fault.{AreNameable};
 ghost use Rattle.wc_world.specs.WorldViews.{world_view};
 ghost use Rattle.wc_ways.specs.Imports.{AreEntries, IsImportsJson, IsImportsText};
-ghost use Rattle.wc_ways.specs.Summary.{entry_view};
+ghost use Rattle.wc_summary.specs.Summary.{entry_view};
 ghost use Rattle.wc_ways.specs.WaysFaults.{IsWaysFault};
 
-use crate::entries::sort_entries;
-use crate::summary::Entries;
 use crate::summary_adapters::note_adapters;
-use crate::summary_json::json_of;
-use crate::summary_lines::lines_of;
 use crate::summary_main::note_main;
 use crate::types::note_typed;
 use std::alloc::Global;
 use wc_gc::GcFault;
 use wc_maps::Map;
 use wc_read::function_names;
+use wc_summary::{Entries, json_of, lines_of, sort_entries};
 use wc_world::ComponentWorld;
 
 /// The imports of a component's modules, by interfaces, as lines: of each interface a line, in which its parts are after

@@ -8,31 +8,38 @@
 //! the items of the adapter that lead from it, by the shortest chain (`wc_gc::why_imports`); and the adapter's import.
 #![tactic(auto)]
 
+mod adapter_part;
 mod adapters;
 mod asked;
-mod entries;
+mod component;
 mod forms;
-mod graph;
+mod found;
+mod found_adapters;
+mod found_libraries;
+mod found_main;
 mod imports;
-mod leads;
-mod main_graph;
 mod main_paths;
+mod main_tree;
 mod main_ways;
+mod marked;
 mod modules;
 mod needs;
 mod originals;
+mod part_items;
 mod paths;
 mod recorded;
-mod summary;
 mod summary_adapters;
-mod summary_json;
-mod summary_lines;
 mod summary_main;
 mod tags;
+mod tree;
+mod tree_marks;
 mod type_roots;
 mod type_ways;
+mod typed_ends;
+mod typed_forms;
+mod typed_found;
 mod types;
-mod uses;
+mod wanted;
 mod ways;
 
 pub use imports::{imports_json, imports_text};

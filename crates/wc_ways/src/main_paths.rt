@@ -11,7 +11,8 @@ ghost use Rattle.wc_paths.specs.PathRoots.{root_view};
 ghost use Rattle.wc_paths.specs.Paths.{AreClosed, ArePaths, IsPathFault, IsReachedInAny, graph_in};
 ghost use Rattle.wc_paths.specs.Roots.{first_roots, second_roots};
 ghost use Rattle.wc_why.specs.Paths.{begun, path_steps, step_view, unfollowed};
-ghost use Rattle.wc_ways.specs.Private.MainPaths.{AreItemSteps, AreMainPaths, AreStepsIn, ArePathSteps, HasPlaces, IsFollowing, IsRefusedAt, is_key};
+ghost use Rattle.wc_ways.specs.Private.MainPaths.{AreItemSteps, AreMainPaths, AreStepsIn, ArePathSteps, HasPlaces, IsFollowing, IsRefusedAt};
+ghost use Rattle.wc_component_tree.specs.Keys.{is_key};
 
 use std::alloc::{AllocError, Global};
 use wc_maps::{Map, OrderedMap, Seed};
@@ -28,11 +29,11 @@ use wc_why::{Step, Unfollowed, push_path_items};
 pub(crate) struct Followed<'r> {
     pub(crate) segments: Segments<'r>,
     /// Its exports, at which paths begin.
-    roots: PathRoots<'r>,
+    pub(crate) roots: PathRoots<'r>,
     /// The paths from its exports, its start function and its active segments.
-    paths: Paths,
+    pub(crate) paths: Paths,
     /// The functions that may call through tables.
-    callers: Callers,
+    pub(crate) callers: Callers,
 }
 
 /// Whether a main module is followed.
@@ -46,11 +47,11 @@ pub(crate) enum Following<'r> {
 /// The main module of a component, with the paths in it to its imports.
 #[derive(Drop)]
 pub(crate) struct MainPaths<'r> {
-    following: Following<'r>,
+    pub(crate) following: Following<'r>,
     /// The names of its functions.
-    names: OrderedMap<u32, &'r str>,
+    pub(crate) names: OrderedMap<u32, &'r str>,
     /// The items of its imports, by their modules and names.
-    places: Map<(&'r str, &'r str), PathItem>,
+    pub(crate) places: Map<(&'r str, &'r str), PathItem>,
 }
 
 impl<'r> MainPaths<'r> {
@@ -68,6 +69,13 @@ impl<'r> MainPaths<'r> {
             return Err(AllocError);
         };
         paths_of(alloc, seed, wasm, &code)
+    }
+
+    /// The item of an import, by its module and its name there; `None` where there is none.
+    pub(crate) fn item(&self, import: (&str, &str)) -> Option<PathItem>
+        ensures { result ≡ lookup (is_key import.entry) self.now.places.entries }
+    {
+        place_of(&self.places, import)
     }
 
     /// The steps to the import of a name from a module: where the path to it begins, and its items; or why no path is
@@ -198,7 +206,7 @@ fn paths_in(alloc: Global, code: &Module<'_>, segments: &Segments<'_>) -> Result
 }
 
 /// The items of the imports of a module, by their modules and names.
-fn import_places<'r>(
+pub(crate) fn import_places<'r>(
     alloc: Global,
     seed: Seed,
     code: &Module<'r>,
@@ -215,7 +223,7 @@ fn import_places<'r>(
 }
 
 /// The item of the import of a name from a module.
-fn place_of<'p>(
+pub(crate) fn place_of<'p>(
     places: &Map<(&'p str, &'p str), PathItem>,
     key: (&'p str, &'p str),
 ) -> Option<PathItem>

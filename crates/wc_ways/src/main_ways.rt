@@ -10,27 +10,30 @@ ghost use Rattle.wc_validate.specs.Imports.Map.{imports_in};
 ghost use Rattle.wc_why.specs.Paths.{path_view};
 ghost use Rattle.wc_world.specs.Slots.{imports_of};
 ghost use Rattle.wc_ways.specs.Asked.{asked_function};
-ghost use Rattle.wc_ways.specs.Private.Adapters.{function_value};
-ghost use Rattle.wc_ways.specs.Private.MainWays.{IsFollowedIn, key_of, resolve_of, world_of};
-ghost use Rattle.wc_ways.specs.Said.{AreEach, Says};
+ghost use Rattle.wc_component_tree.specs.Found.{function_value};
+ghost use Rattle.wc_ways.specs.Private.MainWays.{IsFollowedIn, key_of, marks_in, resolve_of, world_of};
+ghost use Rattle.wc_component_tree.specs.Said.{AreEach, Says};
 ghost use Rattle.wc_ways.specs.Ways.{AreRecordedMainPaths, IsMainPath, IsRecordedMainPath};
+ghost use Rattle.wc_ways.specs.Private.Marked.{shown_by};
 
-use crate::asked::{Function, asked_function};
+use crate::asked::asked_function;
+use crate::marked::put_path;
 use crate::modules::MainModule;
 use std::alloc::{AllocError, Global};
+use wc_component_tree::Function;
 use wc_names::Import;
 use wc_validate::ImportMap;
-use wc_why::{Path, PathPrinter, Step, Target};
+use wc_why::{MarkedPathPrinter, Path, Step, Target};
 
 /// Prints the paths to the recorded imports of the main module that are asked about, in order.
-pub(crate) fn recorded_main_paths<P: PathPrinter>(
+pub(crate) fn recorded_main_paths<P: MarkedPathPrinter>(
     alloc: Global,
-    main: &MainModule<'_, '_, '_>,
+    main: &MainModule<'_>,
     out: &mut P,
 ) -> Result<(), AllocError>
     requires nameable { AreNameable (world_of main.now) }
     requires main { IsFollowedIn main.now }
-    ensures said { OnOk result (Says P.parts
+    ensures said { OnOk result (Says (shown_by P.parts (marks_in main.now))
         (AreRecordedMainPaths (world_of main.now) (key_of main.now))
         (P.printed out.old) (P.printed out.new)) }
     ensures kept { OnOk result (P.before out.new ≡ P.before out.old) }
@@ -39,16 +42,16 @@ pub(crate) fn recorded_main_paths<P: PathPrinter>(
 }
 
 /// Prints the paths to these recorded imports that are asked about, in order.
-fn main_paths_of<P: PathPrinter>(
+fn main_paths_of<P: MarkedPathPrinter>(
     alloc: Global,
-    main: &MainModule<'_, '_, '_>,
+    main: &MainModule<'_>,
     imports: &ImportMap,
     out: &mut P,
 ) -> Result<(), AllocError>
     requires nameable { All (IsNameable (resolve_of main.now))
         (imports_of (imports_in imports.now)) }
     requires main { IsFollowedIn main.now }
-    ensures said { OnOk result (Says P.parts
+    ensures said { OnOk result (Says (shown_by P.parts (marks_in main.now))
         (AreEach (IsRecordedMainPath (world_of main.now) (key_of main.now))
         (imports_in imports.now)) (P.printed out.old) (P.printed out.new)) }
     ensures kept { OnOk result (P.before out.new ≡ P.before out.old) }
@@ -60,15 +63,15 @@ fn main_paths_of<P: PathPrinter>(
 }
 
 /// Prints the path to a recorded import of the main module, if it is asked about.
-fn recorded_main_path<P: PathPrinter>(
+fn recorded_main_path<P: MarkedPathPrinter>(
     alloc: Global,
-    main: &MainModule<'_, '_, '_>,
+    main: &MainModule<'_>,
     recorded: (&str, &str, &Import),
     out: &mut P,
 ) -> Result<(), AllocError>
     requires nameable { IsNameable (resolve_of main.now) (import_view recorded.2.now) }
     requires main { IsFollowedIn main.now }
-    ensures said { OnOk result (Says P.parts
+    ensures said { OnOk result (Says (shown_by P.parts (marks_in main.now))
         (IsRecordedMainPath (world_of main.now) (key_of main.now) (import_shown recorded.entry))
         (P.printed out.old) (P.printed out.new)) }
     ensures kept { OnOk result (P.before out.new ≡ P.before out.old) }
@@ -77,7 +80,7 @@ fn recorded_main_path<P: PathPrinter>(
     match asked_of_main(alloc, main, name, import)? {
         Some(function) => {
             let path = main_path(alloc, main, &function, from, name)?;
-            out.path(alloc, &path)
+            put_path(alloc, main.world, main.marks, &path, out)
         }
         None => Ok(()),
     }
@@ -86,7 +89,7 @@ fn recorded_main_path<P: PathPrinter>(
 /// The function that an import of the main module is, if it is one that is asked about.
 pub(crate) fn asked_of_main<'a>(
     alloc: Global,
-    main: &MainModule<'_, '_, '_>,
+    main: &MainModule<'_>,
     name: &'a str,
     import: &'a Import,
 ) -> Result<Option<Function<'a>>, AllocError>
@@ -102,7 +105,7 @@ pub(crate) fn asked_of_main<'a>(
 /// The path to a function from the main module: the steps to its import, and that.
 fn main_path<'p>(
     alloc: Global,
-    main: &'p MainModule<'_, '_, '_>,
+    main: &'p MainModule<'_>,
     function: &'p Function<'_>,
     from: &'p str,
     name: &'p str,

@@ -9,15 +9,17 @@ ghost use Rattle.wc_validate.specs.Validate.{module_record};
 ghost use Rattle.wc_world.specs.WorldViews.{world_view};
 ghost use Rattle.wc_validate.specs.Imports.Instances.{instance_view};
 ghost use Rattle.wc_ways.specs.Originals.{asked_in, recorded_at, recorded_in, wanted_of};
-ghost use Rattle.wc_ways.specs.Private.Adapters.{AreChainsFor, HasMain, IsNameableIn, IsSaidFor, IsWalk, function_value, original_in, required_in};
-ghost use Rattle.wc_ways.specs.Said.{Says};
+ghost use Rattle.wc_ways.specs.Private.Adapters.{AreChainsFor, HasMain, IsNameableIn, IsSaidFor, IsWalk, marks_at, original_in, required_in};
+ghost use Rattle.wc_component_tree.specs.Found.{function_value};
+ghost use Rattle.wc_component_tree.specs.Said.{Says};
 ghost use Rattle.wc_ways.specs.WaysFaults.{search_input};
 ghost use Rattle.wc_ways.specs.Words.{is_wanted};
 
-use crate::asked::{Function, asked_function};
+use crate::asked::asked_function;
 use crate::forms::Form;
 use crate::modules::Adapter;
 use std::alloc::{AllocError, Global};
+use wc_component_tree::Function;
 use wc_gc::{GcFault, ImportChains, why_imports};
 use wc_maps::{Map, OrderedMap, Set};
 use wc_names::Import as Recorded;
@@ -28,27 +30,27 @@ use wc_world::required_exports;
 
 /// An adapter as the encoder has it, with the chains to what it imports.
 #[derive(Clone, Copy)]
-pub(crate) struct Walk<'a, 'w, 'm, 'r> {
-    pub(crate) adapter: &'a Adapter<'a, 'w, 'm>,
-    pub(crate) original: &'a Module<'r>,
+pub(crate) struct Walk<'s, 'a> {
+    pub(crate) adapter: &'s Adapter<'a>,
+    pub(crate) original: &'s Module<'a>,
     /// The names of its functions.
-    pub(crate) names: &'a OrderedMap<u32, &'r str>,
-    pub(crate) chains: &'a ImportChains<'r>,
+    pub(crate) names: &'s OrderedMap<u32, &'a str>,
+    pub(crate) chains: &'s ImportChains<'s>,
     /// The functions that the main module imports from it.
-    pub(crate) wanted: &'a Map<String, FuncType>,
+    pub(crate) wanted: &'s Map<String, FuncType>,
 }
 
 /// Says what leads to imports of an adapter that has these bytes before it is trimmed.
-pub(crate) fn put_in<F: Form>(
+pub(crate) fn put_in<'a, F: Form<'a>>(
     alloc: Global,
-    adapter: &Adapter<'_, '_, '_>,
-    wasm: &[u8],
+    adapter: &Adapter<'a>,
+    wasm: &'a [u8],
     out: &mut F,
 ) -> Result<(), GcFault>
     requires nameable { IsNameableIn adapter.now }
     requires main { HasMain adapter.now }
-    ensures said { OnOk result (Says F.shown (IsSaidFor F.saying adapter.now wasm.now)
-        (F.printed out.old) (F.printed out.new)) }
+    ensures said { OnOk result (Says (F.shown (marks_at adapter.now))
+        (IsSaidFor F.saying adapter.now wasm.now) (F.printed out.old) (F.printed out.new)) }
     ensures kept { OnOk result (F.before out.new ≡ F.before out.old) }
     ensures fault { IfErr result (IsFault (search_input (world_view adapter.now.world.now)
         adapter.now.name.now (module_record adapter.now.info.now) wasm.now)) }
@@ -61,18 +63,18 @@ pub(crate) fn put_in<F: Form>(
 }
 
 /// Says what leads to imports of an adapter that has these bytes, and of which these exports are required.
-fn put_for<F: Form>(
+fn put_for<'a, F: Form<'a>>(
     alloc: Global,
-    adapter: &Adapter<'_, '_, '_>,
-    wasm: &[u8],
+    adapter: &Adapter<'a>,
+    wasm: &'a [u8],
     required: &Set<String>,
     out: &mut F,
 ) -> Result<(), GcFault>
     requires nameable { IsNameableIn adapter.now }
     requires main { HasMain adapter.now }
     requires required { names_of required.now.keys ≡ required_in adapter.now }
-    ensures said { OnOk result (Says F.shown (IsSaidFor F.saying adapter.now wasm.now)
-        (F.printed out.old) (F.printed out.new)) }
+    ensures said { OnOk result (Says (F.shown (marks_at adapter.now))
+        (IsSaidFor F.saying adapter.now wasm.now) (F.printed out.old) (F.printed out.new)) }
     ensures kept { OnOk result (F.before out.new ≡ F.before out.old) }
     ensures fault { IfErr result (IsFault (search_input (world_view adapter.now.world.now)
         adapter.now.name.now (module_record adapter.now.info.now) wasm.now)) }
@@ -87,18 +89,18 @@ fn put_for<F: Form>(
 }
 
 /// Says what leads to imports of an adapter that has these bytes, and in which these are the chains.
-fn put_with<F: Form>(
+fn put_with<'a, F: Form<'a>>(
     alloc: Global,
-    adapter: &Adapter<'_, '_, '_>,
-    wasm: &[u8],
+    adapter: &Adapter<'a>,
+    wasm: &'a [u8],
     chains: &ImportChains<'_>,
     out: &mut F,
 ) -> Result<(), AllocError>
     requires nameable { IsNameableIn adapter.now }
     requires main { HasMain adapter.now }
     requires chains { AreChainsFor adapter.now wasm.now chains.now }
-    ensures said { OnOk result (Says F.shown (IsSaidFor F.saying adapter.now wasm.now)
-        (F.printed out.old) (F.printed out.new)) }
+    ensures said { OnOk result (Says (F.shown (marks_at adapter.now))
+        (IsSaidFor F.saying adapter.now wasm.now) (F.printed out.old) (F.printed out.new)) }
     ensures kept { OnOk result (F.before out.new ≡ F.before out.old) }
 {
     // The bytes are those of a module: there is no fault but that memory runs out.
@@ -124,7 +126,7 @@ fn put_with<F: Form>(
 /// The function that an import of an adapter is, if it stays, and is one that is asked about.
 pub(crate) fn asked_import<'a>(
     alloc: Global,
-    adapter: &Adapter<'a, '_, '_>,
+    adapter: &Adapter<'a>,
     import: &Import<'a>,
 ) -> Result<Option<Function<'a>>, AllocError>
     requires { IsNameableIn adapter.now }
@@ -167,7 +169,7 @@ fn recorded_in<'a>(instance: &'a ImportInstance, name: &str) -> Option<&'a Recor
 }
 
 /// Whether the main module imports an export of the adapter.
-pub(crate) fn is_wanted(walk: &Walk<'_, '_, '_, '_>, export: &str) -> bool
+pub(crate) fn is_wanted(walk: &Walk<'_, '_>, export: &str) -> bool
     requires { IsWalk walk.now }
     ensures { result ≡ is_wanted (wanted_of (original_in walk.now)) export.now }
 {

@@ -7,26 +7,29 @@ ghost use Rattle.wc_gc.specs.Decoded.{ItemIndex};
 ghost use Rattle.wc_gc.specs.RestrictionLaws.{IsImportItem};
 ghost use Rattle.wc_read.specs.Imports.{import_value};
 ghost use Rattle.wc_why.specs.Paths.{exported, path_view, step_view};
-ghost use Rattle.wc_ways.specs.Private.Adapters.{AreStepsBy, HasMain, IsWalk, function_value, key_in, original_in};
-ghost use Rattle.wc_ways.specs.Said.{Says};
+ghost use Rattle.wc_ways.specs.Private.Adapters.{AreStepsBy, HasMain, IsWalk, key_in, marks_at, original_in};
+ghost use Rattle.wc_component_tree.specs.Found.{function_value};
+ghost use Rattle.wc_component_tree.specs.Said.{Says};
 ghost use Rattle.wc_ways.specs.Ways.{AreFirstSteps, AreOriginalPaths, IsAdapterPath, IsItemPath, IsPathAt};
+ghost use Rattle.wc_ways.specs.Private.Marked.{shown_by};
 
-use crate::asked::Function;
+use crate::marked::put_path;
 use crate::modules::Adapter;
 use crate::originals::{Walk, asked_import, is_wanted};
 use std::alloc::{AllocError, Global};
+use wc_component_tree::Function;
 use wc_gc::Chain;
 use wc_read::Import;
-use wc_why::{Path, PathPrinter, Step, Target, push_items};
+use wc_why::{MarkedPathPrinter, Path, Step, Target, push_items};
 
 /// Prints the paths to all imports of an adapter that are asked about, in the order of the file.
-pub(crate) fn original_paths<P: PathPrinter>(
+pub(crate) fn original_paths<P: MarkedPathPrinter>(
     alloc: Global,
-    walk: &Walk<'_, '_, '_, '_>,
+    walk: &Walk<'_, '_>,
     out: &mut P,
 ) -> Result<(), AllocError>
     requires { IsWalk walk.now }
-    ensures said { OnOk result (Says P.parts
+    ensures said { OnOk result (Says (shown_by P.parts (marks_at walk.now.adapter.now))
         (AreOriginalPaths (key_in walk.now) (original_in walk.now))
         (P.printed out.old) (P.printed out.new)) }
     ensures kept { OnOk result (P.before out.new ≡ P.before out.old) }
@@ -38,15 +41,15 @@ pub(crate) fn original_paths<P: PathPrinter>(
 }
 
 /// Prints the path to the import at a position, if it is asked about and reached.
-fn path_at<P: PathPrinter>(
+fn path_at<P: MarkedPathPrinter>(
     alloc: Global,
-    walk: &Walk<'_, '_, '_, '_>,
+    walk: &Walk<'_, '_>,
     position: usize,
     out: &mut P,
 ) -> Result<(), AllocError>
     requires walk { IsWalk walk.now }
     requires there { position < length walk.now.original.now.imports.items }
-    ensures said { OnOk result (Says P.parts
+    ensures said { OnOk result (Says (shown_by P.parts (marks_at walk.now.adapter.now))
         (IsPathAt (original_in walk.now) (key_in walk.now) position)
         (P.printed out.old) (P.printed out.new)) }
     ensures kept { OnOk result (P.before out.new ≡ P.before out.old) }
@@ -56,7 +59,7 @@ fn path_at<P: PathPrinter>(
         return Ok(());
     };
     match item_path(alloc, walk, position, import, &function)? {
-        Some(path) => out.path(alloc, &path),
+        Some(path) => put_path(alloc, walk.adapter.world, walk.adapter.marks, &path, out),
         None => Ok(()),
     }
 }
@@ -64,7 +67,7 @@ fn path_at<P: PathPrinter>(
 /// The path to the import at a position, which is this function, if it is reached.
 pub(crate) fn item_path<'p>(
     alloc: Global,
-    walk: &'p Walk<'_, '_, '_, '_>,
+    walk: &'p Walk<'_, '_>,
     position: usize,
     import: &'p Import<'_>,
     function: &'p Function<'_>,
@@ -85,7 +88,7 @@ pub(crate) fn item_path<'p>(
 /// The path to an import, which is this function, and whose item is at an index among those that are reached.
 fn reached_path<'p>(
     alloc: Global,
-    walk: &'p Walk<'_, '_, '_, '_>,
+    walk: &'p Walk<'_, '_>,
     index: usize,
     import: &'p Import<'_>,
     function: &'p Function<'_>,
@@ -106,14 +109,15 @@ fn reached_path<'p>(
 /// of the chain, and the import.
 fn chain_path<'p>(
     alloc: Global,
-    walk: &'p Walk<'_, '_, '_, '_>,
+    walk: &'p Walk<'_, '_>,
     import: &'p Import<'_>,
     function: &'p Function<'_>,
     chain: &Chain<'p>,
 ) -> Result<Path<'p>, AllocError>
     requires { IsWalk walk.now }
     ensures { IfOk result (λ p. IsAdapterPath (original_in walk.now)
-        (function_value function.now) chain.now (import_value import.now) (path_view p)) }
+        (function_value function.now) chain.now.export.now chain.now.items.items
+        (import_value import.now) (path_view p)) }
 {
     let mut steps = first_steps(alloc, walk, chain.export)?;
     push_items(walk.names, &chain.items, &mut steps)?;
@@ -132,7 +136,7 @@ fn chain_path<'p>(
 /// The steps to an export of the adapter: if the main module imports it, the steps to its import, and that; and the export.
 fn first_steps<'p>(
     alloc: Global,
-    walk: &'p Walk<'_, '_, '_, '_>,
+    walk: &'p Walk<'_, '_>,
     export: &'p str,
 ) -> Result<Vec<Step<'p>>, AllocError>
     requires { IsWalk walk.now }
@@ -149,7 +153,7 @@ fn first_steps<'p>(
 /// The steps to an export of an adapter that the main module imports: the steps to its import, that, and the export.
 fn wanted_steps<'p>(
     alloc: Global,
-    adapter: &'p Adapter<'_, '_, '_>,
+    adapter: &'p Adapter<'_>,
     export: &'p str,
 ) -> Result<Vec<Step<'p>>, AllocError>
     requires { HasMain adapter.now }

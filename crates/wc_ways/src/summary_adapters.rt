@@ -1,30 +1,23 @@
-//! The imports of each interface by the adapters of a component, and what has to go for the interface to go.
+//! The imports of each interface by the adapters of a component.
 
-ghost use Rattle.std.specs.Prelude.{◌≡◌, ◌⊎◌, IfErr, IfOk, OnOk, length, map};
+ghost use Rattle.std.specs.Prelude.{◌≡◌, ◌⊎◌, IfErr, OnOk, map};
 ghost use Rattle.wc_gc.specs.LiveItems.{IsFault, names_of};
-ghost use Rattle.wc_paths.specs.Graph.{graph_value};
 ghost use Rattle.wc_plan.specs.Fault.{AreNameable};
 ghost use Rattle.wc_read.specs.Modules.{module_value};
-ghost use Rattle.wc_spread.specs.Positions.{AreBelow};
+ghost use Rattle.wc_summary.specs.Entries.{entries_view};
 ghost use Rattle.wc_validate.specs.Imports.Map.{required_entry, required_in};
 ghost use Rattle.wc_world.specs.WorldViews.{world_view};
 ghost use Rattle.wc_ways.specs.Originals.{required_exports};
-ghost use Rattle.wc_ways.specs.Private.SummaryAdapters.{AreUses, IsNameableIn, NotesAdapter, NotesLibrary, NotesOriginal, NotesWasm, UsesGraph, entry_of, info_of, original_in, world_of};
-ghost use Rattle.wc_ways.specs.Private.Entries.{entries_view};
 ghost use Rattle.wc_ways.specs.Private.Notes.{NotesAdapters};
+ghost use Rattle.wc_ways.specs.Private.SummaryAdapters.{IsNameableIn, NotesAdapter, NotesLibrary, NotesOriginal, NotesWasm, entry_of, info_of, original_in, world_of};
 ghost use Rattle.wc_ways.specs.WaysFaults.{IsAdapterFault, IsWaysFault, search_input};
 
-use crate::leads::{bodies_of, owners_of, sources_of};
-use crate::summary::Entries;
-use crate::tags::{counts_of, library_tags, place_tags, tags_of};
-use crate::uses::{Required, Uses, push_uses};
+use crate::tags::{library_tags, tags_of};
 use std::alloc::{AllocError, Global};
 use wc_gc::{GcFault, why_imports};
-use wc_maps::{Map, Set};
-use wc_paths::ModuleGraph;
-use wc_read::{Module, read_module};
-use wc_segments::Segments;
-use wc_spread::{leading, reached_alone};
+use wc_maps::Set;
+use wc_read::{FuncType, Module, read_module};
+use wc_summary::{AdapterImports, Entries, Required, note_adapter_module};
 use wc_world::{ComponentWorld, WorldAdapter, required_exports};
 
 /// An adapter of a component's world.
@@ -91,31 +84,9 @@ fn note_library<'a>(
     ensures { OnOk result (NotesLibrary named.now
         (entries_view entries.old.entries) (entries_view entries.new.entries)) }
 {
-    let seed = *named.world.adapters.hasher();
     let metadata = named.world.encoder.metadata();
     let tags = library_tags(alloc, &metadata.resolve, &named.adapter.info.imports)?;
-    let mut found = Map::with_hasher(alloc, seed);
-    let places = place_tags(alloc, &tags, &mut found)?;
-    let uses = Uses {
-        is_library: true,
-        counts: counts_of(alloc, &places, found.len())?,
-        led: Vec::new(alloc),
-        alone: Vec::new(alloc),
-    };
-    let names = Set::with_hasher(alloc, seed);
-    let wanted = Map::with_hasher(alloc, seed);
-    let required = Required {
-        names: &names,
-        wanted: &wanted,
-    };
-    push_uses(
-        alloc,
-        named.name,
-        required,
-        &uses,
-        found.keys().as_slice(),
-        entries,
-    )
+    wc_summary::note_library(alloc, named.name, &tags, entries)
 }
 
 /// Notes what an adapter that was trimmed imports, by these bytes that the encoder has of it.
@@ -176,7 +147,7 @@ fn note_original<'a>(
     alloc: Global,
     named: &Adapter<'a, '_>,
     original: &Module<'_>,
-    required: Required<'_>,
+    required: Required<'_, FuncType>,
     entries: &mut Entries<'a>,
 ) -> Result<(), AllocError>
     requires nameable { IsNameableIn named.now }
@@ -190,65 +161,11 @@ fn note_original<'a>(
     let metadata = named.world.encoder.metadata();
     let records = &named.adapter.info.imports;
     let tags = tags_of(alloc, &metadata.resolve, records, &original.imports)?;
-    let mut found = Map::with_hasher(alloc, *named.world.adapters.hasher());
-    let places = place_tags(alloc, &tags, &mut found)?;
-    let uses = uses_of(alloc, original, required.names, &places, found.len())?;
-    push_uses(
-        alloc,
-        named.name,
+    let adapter = AdapterImports {
+        name: named.name,
+        code: original,
+        tags: &tags,
         required,
-        &uses,
-        found.keys().as_slice(),
-        entries,
-    )
-}
-
-/// The uses of so many interfaces by a module, which are at these places for its imports.
-fn uses_of(
-    alloc: Global,
-    original: &Module<'_>,
-    required: &Set<String>,
-    places: &[Option<usize>],
-    count: usize,
-) -> Result<Uses, AllocError>
-    requires sized { length places.now ≡ length (module_value original.now).imports }
-    requires below { AreBelow count places.now }
-    ensures { IfOk result (AreUses (module_value original.now) (names_of required.now.keys)
-        places.now count) }
-{
-    // An adapter that was trimmed has no segments.
-    let segments = Segments {
-        elements: Vec::new(alloc),
-        data: Vec::new(alloc),
     };
-    let graph = ModuleGraph::new(original, &segments)?;
-    let sources = sources_of(alloc, &original.exports, &graph, required)?;
-    let owners = owners_of(alloc, &original.imports, &graph, places)?;
-    let bodies = bodies_of(alloc, &original.funcs, &graph)?;
-    let counts = counts_of(alloc, places, count)?;
-    uses_in(alloc, &graph, (&sources, &owners), &bodies, counts)
-}
-
-/// The uses of as many interfaces as are counted: by the items of exports and of imports, and by the functions.
-fn uses_in(
-    alloc: Global,
-    graph: &ModuleGraph<'_, '_>,
-    items: (&[Option<usize>], &[Option<usize>]),
-    bodies: &[(usize, usize)],
-    counts: Vec<usize>,
-) -> Result<Uses, AllocError>
-    requires sources { AreBelow graph.now.total items.0.now }
-    requires sized { length items.1.now ≡ graph.now.total }
-    requires owners { AreBelow (length counts.items) items.1.now }
-    ensures { IfOk result (UsesGraph (graph_value graph.now) (items.entry.0.now, items.entry.1.now)
-        bodies.now counts.items) }
-{
-    let led = leading(alloc, graph, items.0, items.1, counts.len())?;
-    let alone = reached_alone(alloc, graph, items.0, bodies, &led)?;
-    Ok(Uses {
-        is_library: false,
-        counts,
-        led,
-        alone,
-    })
+    note_adapter_module(alloc, &adapter, entries)
 }

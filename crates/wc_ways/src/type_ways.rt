@@ -10,28 +10,32 @@ ghost use Rattle.wc_resolve.specs.Views.{key_view};
 ghost use Rattle.wc_validate.specs.Validate.{module_record};
 ghost use Rattle.wc_why.specs.Paths.{of_type, of_world, path_view, step_view, text_of};
 ghost use Rattle.wc_world.specs.WorldViews.{adapter_view};
-ghost use Rattle.wc_ways.specs.Said.{Says};
+ghost use Rattle.wc_component_tree.specs.Said.{Says};
 ghost use Rattle.wc_ways.specs.TypeRoots.{of_item};
-ghost use Rattle.wc_ways.specs.Ways.{AreImportSteps, AreNeederSteps, AreStepsAt, IsTypedPath, typed_path};
+ghost use Rattle.wc_ways.specs.Ways.{AreImportSteps, AreNeederSteps, AreStepsAt, IsTypedPath};
+ghost use Rattle.wc_component_tree.specs.WaysTree.{typed_path};
 ghost use Rattle.wc_ways.specs.WaysFaults.{IsAdapterFault, IsOriginalFault, IsWaysFault, search_input};
 ghost use Rattle.wc_ways.specs.Private.Adapters.{AreChainsFor, HasMain, IsNameableIn, IsWalk, original_in, required_in, world_in};
 ghost use Rattle.wc_ways.specs.Private.MainWays.{IsFollowedIn, world_of};
 ghost use Rattle.wc_ways.specs.Private.Needs.{cite_view, root_view};
 ghost use Rattle.wc_ways.specs.Private.TypeWays.{AreStepsFrom, AreStepsIn, AreStepsOfTrimmed, AreStepsSpelled, IsLibraryStep, IsNamedAt, IsTypedOf, IsWayOf, is_named};
+ghost use Rattle.wc_ways.specs.Private.Marked.{plain_by};
 
-use crate::asked::{Function, key_text};
+use crate::asked::key_text;
+use crate::marked::put_unmarked;
 use crate::modules::{Adapter, MainModule};
 use crate::needs::TypeRoot;
 use crate::originals::Walk;
 use crate::paths::item_path;
 use crate::types::TypeCite;
 use std::alloc::{AllocError, Global};
+use wc_component_tree::Function;
 use wc_gc::{GcFault, ImportChains, why_imports};
 use wc_maps::Set;
 use wc_read::laws::modules_unique;
 use wc_read::{Import, Module, function_names, read_module};
 use wc_resolve::WorldKey;
-use wc_why::{Path, PathPrinter, Step, Target, WorldSide};
+use wc_why::{MarkedPathPrinter, Path, Step, Target, WorldSide};
 use wc_world::{WorldAdapter, required_exports};
 
 /// An interface that is imported for its types alone, and the name of one of these, if it has a name.
@@ -52,16 +56,16 @@ pub(crate) struct TypeWay<'a> {
 }
 
 /// Prints the path to what needs the types of an interface, and then one of these.
-pub(crate) fn put_typed_path<P: PathPrinter>(
+pub(crate) fn put_typed_path<P: MarkedPathPrinter>(
     alloc: Global,
-    main: &MainModule<'_, '_, '_>,
+    main: &MainModule<'_>,
     interface: &str,
     cite: TypeCite<'_>,
     out: &mut P,
 ) -> Result<(), GcFault>
     requires nameable { AreNameable (world_of main.now) }
     requires main { IsFollowedIn main.now }
-    ensures said { OnOk result (Says P.parts
+    ensures said { OnOk result (Says (plain_by P.parts)
         (IsTypedPath (world_of main.now) interface.now (cite_view cite.entry))
         (P.printed out.old) (P.printed out.new)) }
     ensures kept { OnOk result (P.before out.new ≡ P.before out.old) }
@@ -78,16 +82,16 @@ pub(crate) fn put_typed_path<P: PathPrinter>(
 }
 
 /// Prints the path to a root of live types, and then a type that it needs.
-fn put_by_root<P: PathPrinter>(
+fn put_by_root<P: MarkedPathPrinter>(
     alloc: Global,
-    main: &MainModule<'_, '_, '_>,
+    main: &MainModule<'_>,
     typed: Typed<'_>,
     root: TypeRoot<'_>,
     out: &mut P,
 ) -> Result<(), GcFault>
     requires nameable { AreNameable (world_of main.now) }
     requires main { IsFollowedIn main.now }
-    ensures said { OnOk result (Says P.parts
+    ensures said { OnOk result (Says (plain_by P.parts)
         (IsTypedOf typed.entry (AreNeederSteps (world_of main.now) (root_view root.entry)))
         (P.printed out.old) (P.printed out.new)) }
     ensures kept { OnOk result (P.before out.new ≡ P.before out.old) }
@@ -111,13 +115,13 @@ fn put_by_root<P: PathPrinter>(
 }
 
 /// Prints steps to what needs the types of an interface, and then one of these.
-fn put_steps<'p, P: PathPrinter>(
+fn put_steps<'p, P: MarkedPathPrinter>(
     alloc: Global,
     typed: Typed<'p>,
     steps: Vec<Step<'p>>,
     out: &mut P,
 ) -> Result<(), GcFault>
-    ensures printed { OnOk result (P.printed out.new ≡ P.printed out.old ++ P.parts
+    ensures printed { OnOk result (P.printed out.new ≡ P.printed out.old ++ plain_by P.parts
         (typed_path typed.entry.interface.now (option_map text_of typed.entry.ty)
         (map step_view steps.entry.items))) }
     ensures kept { OnOk result (P.before out.new ≡ P.before out.old) }
@@ -129,7 +133,7 @@ fn put_steps<'p, P: PathPrinter>(
         target: Target::Types,
         steps,
     };
-    out.path(alloc, &path)?;
+    put_unmarked(alloc, &path, out)?;
     Ok(())
 }
 
@@ -149,15 +153,16 @@ fn with_type<'p>(steps: Vec<Step<'p>>, ty: Option<&'p str>) -> Result<Vec<Step<'
 }
 
 /// Prints what the world itself imports or exports, and then a type that it needs.
-fn put_item<P: PathPrinter>(
+fn put_item<P: MarkedPathPrinter>(
     alloc: Global,
-    main: &MainModule<'_, '_, '_>,
+    main: &MainModule<'_>,
     typed: Typed<'_>,
     item: (WorldSide, &WorldKey),
     out: &mut P,
 ) -> Result<(), GcFault>
-    ensures said { OnOk result (Says P.parts (IsTypedOf typed.entry (AreNeederSteps
-        (world_of main.now) (of_item item.entry.0 (key_view item.entry.1.now))))
+    ensures said { OnOk result (Says (plain_by P.parts)
+        (IsTypedOf typed.entry (AreNeederSteps (world_of main.now)
+        (of_item item.entry.0 (key_view item.entry.1.now))))
         (P.printed out.old) (P.printed out.new)) }
     ensures kept { OnOk result (P.before out.new ≡ P.before out.old) }
     ensures fault { IfErr result (λ f. f ≡ GcFault.Memory) }
@@ -171,14 +176,14 @@ fn put_item<P: PathPrinter>(
 }
 
 /// Prints what the world itself imports or exports under a name, and then a type that it needs.
-fn put_world<P: PathPrinter>(
+fn put_world<P: MarkedPathPrinter>(
     alloc: Global,
     typed: Typed<'_>,
     side: WorldSide,
     name: &str,
     out: &mut P,
 ) -> Result<(), GcFault>
-    ensures printed { OnOk result (P.printed out.new ≡ P.printed out.old ++ P.parts
+    ensures printed { OnOk result (P.printed out.new ≡ P.printed out.old ++ plain_by P.parts
         (typed_path typed.entry.interface.now (option_map text_of typed.entry.ty)
         (of_world side name.now ∷ []))) }
     ensures kept { OnOk result (P.before out.new ≡ P.before out.old) }
@@ -190,17 +195,18 @@ fn put_world<P: PathPrinter>(
 }
 
 /// Prints the path to an import of an adapter, or of the main module, and then a type that it needs.
-fn put_import<P: PathPrinter>(
+fn put_import<P: MarkedPathPrinter>(
     alloc: Global,
-    main: &MainModule<'_, '_, '_>,
+    main: &MainModule<'_>,
     adapter: Option<&str>,
     way: &TypeWay<'_>,
     out: &mut P,
 ) -> Result<(), GcFault>
     requires nameable { AreNameable (world_of main.now) }
     requires main { IsFollowedIn main.now }
-    ensures said { OnOk result (Says P.parts (IsWayOf way.now
-        (AreStepsFrom (world_of main.now) (option_map text_of adapter.entry) way.now))
+    ensures said { OnOk result (Says (plain_by P.parts)
+        (IsWayOf way.now (AreStepsFrom (world_of main.now)
+        (option_map text_of adapter.entry) way.now))
         (P.printed out.old) (P.printed out.new)) }
     ensures kept { OnOk result (P.before out.new ≡ P.before out.old) }
     ensures fault { IfErr result (IsWaysFault (world_of main.now)) }
@@ -212,14 +218,14 @@ fn put_import<P: PathPrinter>(
 }
 
 /// Prints the path to an import of the main module, and then a type that it needs.
-fn put_from_main<P: PathPrinter>(
+fn put_from_main<P: MarkedPathPrinter>(
     alloc: Global,
-    main: &MainModule<'_, '_, '_>,
+    main: &MainModule<'_>,
     way: &TypeWay<'_>,
     out: &mut P,
 ) -> Result<(), GcFault>
     requires { IsFollowedIn main.now }
-    ensures said { OnOk result (Says P.parts
+    ensures said { OnOk result (Says (plain_by P.parts)
         (IsWayOf way.now (AreStepsFrom (world_of main.now) None way.now))
         (P.printed out.old) (P.printed out.new)) }
     ensures kept { OnOk result (P.before out.new ≡ P.before out.old) }
@@ -235,31 +241,31 @@ fn put_from_main<P: PathPrinter>(
 }
 
 /// Prints the path to an import of an adapter of this name, and then a type that it needs.
-fn put_from_adapter<P: PathPrinter>(
+fn put_from_adapter<P: MarkedPathPrinter>(
     alloc: Global,
-    main: &MainModule<'_, '_, '_>,
+    main: &MainModule<'_>,
     name: &str,
     way: &TypeWay<'_>,
     out: &mut P,
 ) -> Result<(), GcFault>
     requires nameable { AreNameable (world_of main.now) }
     requires main { IsFollowedIn main.now }
-    ensures said { OnOk result (Says P.parts
+    ensures said { OnOk result (Says (plain_by P.parts)
         (IsWayOf way.now (AreStepsFrom (world_of main.now) (Some name.now) way.now))
         (P.printed out.old) (P.printed out.new)) }
     ensures kept { OnOk result (P.before out.new ≡ P.before out.old) }
     ensures fault { IfErr result (IsWaysFault (world_of main.now)) }
 {
     match main.world.adapters.get_full(name) {
-        Some((index, _name, adapter)) => {
+        Some((_index, _name, adapter)) => {
             let info = &adapter.info;
             let asked = Adapter {
                 world: main.world,
                 key: main.key,
-                index,
                 name,
                 info,
                 main: main.paths,
+                marks: main.marks,
             };
             put_in_adapter(alloc, &asked, adapter, way, out)
         }
@@ -268,9 +274,9 @@ fn put_from_adapter<P: PathPrinter>(
 }
 
 /// Prints the path to an import of an adapter, and then a type that it needs.
-fn put_in_adapter<P: PathPrinter>(
+fn put_in_adapter<P: MarkedPathPrinter>(
     alloc: Global,
-    asked: &Adapter<'_, '_, '_>,
+    asked: &Adapter<'_>,
     adapter: &WorldAdapter<'_>,
     way: &TypeWay<'_>,
     out: &mut P,
@@ -278,7 +284,7 @@ fn put_in_adapter<P: PathPrinter>(
     requires nameable { IsNameableIn asked.now }
     requires same { asked.now.info.now ≡ adapter.now.info }
     requires main { HasMain asked.now }
-    ensures said { OnOk result (Says P.parts
+    ensures said { OnOk result (Says (plain_by P.parts)
         (IsWayOf way.now (AreStepsIn asked.now way.now (adapter_view adapter.now)))
         (P.printed out.old) (P.printed out.new)) }
     ensures kept { OnOk result (P.before out.new ≡ P.before out.old) }
@@ -292,13 +298,13 @@ fn put_in_adapter<P: PathPrinter>(
 }
 
 /// Prints an import of a library, and then a type that it needs.
-fn put_from_library<P: PathPrinter>(
+fn put_from_library<P: MarkedPathPrinter>(
     alloc: Global,
     library: &str,
     way: &TypeWay<'_>,
     out: &mut P,
 ) -> Result<(), GcFault>
-    ensures said { OnOk result (Says P.parts
+    ensures said { OnOk result (Says (plain_by P.parts)
         (IsWayOf way.now (IsLibraryStep library.now way.now))
         (P.printed out.old) (P.printed out.new)) }
     ensures kept { OnOk result (P.before out.new ≡ P.before out.old) }
@@ -314,15 +320,16 @@ fn put_from_library<P: PathPrinter>(
 }
 
 /// Prints the path to an import of an adapter that was trimmed, and then a type that it needs.
-fn put_from_trimmed<P: PathPrinter>(
+fn put_from_trimmed<P: MarkedPathPrinter>(
     alloc: Global,
-    asked: &Adapter<'_, '_, '_>,
+    asked: &Adapter<'_>,
     way: &TypeWay<'_>,
     out: &mut P,
 ) -> Result<(), GcFault>
     requires nameable { IsNameableIn asked.now }
     requires main { HasMain asked.now }
-    ensures said { OnOk result (Says P.parts (IsWayOf way.now (AreStepsOfTrimmed asked.now way.now))
+    ensures said { OnOk result (Says (plain_by P.parts)
+        (IsWayOf way.now (AreStepsOfTrimmed asked.now way.now))
         (P.printed out.old) (P.printed out.new)) }
     ensures kept { OnOk result (P.before out.new ≡ P.before out.old) }
     ensures fault { IfErr result (λ f. (f ≡ GcFault.Memory) ⊎ IsOriginalFault
@@ -335,16 +342,16 @@ fn put_from_trimmed<P: PathPrinter>(
 }
 
 /// Prints the path to an import of an adapter that has these bytes before it is trimmed, and then a type that it needs.
-fn put_from_original<P: PathPrinter>(
+fn put_from_original<P: MarkedPathPrinter>(
     alloc: Global,
-    asked: &Adapter<'_, '_, '_>,
+    asked: &Adapter<'_>,
     wasm: &[u8],
     way: &TypeWay<'_>,
     out: &mut P,
 ) -> Result<(), GcFault>
     requires nameable { IsNameableIn asked.now }
     requires main { HasMain asked.now }
-    ensures said { OnOk result (Says P.parts
+    ensures said { OnOk result (Says (plain_by P.parts)
         (IsWayOf way.now (AreStepsSpelled asked.now way.now wasm.now))
         (P.printed out.old) (P.printed out.new)) }
     ensures kept { OnOk result (P.before out.new ≡ P.before out.old) }
@@ -359,9 +366,9 @@ fn put_from_original<P: PathPrinter>(
 }
 
 /// Prints the same from these exports, which are required of the adapter.
-fn put_from_required<P: PathPrinter>(
+fn put_from_required<P: MarkedPathPrinter>(
     alloc: Global,
-    asked: &Adapter<'_, '_, '_>,
+    asked: &Adapter<'_>,
     original: (&[u8], &Set<String>),
     way: &TypeWay<'_>,
     out: &mut P,
@@ -369,7 +376,7 @@ fn put_from_required<P: PathPrinter>(
     requires nameable { IsNameableIn asked.now }
     requires main { HasMain asked.now }
     requires required { names_of original.1.now.keys ≡ required_in asked.now }
-    ensures said { OnOk result (Says P.parts
+    ensures said { OnOk result (Says (plain_by P.parts)
         (IsWayOf way.now (AreStepsSpelled asked.now way.now original.entry.0.now))
         (P.printed out.old) (P.printed out.new)) }
     ensures kept { OnOk result (P.before out.new ≡ P.before out.old) }
@@ -388,9 +395,9 @@ fn put_from_required<P: PathPrinter>(
 
 /// Prints the path to an import of an adapter that has these bytes, and in which these are the chains, and then a type that it
 /// needs.
-fn put_from_chains<P: PathPrinter>(
+fn put_from_chains<P: MarkedPathPrinter>(
     alloc: Global,
-    asked: &Adapter<'_, '_, '_>,
+    asked: &Adapter<'_>,
     original: (&[u8], &ImportChains<'_>),
     way: &TypeWay<'_>,
     out: &mut P,
@@ -398,7 +405,7 @@ fn put_from_chains<P: PathPrinter>(
     requires nameable { IsNameableIn asked.now }
     requires main { HasMain asked.now }
     requires chains { AreChainsFor asked.now original.0.now original.1.now }
-    ensures said { OnOk result (Says P.parts
+    ensures said { OnOk result (Says (plain_by P.parts)
         (IsWayOf way.now (AreStepsSpelled asked.now way.now original.entry.0.now))
         (P.printed out.old) (P.printed out.new)) }
     ensures kept { OnOk result (P.before out.new ≡ P.before out.old) }
@@ -426,15 +433,16 @@ fn put_from_chains<P: PathPrinter>(
 }
 
 /// Prints the path to an import of an adapter, and then a type that it needs.
-fn put_on_walk<P: PathPrinter>(
+fn put_on_walk<P: MarkedPathPrinter>(
     alloc: Global,
-    walk: &Walk<'_, '_, '_, '_>,
+    walk: &Walk<'_, '_>,
     way: &TypeWay<'_>,
     out: &mut P,
 ) -> Result<(), GcFault>
     requires { IsWalk walk.now }
-    ensures said { OnOk result (Says P.parts (IsWayOf way.now
-        (AreImportSteps way.now.«module».now way.now.name.now (original_in walk.now)))
+    ensures said { OnOk result (Says (plain_by P.parts)
+        (IsWayOf way.now (AreImportSteps way.now.«module».now way.now.name.now
+        (original_in walk.now)))
         (P.printed out.old) (P.printed out.new)) }
     ensures kept { OnOk result (P.before out.new ≡ P.before out.old) }
     ensures fault { IfErr result (λ f. f ≡ GcFault.Memory) }
@@ -466,17 +474,17 @@ fn is_import(import: &Import<'_>, way: &TypeWay<'_>) -> bool
 }
 
 /// Prints the path to the import at a position, if it is reached, and then a type that it needs.
-fn put_position<P: PathPrinter>(
+fn put_position<P: MarkedPathPrinter>(
     alloc: Global,
-    walk: &Walk<'_, '_, '_, '_>,
+    walk: &Walk<'_, '_>,
     position: usize,
     way: &TypeWay<'_>,
     out: &mut P,
 ) -> Result<(), GcFault>
     requires walk { IsWalk walk.now }
     requires there { position < length walk.now.original.now.imports.items }
-    ensures said { OnOk result (Says P.parts (IsWayOf way.now
-        (AreStepsAt (original_in walk.now) position))
+    ensures said { OnOk result (Says (plain_by P.parts)
+        (IsWayOf way.now (AreStepsAt (original_in walk.now) position))
         (P.printed out.old) (P.printed out.new)) }
     ensures kept { OnOk result (P.before out.new ≡ P.before out.old) }
     ensures fault { IfErr result (λ f. f ≡ GcFault.Memory) }

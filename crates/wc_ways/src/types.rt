@@ -6,27 +6,27 @@ ghost use Rattle.wc_plan.specs.Fault.{AreNameable};
 ghost use Rattle.wc_resolve.specs.Roots.{id_index};
 ghost use Rattle.wc_why.specs.Paths.{text_of};
 ghost use Rattle.wc_world.specs.WorldViews.{imported_view, live_view, world_view};
-ghost use Rattle.wc_ways.specs.Imports.{all_key};
-ghost use Rattle.wc_ways.specs.Said.{AreTypesSaid, IsTypedSaid, Says};
+ghost use Rattle.wc_ways.specs.Tags.{all_key};
+ghost use Rattle.wc_ways.specs.Said.{AreTypesSaid, IsTypedSaid};
+ghost use Rattle.wc_component_tree.specs.Said.{Says};
 ghost use Rattle.wc_resolve.specs.WellFormed.{type_name};
 ghost use Rattle.wc_ways.specs.Types.{cite, first_live, has_live_types, root_user, typed_name, user_in};
 ghost use Rattle.wc_ways.specs.WaysFaults.{IsWaysFault};
-ghost use Rattle.wc_ways.specs.Private.Entries.{entries_view};
-ghost use Rattle.wc_ways.specs.Private.MainWays.{IsFollowedIn, key_of, world_of};
+ghost use Rattle.wc_summary.specs.Entries.{entries_view};
+ghost use Rattle.wc_ways.specs.Private.MainWays.{IsFollowedIn, key_of, marks_in, world_of};
 ghost use Rattle.wc_ways.specs.Private.Needs.{AreNeededIn, cite_view, root_view};
 ghost use Rattle.wc_ways.specs.Private.Notes.{NotesTyped, NotesTypes, imported_shown};
 
 use crate::asked::{is_asked, key_text};
-use crate::entries::{place_of, set_types};
-use crate::forms::Form;
 use crate::modules::MainModule;
 use crate::needs::{NeededTypes, TypeRoot, root_of};
-use crate::summary::Entries;
 use crate::type_roots::needed_types;
+use crate::typed_forms::TypedForm;
 use std::alloc::{AllocError, Global};
 use wc_gc::GcFault;
 use wc_maps::{Map, Set};
 use wc_resolve::{InterfaceId, Resolve, TypeId};
+use wc_summary::{Entries, place_of, set_types};
 use wc_world::{ComponentWorld, ImportedInterface};
 
 /// Why an interface is imported for its types: the name of the one that is live first, if it has a name, and the first root
@@ -38,14 +38,14 @@ pub(crate) struct TypeCite<'a> {
 }
 
 /// Says which interfaces that are asked about are imported for their types alone, in the world's order.
-pub(crate) fn put_types<F: Form>(
+pub(crate) fn put_types<'a, F: TypedForm<'a>>(
     alloc: Global,
-    main: &MainModule<'_, '_, '_>,
+    main: &MainModule<'a>,
     out: &mut F,
 ) -> Result<(), GcFault>
     requires nameable { AreNameable (world_of main.now) }
     requires main { IsFollowedIn main.now }
-    ensures said { OnOk result (Says F.shown
+    ensures said { OnOk result (Says (F.shown (marks_in main.now))
         (AreTypesSaid F.typed (world_of main.now) (key_of main.now))
         (F.printed out.old) (F.printed out.new)) }
     ensures kept { OnOk result (F.before out.new ≡ F.before out.old) }
@@ -56,16 +56,16 @@ pub(crate) fn put_types<F: Form>(
 }
 
 /// Says it of all of them.
-fn put_all_typed<F: Form>(
+fn put_all_typed<'a, F: TypedForm<'a>>(
     alloc: Global,
-    main: &MainModule<'_, '_, '_>,
-    needed: &NeededTypes<'_>,
+    main: &MainModule<'a>,
+    needed: &NeededTypes<'a>,
     out: &mut F,
 ) -> Result<(), GcFault>
     requires nameable { AreNameable (world_of main.now) }
     requires main { IsFollowedIn main.now }
     requires needed { AreNeededIn (world_of main.now) needed.now }
-    ensures said { OnOk result (Says F.shown
+    ensures said { OnOk result (Says (F.shown (marks_in main.now))
         (AreTypesSaid F.typed (world_of main.now) (key_of main.now))
         (F.printed out.old) (F.printed out.new)) }
     ensures kept { OnOk result (F.before out.new ≡ F.before out.old) }
@@ -78,18 +78,18 @@ fn put_all_typed<F: Form>(
 }
 
 /// Says it of an interface, if it is asked about and imported for its types alone.
-fn put_if_typed<F: Form>(
+fn put_if_typed<'a, F: TypedForm<'a>>(
     alloc: Global,
-    main: &MainModule<'_, '_, '_>,
-    needed: &NeededTypes<'_>,
-    imported: (&Option<String>, &ImportedInterface),
+    main: &MainModule<'a>,
+    needed: &NeededTypes<'a>,
+    imported: (&'a Option<String>, &'a ImportedInterface),
     out: &mut F,
 ) -> Result<(), GcFault>
     requires nameable { AreNameable (world_of main.now) }
     requires main { IsFollowedIn main.now }
     requires needed { AreNeededIn (world_of main.now) needed.now }
-    ensures said { OnOk result (Says F.shown (IsTypedSaid F.typed (world_of main.now)
-        (key_of main.now) (imported_shown imported.entry))
+    ensures said { OnOk result (Says (F.shown (marks_in main.now))
+        (IsTypedSaid F.typed (world_of main.now) (key_of main.now) (imported_shown imported.entry))
         (F.printed out.old) (F.printed out.new)) }
     ensures kept { OnOk result (F.before out.new ≡ F.before out.old) }
     ensures fault { IfErr result (IsWaysFault (world_of main.now)) }

@@ -1,23 +1,37 @@
 //! The paths to the functions that a component imports.
 
-ghost use Rattle.std.specs.Prelude.{◌≡◌, [], IfErr, IfOk, OnOk, string_bytes};
+ghost use Rattle.std.specs.Prelude.{◌≡◌, ◌<◌, [], IfErr, IfOk, OnOk, length, map, string_bytes};
 ghost use Rattle.wc_plan.specs.Fault.{AreNameable};
+ghost use Rattle.wc_tree.specs.Tree.{tree_view};
 ghost use Rattle.wc_world.specs.WorldViews.{world_view};
 ghost use Rattle.wc_ways.specs.Private.Adapters.{IsMainOf};
-ghost use Rattle.wc_ways.specs.Said.{IsAllSaid, Says};
-ghost use Rattle.wc_ways.specs.Ways.{IsWaysJson, IsWaysText, or_none};
+ghost use Rattle.wc_ways.specs.Said.{AreModulesSaid, AreTypesSaid};
+ghost use Rattle.wc_component_tree.specs.Said.{Says};
+ghost use Rattle.wc_ways.specs.Ways.{ArePaths, IsWaysText, or_none, way_lines};
 ghost use Rattle.wc_ways.specs.WaysFaults.{IsWaysFault};
-ghost use Rattle.wc_ways.specs.Nodes.{IsWaysGraph};
+ghost use Rattle.wc_ways.specs.WaysTree.{IsWaysGraph, IsWaysJson};
+ghost use Rattle.wc_ways.specs.Private.Found.{AreFound};
+ghost use Rattle.wc_component_tree.specs.Found.{found_view};
+ghost use Rattle.wc_ways.specs.Private.MainWays.{IsFollowedIn, key_of, marks_in, world_of};
+ghost use Rattle.wc_ways.specs.Private.TreeFrom.{IsGraphFrom, IsJsonFrom, IsMarkedFrom};
+ghost use Rattle.wc_ways.specs.Private.TypedFound.{AreTypedFound, typed_view};
 
 use crate::adapters::put_adapters;
-use crate::forms::{Form, Graph};
+use crate::forms::Form;
+use crate::found::Found;
 use crate::main_paths::MainPaths;
+use crate::marked::marks_for;
 use crate::modules::MainModule;
+use crate::tree::tree_of;
+use crate::tree_marks::marked_tree;
+use crate::typed_ends::cites_of;
+use crate::typed_found::{FoundTyped, FoundTypes};
 use crate::types::put_types;
 use std::alloc::{AllocError, Global};
+use wc_component_tree::FoundModule;
 use wc_gc::GcFault;
 use wc_json::escaped;
-use wc_why::{begin_paths, end_paths};
+use wc_tree::{Tree, tree_to_graph, tree_to_json};
 use wc_world::ComponentWorld;
 
 /// The paths to what the modules of a component import of what its world imports, as lines: of what `key` asks about
@@ -42,11 +56,18 @@ use wc_world::ComponentWorld;
 ///   `adapter ADAPTER imports MODULE NAME`;
 /// - of a library `adapter ADAPTER imports MODULE NAME` alone.
 ///
+/// The line of an item, or of a segment, begins with `* ` in place of two blanks where it is marked: each path from where
+/// paths begin in the component to any import that is asked about goes through it, and it is no such import itself. Such paths
+/// go on from an import of the main module to the export of the adapter that it imports. They begin at the main module's
+/// exports, its start function and its active segments, and at its imports to which none of these leads; at the exports for
+/// which an adapter was trimmed and that the main module doesn't import; and at libraries. Where `key` is `all` no line is
+/// marked.
+///
 /// After these there is a line `INTERFACE: for its types` for each interface of which no function is lowered and no resource
 /// dropped, but types are live, in the world's order. Under it are the lines of the first root that needs such a type, of those
 /// of the live types in their order: of an import of a module those of the path to it, which end with that import;
 /// `world imports NAME` for a type that the world itself imports, and `world exports NAME` for an export of it. The last line
-/// is `type NAME`: the type of INTERFACE that is live first.
+/// is `type NAME`: the type of INTERFACE that is live first. None of these lines is marked.
 ///
 /// Where nothing is imported that is asked about, there is one line, `KEY: in the world, not imported`. Texts from outside are escaped
 /// (`wc_json::escaped`), and a blank in them is `\u{20}`; in the line of a key it stays.
@@ -65,30 +86,25 @@ pub fn ways_text(alloc: Global, world: &ComponentWorld<'_>, key: &str) -> Result
         (string_bytes s)) }
     ensures fault { IfErr result (IsWaysFault (world_view world.now)) }
 {
-    let mut text = String::new(alloc);
-    put_all(alloc, world, key, &mut text)?;
-    Ok(text_or_none(alloc, key, text)?)
+    let main = main_of(alloc, world)?;
+    text_in(alloc, world, key, &main)
 }
 
-/// The paths of `ways_text` as JSON, in one line: an object whose member `ways` is the list of them, in its order. Each is an
-/// object with `interface` and `name`, the interface of the import and its name, and `steps`, the list of the steps of the
-/// path to it. An interface that is imported for its types alone has null for `name`; its steps lead to what needs them, and the
-/// last is the type that is live first. A step is an object whose first member is `kind`:
+/// The paths of `ways_text` as a tree, which has each item of a module once, as JSON in one line (`wc_tree::tree_to_json`). Its
+/// modules are the main module and then each adapter, in order. A path through an adapter is read from its last item back to the
+/// export where it begins there, and, if the main module imports that, from its import back to where the path begins in the main
+/// module. An import of the main module to which no path is known is an item that says why where it begins: `unreached` or
+/// `unread`. Of a library each import that is asked about is an item, to which nothing leads.
 ///
-/// - `import`, with `adapter`, `module` and `name`: that adapter, or library, imports it; null stands for the main module;
-/// - `export`, with `adapter` and `name`: that adapter exports it; null stands for the main module;
-/// - `start`: the start function of the main module;
-/// - `fills`, with `space` (`table` or `memory`) and `index`: what an active segment of the main module fills;
-/// - `unreached`: nothing in the main module leads to the import;
-/// - `unread`, with `function` or `section`: what can't be read of the main module;
-/// - `item`, with `space` (`type`, `func`, `table`, `memory`, `global`, `elem` or `data`), `index` and `name`: the item of the
-///   main module, or of the adapter, as the encoder has it; the name is that of a function in the name section, or null;
-/// - `world`, with `side` (`imports` or `exports`) and `name`: what the world itself imports or exports;
-/// - `type`, with `name`: a type of the interface.
+/// A path for types alone ends where what needs them is: at an import of the main module or of an adapter, at one of a library, to which no
+/// item leads, or at what the world itself imports or exports. Where nothing is known to need them, it ends nowhere.
 ///
-/// Where nothing is imported that is asked about, the list is empty. Texts are escaped by the rules of JSON alone.
+/// An item is marked (`only`) where its line in `ways_text` would be; where `key` is `all` there are no marks.
 ///
-/// It takes the time and memory of `ways_text`.
+/// Where nothing is imported that is asked about, there are no items and no paths. Texts are escaped by the rules of JSON alone.
+///
+/// It takes time and memory linear in the modules and in the types, however long the paths are; and also time linear in the types to
+/// which it refers for each exported interface.
 ///
 /// # Errors
 ///
@@ -98,21 +114,15 @@ pub fn ways_json(alloc: Global, world: &ComponentWorld<'_>, key: &str) -> Result
     ensures json { IfOk result (λ v. IsWaysJson (world_view world.now) key.now v.items) }
     ensures fault { IfErr result (IsWaysFault (world_view world.now)) }
 {
-    let mut out = begin_paths(alloc)?;
-    put_all(alloc, world, key, &mut out)?;
-    Ok(end_paths(out)?)
+    let main = main_of(alloc, world)?;
+    json_in(alloc, world, key, &main)
 }
 
-/// The paths of `ways_text` as a graph, in the language of Graphviz: the main module, each adapter and each library as a cluster; in the
-/// main module its steps, with an arrow to each from the one before, and from the last to what it leads to: an import, or the
-/// export of an adapter where a path begins; in an adapter the items of all paths
-/// together, which are a tree, with an arrow to each from the item that first names it, or from the export that does; and
-/// a node for each import that is asked about, with arrows from the items, or modules, that import it. An interface that is
-/// imported for its types alone is a node without arrows. Texts are escaped as in the lines, and then as Graphviz has to
-/// read them between quotes. Where nothing is imported that is asked about, no import is in the graph.
+/// The tree of `ways_json` as a graph, in the language of Graphviz (`wc_tree::tree_to_graph`): a cluster for each module, with a box for
+/// each run of items, and a box for each interface. The line of an item that is marked begins with `* `.
 ///
-/// It takes time and memory linear in the modules and in the paths in the main module: of many long paths through an adapter
-/// it has each item once.
+/// It takes time and memory linear in the modules and in the types, however long the paths are; and also time linear in the types to
+/// which it refers for each exported interface.
 ///
 /// # Errors
 ///
@@ -123,12 +133,197 @@ pub fn ways_graph(alloc: Global, world: &ComponentWorld<'_>, key: &str) -> Resul
         (string_bytes s)) }
     ensures fault { IfErr result (IsWaysFault (world_view world.now)) }
 {
-    let mut graph = Graph {
-        text: String::new(alloc),
+    let main = main_of(alloc, world)?;
+    graph_in(alloc, world, key, &main)
+}
+
+/// The lines, by the paths in the main module.
+fn text_in<'a>(
+    alloc: Global,
+    world: &'a ComponentWorld<'a>,
+    key: &'a str,
+    main: &'a MainPaths<'a>,
+) -> Result<String, GcFault>
+    requires nameable { AreNameable (world_view world.now) }
+    requires main { IsMainOf (world_view world.now) main.now }
+    ensures text { IfOk result (λ s. IsWaysText (world_view world.now) key.now
+        (string_bytes s)) }
+    ensures fault { IfErr result (IsWaysFault (world_view world.now)) }
+{
+    let marks = marks_for(alloc, world, key, main)?;
+    let module = MainModule {
+        world,
+        key,
+        paths: main,
+        marks: &marks,
     };
-    put_all(alloc, world, key, &mut graph)?;
-    let text = &graph.text;
-    Ok(format!(in alloc; "strict digraph wcplan {{\n{text}}}\n")?)
+    let mut text = String::new(alloc);
+    put_lines(alloc, &module, &mut text)?;
+    Ok(text_or_none(alloc, key, text)?)
+}
+
+/// The JSON of the tree, by the paths in the main module.
+fn json_in<'a>(
+    alloc: Global,
+    world: &'a ComponentWorld<'a>,
+    key: &'a str,
+    main: &'a MainPaths<'a>,
+) -> Result<Vec<u8>, GcFault>
+    requires nameable { AreNameable (world_view world.now) }
+    requires main { IsMainOf (world_view world.now) main.now }
+    ensures json { IfOk result (λ v. IsWaysJson (world_view world.now) key.now v.items) }
+    ensures fault { IfErr result (IsWaysFault (world_view world.now)) }
+{
+    let marks = marks_for(alloc, world, key, main)?;
+    let module = MainModule {
+        world,
+        key,
+        paths: main,
+        marks: &marks,
+    };
+    let found = all_found(alloc, &module)?;
+    Ok(json_of(alloc, &module, &found)?)
+}
+
+/// The JSON of the tree of what was found.
+fn json_of<'a>(
+    alloc: Global,
+    main: &MainModule<'a>,
+    found: &'a AllFound<'a>,
+) -> Result<Vec<u8>, AllocError>
+    ensures { IfOk result (λ v. IsJsonFrom (marks_in main.now) main.now.paths.now
+        (map found_view «found».now.modules.items) (map typed_view «found».now.typed.items)
+        v.items) }
+{
+    let tree = tree_with(alloc, main, found)?;
+    tree_to_json(alloc, &tree)
+}
+
+/// The graph of the tree, by the paths in the main module.
+fn graph_in<'a>(
+    alloc: Global,
+    world: &'a ComponentWorld<'a>,
+    key: &'a str,
+    main: &'a MainPaths<'a>,
+) -> Result<String, GcFault>
+    requires nameable { AreNameable (world_view world.now) }
+    requires main { IsMainOf (world_view world.now) main.now }
+    ensures graph { IfOk result (λ s. IsWaysGraph (world_view world.now) key.now
+        (string_bytes s)) }
+    ensures fault { IfErr result (IsWaysFault (world_view world.now)) }
+{
+    let marks = marks_for(alloc, world, key, main)?;
+    let module = MainModule {
+        world,
+        key,
+        paths: main,
+        marks: &marks,
+    };
+    let found = all_found(alloc, &module)?;
+    Ok(graph_of(alloc, &module, &found)?)
+}
+
+/// The graph of the tree of what was found.
+fn graph_of<'a>(
+    alloc: Global,
+    main: &MainModule<'a>,
+    found: &'a AllFound<'a>,
+) -> Result<String, AllocError>
+    ensures { IfOk result (λ s. IsGraphFrom (marks_in main.now) main.now.paths.now
+        (map found_view «found».now.modules.items) (map typed_view «found».now.typed.items)
+        (string_bytes s)) }
+{
+    let tree = tree_with(alloc, main, found)?;
+    tree_to_graph(alloc, *main.world.adapters.hasher(), &tree)
+}
+
+/// The tree of what was found, with the marks of its items.
+fn tree_with<'a>(
+    alloc: Global,
+    main: &MainModule<'a>,
+    found: &'a AllFound<'a>,
+) -> Result<Tree<'a>, AllocError>
+    ensures { IfOk result (λ t. IsMarkedFrom (marks_in main.now) main.now.paths.now
+        (map found_view «found».now.modules.items) (map typed_view «found».now.typed.items)
+        (tree_view t)) }
+{
+    let seed = *main.world.adapters.hasher();
+    let tree = tree_of(alloc, seed, main.paths, &found.modules, &found.typed)?;
+    marked_tree(alloc, main.world, main.marks, &tree)
+}
+
+/// The paths in the main module of a component's world.
+fn main_of<'a>(alloc: Global, world: &'a ComponentWorld<'_>) -> Result<MainPaths<'a>, AllocError>
+    ensures { IfOk result (IsMainOf (world_view world.now)) }
+{
+    MainPaths::find(alloc, *world.adapters.hasher(), world.encoder.module())
+}
+
+/// The modules of a component with their items on paths, and the interfaces that are imported for their types alone.
+#[derive(Drop)]
+struct AllFound<'a> {
+    modules: Vec<FoundModule<'a>>,
+    typed: Vec<FoundTyped<'a>>,
+}
+
+/// The items of the modules on the paths to what is asked about, and the interfaces that are imported for their types alone.
+fn all_found<'a>(alloc: Global, main: &MainModule<'a>) -> Result<AllFound<'a>, GcFault>
+    requires nameable { AreNameable (world_of main.now) }
+    requires main { IsFollowedIn main.now }
+    ensures typed { IfOk result (λ f. AreTypesSaid AreTypedFound (world_of main.now)
+        (key_of main.now) (map typed_view f.typed.items)) }
+    ensures modules { IfOk result (λ f. AreFound (world_of main.now) (key_of main.now)
+        (map found_view f.modules.items)) }
+    ensures all { IfOk result (λ f. length (world_of main.now).adapters
+        < length f.modules.items) }
+    ensures fault { IfErr result (IsWaysFault (world_of main.now)) }
+{
+    let typed = types_of(alloc, main)?;
+    let modules = modules_of(alloc, main, &typed)?;
+    Ok(AllFound { modules, typed })
+}
+
+/// The interfaces that are asked about and imported for their types alone.
+fn types_of<'a>(alloc: Global, main: &MainModule<'a>) -> Result<Vec<FoundTyped<'a>>, GcFault>
+    requires nameable { AreNameable (world_of main.now) }
+    requires main { IsFollowedIn main.now }
+    ensures typed { IfOk result (λ v. AreTypesSaid AreTypedFound (world_of main.now)
+        (key_of main.now) (map typed_view v.items)) }
+    ensures fault { IfErr result (IsWaysFault (world_of main.now)) }
+{
+    let mut typed = FoundTypes {
+        list: Vec::new(alloc),
+    };
+    put_types(alloc, main, &mut typed)?;
+    Ok(typed.list)
+}
+
+/// The items of the modules on the paths to what is asked about, and to what needs the types for which something is imported.
+fn modules_of<'a>(
+    alloc: Global,
+    main: &MainModule<'a>,
+    typed: &[FoundTyped<'a>],
+) -> Result<Vec<FoundModule<'a>>, GcFault>
+    requires nameable { AreNameable (world_of main.now) }
+    requires main { IsFollowedIn main.now }
+    ensures found { IfOk result (λ v. AreFound (world_of main.now) (key_of main.now)
+        (map found_view v.items)) }
+    ensures all { IfOk result (λ v. length (world_of main.now).adapters < length v.items) }
+    ensures fault { IfErr result (IsWaysFault (world_of main.now)) }
+{
+    let cites = cites_of(alloc, *main.world.adapters.hasher(), typed)?;
+    let mut found = Found {
+        modules: Vec::new(alloc),
+        cites,
+    };
+    put_modules(alloc, main, &mut found)?;
+    let Found { modules, .. } = found;
+    if main.world.adapters.len() < modules.len() {
+        Ok(modules)
+    } else {
+        // Each adapter of the world is one that its encoder has, so that all are there.
+        Err(GcFault::Memory)
+    }
 }
 
 /// The lines; or the line that nothing is imported.
@@ -150,46 +345,32 @@ fn none_text(alloc: Global, key: &str) -> Result<String, AllocError>
     format!(in alloc; "{key}: in the world, not imported\n")
 }
 
-/// Says what leads to imports of the main module and of each adapter, and then what is imported for its types alone.
-fn put_all<F: Form>(
-    alloc: Global,
-    world: &ComponentWorld<'_>,
-    key: &str,
-    out: &mut F,
-) -> Result<(), GcFault>
-    requires { AreNameable (world_view world.now) }
-    ensures said { OnOk result (Says F.shown
-        (IsAllSaid F.leading F.alone F.saying F.typed (world_view world.now) key.now)
-        (F.printed out.old) (F.printed out.new)) }
-    ensures kept { OnOk result (F.before out.new ≡ F.before out.old) }
-    ensures fault { IfErr result (IsWaysFault (world_view world.now)) }
+/// Prints what leads to imports of the main module and of each adapter, and then what is imported for its types alone.
+fn put_lines<'a>(alloc: Global, main: &MainModule<'a>, text: &mut String) -> Result<(), GcFault>
+    requires nameable { AreNameable (world_of main.now) }
+    requires main { IsFollowedIn main.now }
+    ensures said { OnOk result (Says (way_lines (marks_in main.now))
+        (ArePaths (world_of main.now) (key_of main.now)) (string_bytes text.old) (string_bytes text.new)) }
+    ensures fault { IfErr result (IsWaysFault (world_of main.now)) }
 {
-    let main = MainPaths::find(alloc, *world.adapters.hasher(), world.encoder.module())?;
-    put_modules(alloc, world, key, &main, out)
+    put_modules(alloc, main, text)?;
+    put_types(alloc, main, text)
 }
 
-/// Says of the modules what `put_all` says, by the paths in the main module.
-fn put_modules<F: Form>(
+/// Says what leads to imports of the main module and of each adapter.
+fn put_modules<'a, F: Form<'a>>(
     alloc: Global,
-    world: &ComponentWorld<'_>,
-    key: &str,
-    main: &MainPaths<'_>,
+    main: &MainModule<'a>,
     out: &mut F,
 ) -> Result<(), GcFault>
-    requires nameable { AreNameable (world_view world.now) }
-    requires main { IsMainOf (world_view world.now) main.now }
-    ensures said { OnOk result (Says F.shown
-        (IsAllSaid F.leading F.alone F.saying F.typed (world_view world.now) key.now)
+    requires nameable { AreNameable (world_of main.now) }
+    requires main { IsFollowedIn main.now }
+    ensures said { OnOk result (Says (F.shown (marks_in main.now))
+        (AreModulesSaid F.leading F.alone F.saying (world_of main.now) (key_of main.now))
         (F.printed out.old) (F.printed out.new)) }
     ensures kept { OnOk result (F.before out.new ≡ F.before out.old) }
-    ensures fault { IfErr result (IsWaysFault (world_view world.now)) }
+    ensures fault { IfErr result (IsWaysFault (world_of main.now)) }
 {
-    let module = MainModule {
-        world,
-        key,
-        paths: main,
-    };
-    out.put_main(alloc, &module)?;
-    put_adapters(alloc, world, key, main, out)?;
-    put_types(alloc, &module, out)
+    out.put_main(alloc, main)?;
+    put_adapters(alloc, main, out)
 }

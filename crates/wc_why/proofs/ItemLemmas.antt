@@ -1,10 +1,8 @@
 -- Each import is an item, which is where its position says.
 use Rattle.std.proofs.Common.{◌≡◌, ℕ, zero, suc, ◌+◌, ◌<◌, List, [], ◌∷◌, length, true, Some, refl, ◌∙◌, ap, subst, arith, inl, inr}
 use Rattle.std.proofs.lemmas.Bool.{cases_Bool}
-use Rattle.std.proofs.lemmas.List.Elements.{Contains-get_or}
-use Rattle.std.proofs.lemmas.Option.{get_or_from_slice_get, slice_get_cases, slice_get_within}
+use Rattle.std.proofs.lemmas.Option.{slice_get_within}
 use Rattle.std.specs.List.{slice_get}
-use Rattle.std.specs.Prelude.{Contains}
 use Rattle.wc_read.specs.Imports.{ImportValue}
 use Rattle.wc_read.specs.Laws.{HasOneValue}
 use Rattle.wc_read.specs.Modules.{ModuleValue, SpellsModule}
@@ -17,7 +15,6 @@ use Rattle.wc_gc.specs.RestrictionLaws.{is_in_space, positions_from}
 use Rattle.wc_gc.specs.LiveChains.{AreImportChains, AreWhyImports}
 use Rattle.wc_gc.specs.LiveItems.{TrimInput}
 use Rattle.wc_gc.specs.declared.import_chains.ImportChains.{ImportChains}
-use Rattle.wc_why.specs.Marks.{AreInside}
 
 abbrev space_of : ImportType → Space
 space_of (Func index) = Funcs
@@ -50,19 +47,6 @@ index_there required m c position index i a e f =
     let x = item_from m.imports 0 position i e in
     let at : slice_get (positions_from x.0.0 0 m.imports) x.0.1 ≡ Some position = x.1 ∙ ap Some (omega arith) in
     slice_get_within c.order.items index x.0 (a.imports.at position x.0 (Some index) at f)
-
-pub got_contains : (xs : List ItemIndex) (k : ℕ) (x : ItemIndex) → slice_get xs k ≡ Some x → Contains xs x
-got_contains xs k x e = subst (Contains xs) (get_or_from_slice_get xs k x x e) (Contains-get_or xs k x (slice_get_within xs k x e))
-
--- so all are in range
-pub inside_of : (required : List (List ℕ)) (m : ModuleValue) (c : ImportChains) → AreImportChains required m c → AreInside c
-inside_of required m c a position index e =
-    let each = a.imports.each in
-    let lt = slice_get_within c.imports.items position (Some index) e in
-    elim (slice_get_cases m.imports position).1 [
-      | inl there ↦ index_there required m c position index there.0 a there.2 e
-      | inr past ↦ absurd (let le = past.0 in omega (arith, each, lt, le))
-    ]
 
 -- the chains are those of the module that was read
 pub chains_of_read : (one : HasOneValue SpellsModule) (w : TrimInput) (m : ModuleValue) (c : ImportChains) → SpellsModule w.bytes m → AreWhyImports w c

@@ -1,7 +1,5 @@
-pub mod MarkLemmas
 pub mod JoinedLemmas
 pub mod PathLemmas
 pub mod CallerLemmas
 pub mod ItemLemmas
 pub mod TokenLemmas
-pub mod GraphLemmas

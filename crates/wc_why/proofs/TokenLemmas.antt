@@ -8,8 +8,7 @@ use Rattle.json.specs.Token.{Token, begin_array, begin_object, end_array, end_ob
 use Rattle.json.specs.Tree.{items_tokens, json_tokens}
 use Rattle.json.specs.Written.{Writes, Written}
 use Rattle.wc_json.specs.Shapes.{array_of, items_of, object_of}
-use Rattle.wc_why.specs.JsonPaths.{begun_tokens, ended_tokens, path_json, paths_json}
-use Rattle.wc_why.specs.Paths.{PathView}
+use Rattle.wc_why.specs.JsonPaths.{begun_tokens, ended_tokens}
 use Rattle.wc_why.specs.Private.Tokens.{Puts}
 
 -- tokens after others
@@ -101,7 +100,3 @@ module _ {V : Type 0} (json : V → Json) where
       (ap (λ z. begin_array ∷ z) (ap (λ z. z ++ end_array ∷ end_object ∷ []) (of_map vs)
       ∙ sym (append_assoc (flat_map json_tokens (map json vs)) (end_array ∷ []) (end_object ∷ [])))
       ∙ ap (λ z. z ++ end_object ∷ []) (sym (array_are (map json vs))))
-
--- of paths
-pub paths_tokens : (paths : List PathView) → ended_tokens (begun_tokens ++ flat_map (λ p. json_tokens (path_json p)) paths) ≡ json_tokens (paths_json paths)
-paths_tokens paths = ways_tokens path_json paths

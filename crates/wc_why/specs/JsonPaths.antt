@@ -98,7 +98,3 @@ begun_tokens = begin_object ∷ key (codes "ways") ∷ begin_array ∷ []
 
 abbrev pub ended_tokens : List Token → List Token
 ended_tokens ts = ts ++ end_array ∷ end_object ∷ []
-
--- paths, in order
-abbrev pub paths_json : List PathView → Json
-paths_json paths = object_of ((codes "ways", array_of (map path_json paths)) ∷ [])

@@ -4,7 +4,6 @@ pub mod Paths
 pub mod Lines
 pub mod JsonPaths
 pub mod MarkedPaths
+pub mod MarkedSteps
 pub mod Joined
-pub mod Marks
-pub mod Graph
 pub mod Private

@@ -1,25 +1,19 @@
-//! Why a module imports something: the path to an import, as a value of steps, and printers of paths: as lines, as JSON
-//! and as a graph in the language of Graphviz.
+//! Why a module imports something: the path to an import, as a value of steps, and printers of paths: as lines and as JSON.
 //!
 //! A `Path` leads to one import by its `Step`s. It is made once, from a chain of `wc_gc::why_imports` (`push_items`), and
-//! given to a `PathPrinter`: a `String` takes the lines of paths, a `json::Writer` takes them as JSON. A graph is drawn of
-//! the tree that all chains of a module are in (`Tree`), with the items that are on paths to what is asked for (`marks_of`).
+//! given to a `PathPrinter`: a `String` takes the lines of paths, a `json::Writer` takes them as JSON.
 //!
 //! A key asks about imports: it is a name or a package, with a version or without (`asks_about`).
 #![tactic(auto)]
 
-mod graph;
 mod json_paths;
 mod keys;
 mod lines;
 mod marked_paths;
-mod marks;
+mod marked_steps;
 mod paths;
 mod texts;
 
-pub use graph::{
-    NodeNames, Tree, arrow_text, export_id, item_id, item_nodes, target_box, target_node,
-};
 pub use json_paths::{
     begin_object, begin_paths, end_object, end_paths, put_fills, put_kind, put_null, put_number,
     put_text, put_text_or_null,
@@ -30,9 +24,9 @@ pub use lines::{
     unfollowed_text,
 };
 pub use marked_paths::{push_marked_path, put_marked_path};
-pub use marks::marks_of;
+pub use marked_steps::{MarkedPath, MarkedPathPrinter, MarkedStep};
 pub use paths::{
-    CalledBy, Caller, Path, PathPrinter, SegmentKind, Step, Target, Unfollowed, WorldSide,
+    CalledBy, Caller, Path, PathPrinter, SegmentKind, Step, Target, Unfollowed, WorldSide, name_in,
     push_items, push_path_items,
 };
 pub use texts::{graph_text, two_words, word};

@@ -112,7 +112,7 @@ fn segment_item(kind: SegmentKind, index: usize) -> PathItem
 }
 
 /// The line of a step that is marked.
-fn marked_line(alloc: Global, step: Step<'_>) -> Result<String, AllocError>
+pub(crate) fn marked_line(alloc: Global, step: Step<'_>) -> Result<String, AllocError>
     ensures { IfOk result (λ s. string_bytes s ≡ marked_line (step_view step.entry)) }
 {
     match step {

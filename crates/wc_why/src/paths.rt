@@ -204,7 +204,7 @@ fn item_step<'r>(names: &OrderedMap<u32, &'r str>, item: (Space, u32)) -> Step<'
 }
 
 /// The name of a function that has one. Items of other spaces have none.
-pub(crate) fn name_in<'r>(names: &OrderedMap<u32, &'r str>, item: (Space, u32)) -> Option<&'r str>
+pub fn name_in<'r>(names: &OrderedMap<u32, &'r str>, item: (Space, u32)) -> Option<&'r str>
     ensures { option_map text_of result ≡ name_in (name_entries names.now) item }
 {
     match item {
@@ -276,7 +276,8 @@ fn called_by<'r>(names: &OrderedMap<u32, &'r str>, functions: &[usize]) -> Calle
 /// A function with its name.
 fn caller_of<'r>(names: &OrderedMap<u32, &'r str>, function: Option<&usize>) -> Option<Caller<'r>>
     ensures { option_map caller_view result
-        ≡ option_map (λ n. (n, name_of (name_entries names.now) Funcs n)) (option_copied function.entry) }
+        ≡ option_map (λ n. (n, name_of (name_entries names.now) Funcs n))
+        (option_copied function.entry) }
 {
     match function {
         Some(index) => Some(Caller {

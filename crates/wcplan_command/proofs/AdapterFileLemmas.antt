@@ -19,7 +19,7 @@ use Rattle.wcplan_command.specs.Program.{HoldsInput, IsAdapterIn, IsFileIn, adap
 use Rattle.wcplan_command.specs.Private.AdapterFiles.{IsAdapterOf}
 use Rattle.wcplan_command.specs.Private.SharedKeys.{file_bytes}
 use Rattle.wcplan_command.specs.declared.adapter_files.AdapterFile.{AdapterFile}
-use Rattle.wcplan_command.proofs.SharedKeyLemmas.{zip_push}
+use Rattle.wc_options.proofs.AdapterLemmas.{zip_push}
 
 abbrev Files : Type 0
 Files = List (List ℕ × List ℕ)

@@ -1,20 +1,10 @@
 -- Files of a command that are standard input.
-use Rattle.std.proofs.Common.{◌≡◌, ◌∙◌, ap, arith, cond, false, filter, length, List, map, nat_eq, nat_lt, refl, suc, sym, true, zero, ◌∷◌, Bool, ℕ}
-use Rattle.std.proofs.lemmas.Bool.{le-ltb, ne_eqb}
+use Rattle.std.proofs.Common.{◌≡◌, ◌∙◌, ap, arith, cond, false, filter, length, List, map, nat_eq, nat_lt, suc, sym, true, ◌∷◌, Bool, ℕ}
+use Rattle.std.proofs.lemmas.Bool.{le-ltb}
 use Rattle.std.specs.Borrow.{Bor}
-use Rattle.wc_selection.proofs.KeyNameLemmas.{count_map}
+use Rattle.wc_options.proofs.AdapterLemmas.{Pairs, none_more, standard_paths}
 use Rattle.wc_selection.specs.Texts.{second_parts, text_pair}
-use Rattle.wcplan_command.specs.Reading.{is_standard}
-
--- paths of adapters
-abbrev Pairs : Type 0
-Pairs = List (Bor (List ℕ) × Bor (List ℕ))
-
--- adapters on standard input, by their paths
-standard_paths : (pairs : Pairs) → length (filter is_standard (second_parts (map text_pair pairs)))
-    ≡ length (filter (λ (a : Bor (List ℕ) × Bor (List ℕ)). is_standard a.1.now) pairs)
-standard_paths pairs =
-    count_map (λ (p : List ℕ × List ℕ). p.1) is_standard (map text_pair pairs) ∙ count_map text_pair (λ (p : List ℕ × List ℕ). is_standard p.1) pairs
+use Rattle.wc_options.specs.Adapters.{is_standard}
 
 -- so many adapters are, beside the worlds and the main module
 abbrev pub tested : Bool → Bool → ℕ → Bool
@@ -22,13 +12,6 @@ tested true true n = false
 tested true false n = nat_eq n 0
 tested false true n = nat_eq n 0
 tested false false n = nat_lt n 2
-
-none_more : (n : ℕ) → nat_eq n 0 ≡ nat_lt (suc n) 2
-none_more zero = refl
-none_more (suc n) =
-    let some : nat_eq (suc n) 0 ≡ false = ne_eqb (suc n) 0 (λ same. let bad : ⊥ = omega (arith, same) in bad) in
-    let several : nat_lt (suc (suc n)) 2 ≡ false = le-ltb (suc (suc n)) 2 (omega arith) in
-    some ∙ sym several
 
 counted : (x y : Bool) (w m : List ℕ) (rest : List (List ℕ)) (n : ℕ) → n ≡ length rest
     → tested x y n ≡ nat_lt (length (cond x (w ∷ cond y (m ∷ rest) rest) (cond y (m ∷ rest) rest))) 2

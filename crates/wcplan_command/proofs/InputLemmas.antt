@@ -1,5 +1,5 @@
 -- The parts of an encoder: what modules have to export, and the modules themselves.
-use Rattle.std.proofs.Common.{◌≡◌, ℕ, Bool, true, false, ◌&&◌, not, ◌==◌, List, [], ◌∷◌, map, length, None, refl, sym, ◌∙◌, ap, subst, Option, Result, Ok, Err, IfOk, inl, inr, arith}
+use Rattle.std.proofs.Common.{◌≡◌, ℕ, Bool, true, false, ◌&&◌, not, ◌==◌, List, [], ◌∷◌, map, length, None, refl, sym, ◌∙◌, ap, subst, Option, Result, Ok, Err, IfOk, inl, inr, arith, string_bytes}
 use Rattle.std.specs.List.{AllZip}
 use Rattle.std.proofs.lemmas.Bool.Decides.{eqb_tells}
 use Rattle.wc_adapters.specs.Adapters.{adapter_entry}
@@ -10,13 +10,15 @@ use Rattle.wc_program.specs.Files.{Held}
 use Rattle.wc_selection.specs.Keys.{NamedKey}
 use Rattle.wc_selection.specs.ModuleKeys.{required_keys}
 use Rattle.wc_selection.specs.Requests.{RequestValue}
+use Rattle.wc_selection.specs.declared.main_module.MainModule.{MainModule}
 use Rattle.wcplan_command.specs.Arguments.{CommandView}
 use Rattle.wcplan_command.specs.ModuleKeys.{hook_of, request_of, request_with}
 use Rattle.wcplan_command.specs.Program.{IsFileIn, IsMainIn, IsPartsWith}
 use Rattle.wcplan_command.specs.SharedKeys.{AreGiven, AreSharedAmong, ExportScope, is_open, scope_of}
 use Rattle.wcplan_command.specs.Private.AdapterFiles.{IsAdapterOf}
-use Rattle.wcplan_command.specs.Private.Inputs.{AreRequested, AreSharedModules}
+use Rattle.wcplan_command.specs.Private.Inputs.{AreModulesIn, AreRequested, AreSharedModules}
 use Rattle.wcplan_command.specs.Private.SharedKeys.{adapters_request}
+use Rattle.wcplan_command.specs.declared.inputs.CommandModules.{CommandModules}
 use Rattle.wcplan_command.specs.declared.inputs.RequestedModules.{RequestedModules}
 use Rattle.wcplan_command.proofs.AdapterFileLemmas.{bytes_requested, files_requested}
 use Rattle.wcplan_command.proofs.SharedKeyLemmas.{given_closed, given_open}
@@ -77,6 +79,18 @@ module _ (c : CommandView) (s : ExportScope) (main : List ℕ) (files : Pairs) (
       → AreRequested c s main files keys m
   requested_closed q m closed is exports adapters =
       requested_made c s main files keys c.adapter_exports q m (given_closed c s main files keys c.adapter_exports closed refl) is exports adapters
+
+-- the modules of a command, of which the main one was on the heap
+pub modules_in : (c : CommandView) (before : Option Held) (s : ExportScope) (keys : List NamedKey) (files : Pairs) (m : CommandModules) (main : MainModule)
+    → m.main ≡ main → IsMainIn before c.main main.wasm.items (renames_in main.import_map) → AllZip (IsFileIn before) c.adapters files
+    → AreRequested c s main.wasm.items files keys m.requested → string_bytes m.task_hook ≡ hook_of c → AreModulesIn c before s keys m
+modules_in c before s keys files m main is read files_read requested hook = record {
+  files = files;
+  main_read = subst (λ (x : MainModule). IsMainIn before c.main x.wasm.items (renames_in x.import_map)) (sym is) read;
+  adapters_read = files_read;
+  requested = subst (λ (x : MainModule). AreRequested c s x.wasm.items files keys m.requested) (sym is) requested;
+  hook = hook;
+}
 
 -- the parts that have them
 pub parts_made : (c : CommandView) (before : Option Held) (keys : List NamedKey) (e : EncoderView) (files : Pairs) (m : RequestedModules)

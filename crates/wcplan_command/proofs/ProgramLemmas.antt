@@ -1,5 +1,5 @@
 -- Why an encoder could not be made of the files of a command.
-use Rattle.std.proofs.Common.{◌≡◌, ℕ, List, [], ◌∷◌, map, Option, sym, ◌∙◌, ap, subst, length, get_or, zero, suc, ◌<◌, Contains, inl, inr, arith}
+use Rattle.std.proofs.Common.{◌≡◌, ℕ, List, map, Option, refl, sym, ◌∙◌, ap, subst, length, get_or, ◌<◌, Contains, inl, inr}
 use Rattle.std.specs.Borrow.{Bor}
 use Rattle.wc_encoder.specs.EncoderParts.{EncoderView}
 use Rattle.wc_encoder.specs.Fault.{IsEncoderCause}
@@ -20,8 +20,9 @@ use Rattle.wc_dedupe.specs.Renaming.{RenameView}
 use Rattle.wc_dedupe.specs.declared.fault.DedupeFault.{DedupeFault}
 use Rattle.wc_read.specs.declared.place.ReadPlace.{ReadPlace}
 use Rattle.wc_texts.specs.declared.refused.Refused.{Refused}
-use Rattle.wc_resolve.proofs.SearchLemmas.{contains_head, contains_tail}
+use Rattle.wc_options.proofs.AdapterLemmas.{Pairs, path_at}
 use Rattle.wcplan_command.specs.Fault.{of_encoder, of_exporter}
+use Rattle.wcplan_command.specs.Private.Inputs.{IsUnchecked}
 use Rattle.wcplan_command.specs.Private.Runs.{IsOfMain}
 use Rattle.wcplan_command.specs.ModuleKeys.{AreNamesThere, IsMeant, IsNamesCause, adapter_names, request_of}
 use Rattle.wc_program.specs.Files.{Held}
@@ -88,14 +89,6 @@ parts_cause c before fails d r world keys (Exporter f) chosen is keyed h = (
       (subst (λ k. AreUnsharedIn c before (scope_of c r world) k f) keyed h.1),
 )
 parts_cause c before fails d r world keys f chosen is keyed h = absurd h
-
-abbrev Pairs : Type 0
-Pairs = List (Bor (List ℕ) × Bor (List ℕ))
-
-path_at : (pairs : Pairs) (k : ℕ) (d : Bor (List ℕ) × Bor (List ℕ)) → k < length pairs → Contains (second_parts (map text_pair pairs)) (get_or pairs k d).1.now
-path_at [] k d lt = absurd (omega arith)
-path_at (y ∷ ys) zero d lt = contains_head (second_parts (map text_pair ys)) y.1.now
-path_at (y ∷ ys) (suc k) d lt = contains_tail y.1.now (second_parts (map text_pair ys)) (get_or ys k d).1.now (path_at ys k d (omega arith))
 
 -- an adapter that could not be read
 pub path_cause : (c : CommandView) (fails : Reads) (pairs : Pairs) (k : ℕ) (d : Bor (List ℕ) × Bor (List ℕ)) → k < length pairs
@@ -182,6 +175,11 @@ module _ (c : CommandView) (before : Option Held) (r : ResolveView) (world : ℕ
   asked_worlds fails (NoImport key listing nearest) h =
       (there.0, world, there.1, there.2, there.3, subst (λ q. IsUnasked c.why q world key listing nearest) there.4 h)
   asked_worlds fails f h = absurd h
+
+  -- names, keys, or what is asked about are not there
+  pub unchecked_worlds : (fails : Reads) (f : ProgramFault) → IsUnchecked c r world f → IsPlanCause c before fails f
+  unchecked_worlds fails f (inl listed) = listed_worlds fails (request_keys (request_of c) r world) f refl listed
+  unchecked_worlds fails f (inr asked) = asked_worlds fails f asked
 
   pub chosen_worlds : (keys : List NamedKey) → keys ≡ request_keys (request_of c) r world → AreNamesThere c keys → IsAskedThere c.why r world
       → IsChosen c before there.0 world

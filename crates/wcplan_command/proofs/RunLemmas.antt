@@ -25,7 +25,7 @@ use Rattle.wc_gc.specs.declared.fault.GcFault.TheVariants.{Memory as gc_memory}
 use Rattle.wc_ways.specs.WaysFaults.{IsWaysFault}
 use Rattle.wcplan_command.specs.Fault.{of_gc}
 use Rattle.wcplan_command.specs.Program.{CommandEnds, EndsWell, EndsWith, IsEncoderOf, IsPlanCause, IsPlanned, IsPrintedText, IsRunCause, IsUnwrittenFile, ReadingEnds, Reads, Writing, WritesAll, file_view, files_of}
-use Rattle.wcplan_command.specs.Private.Runs.{AnswersStop, IsDescriptionFault, IsOfPlan, IsOfWorld, IsWritingFault}
+use Rattle.wcplan_command.specs.Private.Runs.{AnswersStop, IsDescriptionFault, IsOfPlan, IsOfWorld, IsWorldFault, IsWritingFault}
 use Rattle.wcplan_command.specs.Warnings.{warnings_text}
 use Rattle.wcplan_command.specs.declared.fault.ProgramFault.{ProgramFault}
 use Rattle.wcplan_command.specs.declared.fault.ProgramFault.TheVariants.{CannotMake, CannotWrite, Output, Plan, Ways, World, Memory as program_memory}
@@ -42,16 +42,21 @@ quiet c files out (CannotWrite path p) kept still h = absurd h
 quiet c files out Output kept still h = absurd h
 quiet c files out f kept still h = (h, kept, still)
 
+-- there is no component's world
+pub world_fault : (e : EncoderView) (f : WorldFault) (g : ProgramFault) → IsWorldMemory e f ⊎ IsComponentWorldCause e f → IsOfWorld e f g
+    → IsWorldFault e g
+world_fault e f program_memory h is = tt
+world_fault e f (World x) h is =
+    let here : (f ≢ world_memory) × (IsWorldMemory e f ⊎ IsComponentWorldCause e f) × IsExplanation e f x.place = (is.1, h, is.2) in
+    subst (λ k. (k ≢ world_memory) × (IsWorldMemory e k ⊎ IsComponentWorldCause e k) × IsExplanation e k x.place) (sym is.0) here
+world_fault e f g h is = absurd is
+
 module _ (c : CommandView) (before : Option Held) (fails : Reads) where
   -- a fault of the component's world
-  pub world_cause : (e : EncoderView) (f : WorldFault) (g : ProgramFault) → IsEncoderOf c before e → IsWorldMemory e f ⊎ IsComponentWorldCause e f
-      → IsOfWorld e f g → IsPlanCause c before fails g
-  world_cause e f program_memory encodes h is = tt
-  world_cause e f (World x) encodes h is =
-      let here : (f ≢ world_memory) × (IsWorldMemory e f ⊎ IsComponentWorldCause e f) × IsExplanation e f x.place = (is.1, h, is.2) in
-      let moved = subst (λ k. (k ≢ world_memory) × (IsWorldMemory e k ⊎ IsComponentWorldCause e k) × IsExplanation e k x.place) (sym is.0) here in
-      (e, encodes, moved.0, moved.1, moved.2)
-  world_cause e f g encodes h is = absurd is
+  pub world_cause : (e : EncoderView) (g : ProgramFault) → IsEncoderOf c before e → IsWorldFault e g → IsPlanCause c before fails g
+  world_cause e program_memory encodes h = tt
+  world_cause e (World x) encodes h = (e, encodes, h.0, h.1, h.2)
+  world_cause e g encodes h = absurd h
 
   -- a fault of its plan
   pub plan_cause : (e : EncoderView) (w : ComponentWorldView) (x : RefusedPlan) (g : ProgramFault) → IsEncoderOf c before e → IsWorldOf plain_options e w

@@ -1,7 +1,7 @@
 -- Which module has to export which key: one more adapter, one more key, and why a key is not shared.
 use Rattle.std.proofs.Common.{◌≡◌, ◌≢◌, ℕ, ◌+◌, ◌<◌, ◌==◌, ◌||◌, zero, suc, Bool, true, false, if◌then◌else◌, List, [], ◌∷◌, ◌++◌, map, length, take, drop, get_or, All, IsTrue, Option, Result, Ok, Err, IfOk, IfErr, OnOk, refl, sym, ◌∙◌, ap, subst, append-nil, inl, inr, arith}
 use Rattle.std.specs.Borrow.{Bor}
-use Rattle.std.specs.List.{AllZip, flat_map}
+use Rattle.std.specs.List.{flat_map}
 use Rattle.std.specs.Option.{option_map, option_to_list}
 use Rattle.std.proofs.lemmas.Bool.Decides.{eqb_tells}
 use Rattle.std.proofs.lemmas.List.{length-map}
@@ -17,19 +17,6 @@ use Rattle.wcplan_command.specs.declared.exporter_fault.ExporterFault.TheVariant
 -- texts, by references
 abbrev Words : Type 0
 Words = List (Bor (List ℕ))
-
-pub zip_push : {A B : Type 0} (R : A → B → Type 0) (xs : List A) (ys : List B) (x : A) (y : B) → AllZip R xs ys → R x y → AllZip R (xs ++ x ∷ []) (ys ++ y ∷ [])
-zip_push R [] [] x y h r = (r, tt)
-zip_push R [] (b ∷ ys) x y h r = absurd h
-zip_push R (a ∷ xs) [] x y h r = absurd h
-zip_push R (a ∷ xs) (b ∷ ys) x y h r = (h.0, zip_push R xs ys x y h.1 r)
-
--- one more of what is passed, with one more of what is made
-pub zip_more : {A B C : Type 0} (R : B → C → Type 0) (v : A → B) (xs : List A) (k : ℕ) (d : A) (ys after : List C) (y : C) → k < length xs
-    → after ≡ ys ++ y ∷ [] → R (v (get_or xs k d)) y → AllZip R (map v (take k xs)) ys → AllZip R (map v (take (k + 1) xs)) after
-zip_more R v xs k d ys after y lt grown here before =
-    subst (λ zs. AllZip R (map v (take (k + 1) xs)) zs) (sym grown)
-    (subst (λ ws. AllZip R ws (ys ++ y ∷ [])) (sym (passed_more v xs k d lt)) (zip_push R (map v (take k xs)) ys (v (get_or xs k d)) y before here))
 
 flat_push : {A B : Type 0} (f : A → List B) (xs : List A) (x : A) → flat_map f (xs ++ x ∷ []) ≡ flat_map f xs ++ f x
 flat_push f xs x = flat_map-append f xs (x ∷ []) ∙ ap (λ l. flat_map f xs ++ l) (append-nil (f x))

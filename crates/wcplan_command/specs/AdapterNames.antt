@@ -5,7 +5,8 @@ use Rattle.wc_encoder.specs.EncoderParts.{EncoderView}
 use Rattle.wc_validate.specs.declared.fault.ValidateFault.TheVariants.{BadSyntax, UnknownInterface}
 use Rattle.wc_world.specs.declared.fault.WorldFault.{WorldFault}
 use Rattle.wc_world.specs.declared.fault.WorldFault.TheVariants.{Main}
-use Rattle.wcplan_command.specs.Listing.{IsListedNear, listing_text}
+use Rattle.wc_options.specs.Listing.{listing_text}
+use Rattle.wcplan_command.specs.Listing.{IsListedNear}
 use Rattle.wcplan_command.specs.declared.fault.ProgramFault.{ProgramFault}
 use Rattle.wcplan_command.specs.declared.fault.ProgramFault.TheVariants.{Memory, NoAdapter}
 

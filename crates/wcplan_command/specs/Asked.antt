@@ -8,7 +8,7 @@ use Rattle.std.specs.declared.alloc.Global.{Global}
 use Rattle.wc_resolve.specs.Kinds.{ResolveView}
 use Rattle.wc_selection.specs.Keys.{NamedKey, import_keys, texts_of}
 use Rattle.wc_why.specs.Keys.{asks_about, package_of, package_text}
-use Rattle.wcplan_command.specs.Listing.{listing_text}
+use Rattle.wc_options.specs.Listing.{listing_text}
 use Rattle.wcplan_command.specs.Nearest.{first_near, is_alike}
 use Rattle.wcplan_command.specs.declared.fault.ProgramFault.{ProgramFault}
 use Rattle.wcplan_command.specs.declared.fault.ProgramFault.TheVariants.{Memory, NoImport}

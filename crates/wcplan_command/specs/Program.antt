@@ -42,10 +42,10 @@ use Rattle.wc_world.specs.Views.{ComponentWorldView, NamedWorldAdapter}
 use Rattle.wc_world.specs.World.{IsWorldOf}
 use Rattle.wc_world.specs.declared.fault.WorldFault.TheVariants.{Memory as world_memory}
 use Rattle.wc_gc.specs.declared.fault.GcFault.TheVariants.{Memory as gc_memory}
-use Rattle.wc_ways.specs.Ways.{IsWaysJson, IsWaysText}
+use Rattle.wc_ways.specs.Ways.{IsWaysText}
+use Rattle.wc_ways.specs.WaysTree.{IsWaysGraph, IsWaysJson}
 use Rattle.wc_ways.specs.WaysFaults.{IsWaysFault}
 use Rattle.wc_ways.specs.Imports.{IsImportsJson, IsImportsText}
-use Rattle.wc_ways.specs.Nodes.{IsWaysGraph}
 use Rattle.wc_selection.specs.KeyNames.{request_keys}
 use Rattle.wc_selection.specs.Keys.{NamedKey, texts_of}
 use Rattle.wc_selection.specs.ModuleKeys.{required_keys}
@@ -59,9 +59,11 @@ use Rattle.wcplan_command.specs.Details.{IsExplanation, fault_lines}
 use Rattle.wcplan_command.specs.Fault.{NeedsText, program_fault_text, unprinted_text}
 use Rattle.wcplan_command.specs.JsonFaults.{IsReportedJson}
 use Rattle.wcplan_command.specs.Lines.{lines_text}
-use Rattle.wcplan_command.specs.Listing.{IsListedNear, listing_text}
+use Rattle.wc_options.specs.Listing.{listing_text}
+use Rattle.wcplan_command.specs.Listing.{IsListedNear}
 use Rattle.wcplan_command.specs.ExplainedPart.{IsPartExplanation}
-use Rattle.wcplan_command.specs.Reading.{AsksMemory, is_standard, read_arguments}
+use Rattle.wc_options.specs.Adapters.{is_standard}
+use Rattle.wcplan_command.specs.Reading.{AsksMemory, read_arguments}
 use Rattle.wcplan_command.specs.ModuleKeys.{AreNamesThere, IsMeant, IsNamesCause, IsNotMeant, IsSelectionCause, adapter_names, hook_of, request_of, request_with}
 use Rattle.wcplan_command.specs.SharedKeys.{AreGiven, AreUnshared, ExportScope, scope_of}
 use Rattle.wc_program.specs.Screen.{Printing, nothing, printed, failed}

@@ -1,9 +1,7 @@
 -- What arguments are read as.
-use Rattle.std.specs.Prelude.{◌≡◌, ℕ, ◌<◌, ◌==◌, ◌&&◌, Bool, true, false, not, nat_lt, length, cond, filter, List, [], ◌∷◌, codes, map, Option, Some, None, is_some, unwrap_or, Ok, Err}
-use Rattle.std.specs.List.{before_first}
-use Rattle.std.specs.Path.{dot as full_stop, path_file_name}
-use Rattle.std.specs.Str.{bytes_eq}
-use Rattle.wc_options.specs.Reading.{TokenView, first, is_given, pair_of, plain_texts, read, values_of}
+use Rattle.std.specs.Prelude.{◌≡◌, ℕ, ◌<◌, ◌&&◌, Bool, true, false, not, length, cond, List, [], ◌∷◌, codes, map, Option, Some, None, is_some, Ok, Err}
+use Rattle.wc_options.specs.Adapters.{adapter_file_of, is_standard_once, pair_or}
+use Rattle.wc_options.specs.Reading.{TokenView, first, is_given, plain_texts, read, values_of}
 use Rattle.wc_options.specs.Table.{Table}
 use Rattle.wc_options.specs.Wrong.{Reading, missing, repeated_option, together, wrong}
 use Rattle.wc_options.specs.declared.table.Value.TheVariants.{Nothing, Text, Key, Pair}
@@ -27,31 +25,10 @@ option_table =
     ∷ record { name = codes "--out"; value = Text; repeats = false }
     ∷ []
 
--- the name of a file: the last component of its path; the path itself, if that has none
-abbrev pub file_name : List ℕ → List ℕ
-file_name path = unwrap_or (path_file_name path) path
-
--- what is before the first `.`; without one all
-abbrev pub stem : List ℕ → List ℕ
-stem name = before_first (λ b. b == full_stop) name
-
--- the name and the file of an adapter: the texts before and after the first `=`; or the file's own name, up to its first `.`
-abbrev pub adapter_file_of : List ℕ → List ℕ × List ℕ
-adapter_file_of value = unwrap_or (pair_of value) (stem (file_name value), value)
-
--- the name of an adapter and a key; all and nothing, where there is no `=`
-abbrev pub pair_or : List ℕ → List ℕ × List ℕ
-pair_or value = unwrap_or (pair_of value) (value, [])
-
--- a path that stands for standard input; at most one of the files of a command is that
-abbrev pub is_standard : List ℕ → Bool
-is_standard path = bytes_eq path (codes "-")
-
-abbrev pub standard_inputs : CommandView → List (List ℕ)
-standard_inputs c = filter is_standard (c.worlds ∷ c.main ∷ second_parts c.adapters)
+-- at most one of the files of a command is standard input
 
 abbrev pub are_inputs_apart : CommandView → Bool
-are_inputs_apart c = nat_lt (length (standard_inputs c)) 2
+are_inputs_apart c = is_standard_once (c.worlds ∷ c.main ∷ second_parts c.adapters)
 
 -- a command whose options and files fit together: either why a key is imported is printed or what is; a graph is one of ways, and
 -- no JSON

@@ -12,7 +12,7 @@ use Rattle.wc_names.specs.ExportNames.{world_exports}
 use Rattle.wc_selection.specs.Keys.{NamedKey}
 use Rattle.wcplan_command.specs.Arguments.{CommandView}
 use Rattle.wcplan_command.specs.Exporters.{AreExportNames, KeyFunctions, first_lacking, key_functions}
-use Rattle.wcplan_command.specs.Listing.{listing_text, most_listed}
+use Rattle.wc_options.specs.Listing.{listing_text, most_listed}
 use Rattle.wcplan_command.specs.declared.exporter_fault.ExporterFault.{ExporterFault}
 use Rattle.wcplan_command.specs.declared.exporter_fault.ExporterFault.TheVariants.{Memory, NoExporter, SeveralExporters}
 

@@ -11,7 +11,7 @@ ghost use Rattle.wc_selection.specs.Requests.{RequestValue, request_value};
 ghost use Rattle.wc_selection.specs.Texts.{AreDistinct, first_parts};
 ghost use Rattle.wcplan_command.specs.Arguments.{command_view};
 ghost use Rattle.wcplan_command.specs.Program.{IsAdaptersCause, IsFileIn};
-ghost use Rattle.wcplan_command.specs.Private.AdapterFiles.{IsAdapterOf};
+ghost use Rattle.wcplan_command.specs.Private.AdapterFiles.{IsAdapterOf, IsAdded};
 ghost use Rattle.wcplan_command.specs.Private.SharedKeys.{file_bytes};
 
 use crate::arguments::Command;
@@ -74,12 +74,42 @@ pub(crate) fn requested_adapters(
         (map adapter_entry m.entries)) }
 {
     let given = AdapterKeys::new(alloc, seed, request, keys)?;
+    given_adapters(alloc, seed, &given, files)
+}
+
+/// Adapters with the keys that they have to export. `seed`: the seed of the map that is made.
+fn given_adapters(
+    alloc: Global,
+    seed: Seed,
+    given: &AdapterKeys<'_, '_>,
+    files: Vec<AdapterFile<'_>>,
+) -> Result<Map<String, Adapter>, AllocError>
+    requires { AreDistinct (first_parts (map file_bytes files.items)) }
+    ensures { (q : RequestValue) (keys : List NamedKey) → AreAdapterKeys q keys given.now
+        → IfOk result (λ m. AllZip (IsAdapterOf q keys) (map file_bytes files.entry.items)
+        (map adapter_entry m.entries)) }
+{
     let mut adapters = Map::with_hasher(alloc, seed);
     for file in files {
-        let (name, adapter) = requested_adapter(alloc, &given, file)?;
-        insert_adapter(&mut adapters, name, adapter)?;
+        add_adapter(alloc, given, file, &mut adapters)?;
     }
     Ok(adapters)
+}
+
+/// Puts the adapter of a file, with the keys that it has to export, under its name.
+fn add_adapter(
+    alloc: Global,
+    given: &AdapterKeys<'_, '_>,
+    file: AdapterFile<'_>,
+    adapters: &mut Map<String, Adapter>,
+) -> Result<(), AllocError>
+    ensures { (q : RequestValue) (keys : List NamedKey) → AreAdapterKeys q keys given.now
+        → OnOk result (IsAdded q keys (file_bytes file.entry) adapters.old.entries
+        adapters.new.entries) }
+{
+    let (name, adapter) = requested_adapter(alloc, given, file)?;
+    insert_adapter(adapters, name, adapter)?;
+    Ok(())
 }
 
 /// Puts an adapter under its name, in place of one that is there.

@@ -9,31 +9,13 @@ ghost use Rattle.wcplan_command.specs.Listing.{IsListedNear};
 ghost use Rattle.wcplan_command.specs.Nearest.{first_near};
 
 use crate::fault::ProgramFault;
-use crate::listing::name_listing;
 use crate::nearest::is_near;
 use std::alloc::{AllocError, Global};
 use wc_encoder::{Adapter, ComponentEncoder};
 use wc_maps::Map;
+use wc_options::{first_parts, name_listing};
 use wc_validate::ValidateFault;
 use wc_world::WorldFault;
-
-/// The first of each pair.
-///
-/// # Errors
-///
-/// `AllocError`: an allocation failed.
-pub(crate) fn first_parts<'a>(
-    alloc: Global,
-    pairs: &[(&'a str, &'a str)],
-) -> Result<Vec<&'a str>, AllocError>
-    ensures { IfOk result (λ v. map text_of v.items ≡ first_parts (map text_pair pairs.now)) }
-{
-    let mut names = Vec::new(alloc);
-    for (name, _value) in pairs {
-        names.push(*name)?;
-    }
-    Ok(names)
-}
 
 /// The fault of a name that is none of some adapters', of which each comes with its path: with what adapters there are.
 pub(crate) fn no_adapter<'a>(

@@ -1,17 +1,19 @@
 //! The arguments of the program.
 
-ghost use Rattle.std.specs.Prelude.{◌≡◌, IfOk, ⊤, filter, length, map};
+ghost use Rattle.std.specs.Prelude.{◌≡◌, IfOk, ⊤};
 ghost use Rattle.std.specs.Option.{option_map};
 ghost use Rattle.wc_options.specs.Reading.{first, is_given, lines_of, plain_texts, said_by, texts_in, values_of};
 ghost use Rattle.wc_options.specs.Wrong.{IsRead, IsReadWithoutMemory};
-ghost use Rattle.wc_selection.specs.Texts.{text_of, text_pair};
+ghost use Rattle.wc_selection.specs.Texts.{text_of};
 ghost use Rattle.wcplan_command.specs.Arguments.{command_view};
-ghost use Rattle.wcplan_command.specs.Reading.{AsksMemory, AreModules, adapter_file_of, are_inputs_apart, command_with, file_name, finish_with, fitting, is_standard, option_table, pair_or, read_arguments, stem};
+ghost use Rattle.wcplan_command.specs.Reading.{AsksMemory, AreModules, are_inputs_apart, command_with, finish_with, fitting, option_table, read_arguments};
 
 use std::alloc::{AllocError, Global};
-use std::path::Path;
 pub use wc_options::{NoCommand, WrongArgument};
-use wc_options::{ProgramOption, Value, check, is_given, pair, text_count, texts, value, values};
+use wc_options::{
+    ProgramOption, Value, adapters_of, check, count_standard, is_given, is_standard, pairs_of,
+    text_count, texts, value, values,
+};
 
 /// A command: the work that arguments ask the program to do. Paths, names and keys are any texts.
 #[derive(Debug, Drop)]
@@ -265,39 +267,6 @@ fn modules_of(alloc: Global, arguments: &[String]) -> Result<Modules<'_>, AllocE
     })
 }
 
-/// The names and the files of adapters.
-fn adapters_of<'a>(alloc: Global, values: &[&'a str]) -> Result<Vec<(&'a str, &'a str)>, AllocError>
-    ensures { IfOk result (λ v. map text_pair v.items
-        ≡ map adapter_file_of (map text_of values.now)) }
-{
-    let mut found = Vec::new(alloc);
-    for value in values {
-        found.push(adapter_file(value))?;
-    }
-    Ok(found)
-}
-
-/// The names of adapters, and keys.
-fn pairs_of<'a>(alloc: Global, values: &[&'a str]) -> Result<Vec<(&'a str, &'a str)>, AllocError>
-    ensures { IfOk result (λ v. map text_pair v.items ≡ map pair_or (map text_of values.now)) }
-{
-    let mut found = Vec::new(alloc);
-    for value in values {
-        found.push(pair_or(value))?;
-    }
-    Ok(found)
-}
-
-/// The texts before and after the first `=`; all and none, where there is no `=`.
-fn pair_or(value: &str) -> (&str, &str)
-    ensures { (result.0.now, result.1.now) ≡ pair_or value.now }
-{
-    match pair(value) {
-        Some((name, key)) => (name, key),
-        None => (value, ""),
-    }
-}
-
 /// The command, if its options and files fit together.
 fn fitting<'a>(command: Command<'a>) -> Result<Command<'a>, NoCommand<'a>>
     ensures { IsReadWithoutMemory command_view result (fitting (command_view command.entry)) }
@@ -339,52 +308,5 @@ fn are_inputs_apart(command: &Command<'_>) -> bool
         (true, false) => adapters == 0,
         (false, true) => adapters == 0,
         (false, false) => adapters < 2,
-    }
-}
-
-/// How many adapters are on standard input.
-fn count_standard(adapters: &[(&str, &str)]) -> usize
-    ensures { result ≡ length (filter (λ a. is_standard a.1.now) adapters.now) }
-{
-    adapters
-        .iter()
-        .filter(|adapter| is_standard(adapter.1))
-        .count()
-}
-
-/// Whether a path stands for standard input.
-pub(crate) fn is_standard(path: &str) -> bool
-    ensures { result ≡ is_standard path.now }
-{
-    path == "-"
-}
-
-/// The name and the file of an adapter: the texts before and after the first `=`; or else the file's own name.
-fn adapter_file(value: &str) -> (&str, &str)
-    ensures { (result.0.now, result.1.now) ≡ adapter_file_of value.now }
-{
-    match pair(value) {
-        Some((name, file)) => (name, file),
-        None => (stem(file_name(value)), value),
-    }
-}
-
-/// The name of a file: the last component of its path; the path itself, if that has none.
-fn file_name(path: &str) -> &str
-    ensures { result.now ≡ file_name path.now }
-{
-    match Path::new(path).file_name() {
-        Some(name) => name,
-        None => path,
-    }
-}
-
-/// The text before the first `.`; without one all.
-fn stem(name: &str) -> &str
-    ensures { result.now ≡ stem name.now }
-{
-    match name.split_once('.') {
-        Some((stem, _rest)) => stem,
-        None => name,
     }
 }

@@ -11,7 +11,7 @@ ghost use Rattle.wcplan_command.specs.Program.{AreWorldsIn, HoldsInput, IsNotJso
 ghost use Rattle.wcplan_command.specs.ModuleKeys.{IsMeant};
 ghost use Rattle.wcplan_command.specs.Private.Runs.{AreWorldsOf, IsMeaningCause, IsUnknownWorld, IsUnselected, IsWorldsCause};
 
-use crate::arguments::{Command, is_standard};
+use crate::arguments::Command;
 use crate::explained_part::resolve_fault;
 use crate::fault::ProgramFault;
 use crate::listing::world_listing;
@@ -19,6 +19,7 @@ use std::alloc::{AllocError, Global};
 use wc_encoder::Metadata;
 use wc_json::{Document, JsonFault, document_from_json, json_end, looks_like, repeated_member};
 use wc_maps::Seed;
+use wc_options::is_standard;
 use wc_program::{FileProblem, FileStore};
 use wc_resolve::{Resolve, WorldId};
 use wc_selection::{RequestFault, select_world, whole_world};

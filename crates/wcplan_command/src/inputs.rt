@@ -18,7 +18,7 @@ ghost use Rattle.wcplan_command.specs.ModuleKeys.{AreNamesThere, adapter_names, 
 ghost use Rattle.wcplan_command.specs.Program.{AreWorldsIn, IsEncoderOf, IsListed, IsListedCause, IsMainCause, IsMainIn, IsNoExport, IsPartsCause, IsPartsWith, IsPlanCause};
 ghost use Rattle.wcplan_command.specs.SharedKeys.{AreUnshared, IsUnsharedAmong};
 ghost use Rattle.wcplan_command.specs.Private.AdapterFiles.{IsAdapterOf};
-ghost use Rattle.wcplan_command.specs.Private.Inputs.{AreRequested, AreSharedModules, scope_in};
+ghost use Rattle.wcplan_command.specs.Private.Inputs.{AreModulesIn, AreRequested, AreSharedModules, IsUnchecked, scope_in};
 ghost use Rattle.wcplan_command.specs.Private.Runs.{IsOfMain};
 ghost use Rattle.wcplan_command.specs.Private.SharedKeys.{exported_scope, file_bytes};
 
@@ -29,6 +29,7 @@ use crate::asked::check_asked;
 use crate::documents::{read_file, read_worlds};
 use crate::exporter_fault::ExporterFault;
 use crate::fault::{ProgramFault, SelectionFault};
+use crate::heap::heaped;
 use crate::listing::listing;
 use crate::module_keys::{
     adapter_request, check_names, command_keys, key_request, task_hook, text_pairs,
@@ -45,20 +46,22 @@ use wc_resolve::WorldKey;
 use wc_selection::{Exporter, KeyRequest, MainModule, RequestFault, required_keys};
 use wc_texts::Refused;
 
-/// The encoder of a command, from its files.
+/// The encoder of a command, from its files, on the heap.
 pub(crate) fn read_encoder<'a, F: FileStore>(
     alloc: Global,
     seed: Seed,
     command: &Command<'a>,
     files: &F,
-) -> Result<ComponentEncoder, ProgramFault<'a>>
-    ensures encoder { IfOk result (IsEncoderOf (command_view command.now) (F.held files.now)) }
+) -> Result<Box<ComponentEncoder>, ProgramFault<'a>>
+    ensures encoder { IfOk result (λ e. IsEncoderOf (command_view command.now)
+        (F.held files.now) e.value) }
     ensures fault { IfErr result (IsPlanCause (command_view command.now) (F.held files.now)
         (FailsToRead F.read_fails files.now)) }
 {
     let chosen = chosen_world(alloc, seed, command, files)?;
     let parts = read_parts(alloc, seed, command, chosen, files)?;
-    Ok(ComponentEncoder::build(alloc, parts)?)
+    let encoder = ComponentEncoder::build(alloc, parts)?;
+    Ok(heaped(alloc, encoder)?)
 }
 
 /// The worlds of a command with the one that it names, and the keys of this one's exports.
@@ -90,10 +93,35 @@ fn chosen_world<'a, F: FileStore>(
         (FailsToRead F.read_fails files.now)) }
 {
     let metadata = read_worlds(alloc, seed, command, files)?;
+    match checked_keys(alloc, seed, command, &metadata) {
+        Ok(keys) => Ok(ChosenWorld { metadata, keys }),
+        Err(fault) => Err(fault),
+    }
+}
+
+/// The keys of the exports of the world of a command. The names of adapters and the keys that it gives are checked.
+fn checked_keys<'a>(
+    alloc: Global,
+    seed: Seed,
+    command: &Command<'a>,
+    metadata: &Metadata,
+) -> Result<Vec<(WorldKey, String)>, ProgramFault<'a>>
+    requires { metadata.now.world.0 < length metadata.now.resolve.worlds }
+    ensures keys { IfOk result (λ v. map named_key v.items
+        ≡ request_keys (request_of (command_view command.now)) metadata.now.resolve
+        metadata.now.world.0) }
+    ensures differ { IfOk result (λ v. AreKeysApart (map named_key v.items)) }
+    ensures there { IfOk result (λ v. AreNamesThere (command_view command.now)
+        (map named_key v.items)) }
+    ensures asked { OnOk result (IsAskedThere (command_view command.now).why
+        metadata.now.resolve metadata.now.world.0) }
+    ensures fault { IfErr result (IsUnchecked (command_view command.now) metadata.now.resolve
+        metadata.now.world.0) }
+{
     let keys = command_keys(alloc, seed, command, &metadata.resolve, metadata.world)?;
     check_listed(alloc, seed, command, &keys)?;
     check_asked(alloc, command.why, &metadata.resolve, metadata.world)?;
-    Ok(ChosenWorld { metadata, keys })
+    Ok(keys)
 }
 
 /// Checks the names of adapters and the keys of a command, as `check_names` does; the fault of a key that isn't there has
@@ -143,7 +171,6 @@ fn no_export<'a>(alloc: Global, key: &'a str, keys: &[(WorldKey, String)]) -> Pr
 }
 
 /// The parts of the encoder of a command, with its modules from their files.
-#[tactic(auto, using(crate::proofs::ProgramLemmas::main_parts, crate::proofs::ProgramLemmas::adapters_parts))]
 fn read_parts<'a, F: FileStore>(
     alloc: Global,
     seed: Seed,
@@ -162,41 +189,86 @@ fn read_parts<'a, F: FileStore>(
         (scope_in (command_view command.now) chosen)
         (map named_key chosen.keys.items)) }
 {
+    match read_modules(alloc, seed, command, &chosen, files) {
+        Ok(modules) => {
+            let CommandModules {
+                main,
+                requested,
+                task_hook,
+            } = modules;
+            Ok(EncoderParts {
+                module: main.wasm,
+                module_import_map: main.import_map,
+                metadata: chosen.metadata,
+                main_module_exports: requested.main_exports,
+                adapters: requested.adapters,
+                reject_legacy_names: command.reject_legacy_names,
+                realloc_via_memory_grow: command.realloc_via_memory_grow,
+                task_hook,
+            })
+        }
+        Err(fault) => Err(fault),
+    }
+}
+
+/// The modules of a command, with the keys that they have to export, and the name of the task hook.
+#[derive(Drop)]
+struct CommandModules {
+    main: MainModule,
+    requested: RequestedModules,
+    task_hook: String,
+}
+
+/// The modules of a command, from their files.
+#[tactic(auto, using(crate::proofs::ProgramLemmas::main_parts, crate::proofs::ProgramLemmas::adapters_parts))]
+fn read_modules<'a, F: FileStore>(
+    alloc: Global,
+    seed: Seed,
+    command: &Command<'a>,
+    chosen: &ChosenWorld,
+    files: &F,
+) -> Result<CommandModules, ProgramFault<'a>>
+    requires world { chosen.now.metadata.world.0 < length chosen.now.metadata.resolve.worlds }
+    requires keys { AreKeysApart (map named_key chosen.now.keys.items) }
+    requires names { AreDistinct (adapter_names (command_view command.now)) }
+    ensures modules { IfOk result (AreModulesIn (command_view command.now) (F.held files.now)
+        (scope_in (command_view command.now) chosen.now)
+        (map named_key chosen.now.keys.items)) }
+    ensures fault { IfErr result (IsPartsCause (command_view command.now) (F.held files.now)
+        (FailsToRead F.read_fails files.now)
+        (scope_in (command_view command.now) chosen.now)
+        (map named_key chosen.now.keys.items)) }
+{
     let main = read_main(alloc, command.main, files)?;
     let adapters = read_adapters(alloc, command, files)?;
     let modules = ModuleFiles {
         main: &main.wasm,
         adapters,
     };
-    let requested = requested_modules(alloc, seed, command, &chosen, modules)?;
+    let requested = requested_modules(alloc, seed, command, chosen, modules)?;
     let task_hook = task_hook(alloc, command)?;
-    Ok(EncoderParts {
-        module: main.wasm,
-        module_import_map: main.import_map,
-        metadata: chosen.metadata,
-        main_module_exports: requested.main_exports,
-        adapters: requested.adapters,
-        reject_legacy_names: command.reject_legacy_names,
-        realloc_via_memory_grow: command.realloc_via_memory_grow,
+    Ok(CommandModules {
+        main: Box::into_inner(main),
+        requested,
         task_hook,
     })
 }
 
-/// The main module in the file of this path, with its repeated imports renamed.
+/// The main module in the file of this path, with its repeated imports renamed, on the heap.
 #[tactic(auto, using(crate::proofs::ProgramLemmas::unread_main))]
 fn read_main<'a, F: FileStore>(
     alloc: Global,
     path: &'a str,
     files: &F,
-) -> Result<MainModule, ProgramFault<'a>>
-    ensures main { IfOk result (λ m. IsMainIn (F.held files.now) path.now m.wasm.items
-        (renames_in m.import_map)) }
+) -> Result<Box<MainModule>, ProgramFault<'a>>
+    ensures main { IfOk result (λ m. IsMainIn (F.held files.now) path.now m.value.wasm.items
+        (renames_in m.value.import_map)) }
     ensures fault { IfErr result (IsMainCause (F.held files.now)
         (FailsToRead F.read_fails files.now) path.now) }
 {
     let bytes = read_file(path, files)?;
     match MainModule::new_explained(alloc, CowSlice::Owned(bytes)) {
-        Ok(main) => Ok(main),
+        Ok(main) => Ok(heaped(alloc, main)?),
         Err(refused) => Err(main_fault(refused)),
     }
 }

@@ -16,6 +16,7 @@ mod exporter_fault;
 mod exporters;
 mod fault;
 mod file_names;
+mod heap;
 mod inputs;
 mod json_faults;
 mod lines;

@@ -10,12 +10,12 @@ ghost use Rattle.wcplan_command.specs.Arguments.{command_view};
 ghost use Rattle.wcplan_command.specs.ModuleKeys.{AreNamesThere, IsGivenCause, IsNamesCause, hook_of, request_of};
 ghost use Rattle.wcplan_command.specs.Private.SharedKeys.{adapters_request, own_pair};
 
-use crate::adapter_names::first_parts;
 use crate::arguments::Command;
 use crate::fault::SelectionFault;
 use crate::file_names::file_fault;
 use std::alloc::{AllocError, Global};
 use wc_maps::Seed;
+use wc_options::first_parts;
 use wc_resolve::{Resolve, WorldId, WorldKey};
 use wc_selection::{KeyRequest, first_missing, first_repeated, no_task_hook, request_keys};
 

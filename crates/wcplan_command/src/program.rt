@@ -1,24 +1,27 @@
 //! The program: its arguments, its files, what it prints, and its exit status.
 
-ghost use Rattle.std.specs.Prelude.{◌≡◌, IfErr, IfOk, IsErr, string_bytes};
+ghost use Rattle.std.specs.Prelude.{◌≡◌, ℕ, Bool, IfErr, IfOk, IsErr, string_bytes};
 ghost use Rattle.std.specs.IoError.{error_kind};
 ghost use Rattle.wc_plan.specs.Fault.{AreNameable};
 ghost use Rattle.wc_uses.specs.PlanViews.{plan_view};
 ghost use Rattle.wc_plan.specs.Plans.{plan_of};
+ghost use Rattle.wc_world.specs.Options.{plain_options};
+ghost use Rattle.wc_world.specs.World.{IsWorldOf};
 ghost use Rattle.wc_world.specs.WorldViews.{world_view};
 ghost use Rattle.wcplan_command.specs.Arguments.{command_view};
 ghost use Rattle.wc_program.specs.Files.{store_change};
-ghost use Rattle.wc_program.specs.Screen.{Becomes};
+ghost use Rattle.wc_program.specs.Screen.{Becomes, Printing};
 ghost use Rattle.wc_program.specs.Program.{Prints, failure, success, wrong_arguments};
 ghost use Rattle.wcplan_command.specs.Fault.{NeedsText};
 ghost use Rattle.wcplan_command.specs.Program.{CommandEnds, EndsWell, EndsWith, EndsWithout, EndsWithoutArguments, IsEncoderOf, IsPlanned, IsReported, IsReportedAs, IsRunCause, PrintsAsked, ProgramEnds};
-ghost use Rattle.wcplan_command.specs.Private.Runs.{AnswersStop, IsMadeFor};
+ghost use Rattle.wcplan_command.specs.Private.Runs.{AnswersStop, IsMadeFor, IsWorldFault};
 ghost use Rattle.wcplan_command.specs.Usage.{fault_and_usage, fault_line, help_text, usage_text};
 ghost use Rattle.wcplan_command.specs.Warnings.{AreWarned};
 
 use crate::arguments::{Command, NoCommand, parse};
 use crate::explained::{plan_fault, world_fault};
 use crate::fault::{ProgramFault, UNPRINTED};
+use crate::heap::heaped;
 use crate::inputs::read_encoder;
 use crate::json_faults::report_json;
 use crate::outputs::{description_of, outputs_of, write_and_print};
@@ -145,8 +148,39 @@ fn run_and_report<F: DirectoryStore, O: Screen, E: Screen>(
         &mut shell.out,
     ) {
         Ok(warnings) => print_warnings(&mut shell.err, &warnings),
-        Err(fault) => report_as(shell.alloc, &mut shell.err, &fault, command.json),
+        Err(fault) => report_last(shell.alloc, &mut shell.err, fault, command.json),
     }
+}
+
+/// Why a program failed, as it is printed.
+trait Reported {
+    // What is printed of it, as JSON or in lines; and the exit status.
+    ghost reports: { Self → Bool → (Printing → Type 0) → ℕ → Type 0 };
+
+    /// Prints it: as JSON, if that is asked for; else in lines. The answer is the exit status.
+    fn report_to<E: Screen>(&self, alloc: Global, err: &mut E, asks_json: bool) -> u8
+        ensures { reports self.now asks_json (Becomes E.ends err.old err.new) result };
+}
+
+impl Reported for ProgramFault<'_> {
+    ghost reports = { λ fault asks_json err status. IsReportedAs asks_json fault err status };
+
+    fn report_to<E: Screen>(&self, alloc: Global, err: &mut E, asks_json: bool) -> u8 {
+        report_as(alloc, err, self, asks_json)
+    }
+}
+
+/// Prints why the program failed, and drops it. This doesn't know its type, and so none of its variants, which makes the
+/// proof short.
+fn report_last<E: Screen, R: Reported + Drop>(
+    alloc: Global,
+    err: &mut E,
+    fault: R,
+    asks_json: bool,
+) -> u8
+    ensures { R.reports fault asks_json (Becomes E.ends err.old err.new) result }
+{
+    fault.report_to(alloc, err, asks_json)
 }
 
 /// Reads the worlds and the modules of a command, renames the main module's repeated imports, and makes the component's
@@ -226,8 +260,22 @@ fn run_encoder<'a, F: DirectoryStore, O: Screen>(
 {
     // So what modules import can be named.
     worlds_nameable(encoder);
-    match ComponentWorld::new_explained(alloc, encoder, &PlainOptions) {
+    match made_world(alloc, encoder) {
         Ok(world) => run_world(alloc, command, &world, files, out),
+        Err(fault) => Err(fault),
+    }
+}
+
+/// The component's world of an encoder, on the heap.
+fn made_world<'a, 'e>(
+    alloc: Global,
+    encoder: &'e ComponentEncoder,
+) -> Result<Box<ComponentWorld<'e>>, ProgramFault<'a>>
+    ensures world { IfOk result (λ w. IsWorldOf plain_options encoder.now (world_view w.value)) }
+    ensures fault { IfErr result (IsWorldFault encoder.now) }
+{
+    match ComponentWorld::new_explained(alloc, encoder, &PlainOptions) {
+        Ok(world) => Ok(heaped(alloc, world)?),
         Err(refused) => Err(world_fault(alloc, encoder, refused)),
     }
 }

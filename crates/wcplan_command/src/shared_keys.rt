@@ -1,7 +1,7 @@
 //! Which module has to export which key of a world's exports, where a command doesn't say: the main module, if it has all
 //! functions of the key; else the one adapter that has them.
 
-ghost use Rattle.std.specs.Prelude.{◌≡◌, ◌≢◌, ◌<◌, ◌++◌, All, IfErr, IfOk, IsTrue, MatchOption, OnOk, false, length, map, string_bytes, take};
+ghost use Rattle.std.specs.Prelude.{◌≡◌, ◌≢◌, ◌<◌, ◌++◌, All, IfErr, IfOk, IsTrue, MatchOption, OnOk, codes, false, length, map, string_bytes, take};
 ghost use Rattle.std.specs.List.{AllZip, flat_map};
 ghost use Rattle.std.specs.Option.{option_map, option_to_list};
 ghost use Rattle.wc_read.specs.Fault.{SpellsNothing};
@@ -9,7 +9,7 @@ ghost use Rattle.wc_read.specs.Modules.{SpellsModule};
 ghost use Rattle.wc_selection.specs.Keys.{named_key};
 ghost use Rattle.wc_selection.specs.Texts.{text_of};
 ghost use Rattle.wcplan_command.specs.Arguments.{command_view};
-ghost use Rattle.wcplan_command.specs.Listing.{listing_text, most_listed};
+ghost use Rattle.wc_options.specs.Listing.{listing_text, most_listed};
 ghost use Rattle.wcplan_command.specs.SharedKeys.{AreNamesOf, AreSharedAmong, IsNamedFile, IsUnshared, IsUnsharedAmong, IsUnsharedKey, adapter_line, adapter_text, asked_key, exporters, has_all, has_key, is_open, is_shared, lack_line, lack_lines, lacks, named_pairs, shared_pairs};
 ghost use Rattle.wcplan_command.specs.Private.SharedKeys.{adapter_view, asked_view, exported_scope, file_bytes, names_view, own_pair};
 
@@ -17,10 +17,10 @@ use crate::adapter_files::AdapterFile;
 use crate::arguments::Command;
 use crate::exporter_fault::ExporterFault;
 use crate::exporters::{KeyFunctions, export_names};
-use crate::listing::name_listing;
 use std::alloc::{AllocError, Global};
 use wc_json::quoted;
 use wc_maps::{Map, Seed, Set};
+use wc_options::name_listing;
 use wc_resolve::{Resolve, WorldItem, WorldKey};
 
 /// Of how many adapters it is said what they lack; of so many names a listing has.
@@ -173,7 +173,23 @@ fn push_shared<'x>(
         (asked_key (exported_scope world.entry) (named_key key.now))) }
 {
     let asked = asked_key(alloc, world, key)?;
-    if let Some(name) = exporter_of(alloc, names, &asked)? {
+    push_pair(alloc, names, &asked, pairs)
+}
+
+/// Adds a key with its functions, with its text after the name of the adapter that has to export it, if one has to.
+fn push_pair(
+    alloc: Global,
+    names: &ModuleNames<'_, '_, '_>,
+    asked: &AskedKey<'_>,
+    pairs: &mut Vec<(String, String)>,
+) -> Result<(), ExporterFault>
+    ensures pairs { OnOk result (map own_pair pairs.new.items ≡ map own_pair pairs.old.items
+        ++ shared_pairs (names_view names.now) (asked_view asked.now)) }
+    ensures shared { OnOk result
+        (IsTrue (is_shared (names_view names.now) (asked_view asked.now))) }
+    ensures fault { IfErr result (IsUnsharedKey (names_view names.now) (asked_view asked.now)) }
+{
+    if let Some(name) = exporter_of(alloc, names, asked)? {
         pairs.push(copied_pair(alloc, name, asked.text)?)?;
     }
     Ok(())
@@ -346,10 +362,22 @@ fn no_exporter_texts(
         ≡ lack_lines (names_view names.now) (asked_view asked.now)) }
 {
     let key = String::from_str(alloc, asked.text)?;
+    let lines = lack_lines(alloc, names, asked)?;
+    Ok((key, lines))
+}
+
+/// The lines of what the main module and the first adapters lack of a key.
+fn lack_lines(
+    alloc: Global,
+    names: &ModuleNames<'_, '_, '_>,
+    asked: &AskedKey<'_>,
+) -> Result<String, AllocError>
+    ensures { IfOk result (λ text. string_bytes text
+        ≡ lack_lines (names_view names.now) (asked_view asked.now)) }
+{
     let main = lack_line(alloc, "main", asked.first_lacking(alloc, &names.main)?)?;
     let adapters = adapter_lines(alloc, first_of(&names.adapters), asked)?;
-    let lines = format!(in alloc; "{main}{adapters}")?;
-    Ok((key, lines))
+    format!(in alloc; "{main}{adapters}")
 }
 
 /// The fault of a key that several adapters have all functions of.
@@ -424,11 +452,28 @@ fn adapter_line(
     ensures { IfOk result (λ text. string_bytes text
         ≡ adapter_line (asked_view asked.now) (adapter_view adapter.now)) }
 {
-    let importer = adapter_text(alloc, adapter.name)?;
     match &adapter.exports {
-        Some(names) => lack_line(alloc, &importer, asked.first_lacking(alloc, names)?),
-        None => format!(in alloc; "\n  {importer} is no core module"),
+        Some(names) => lacking_line(alloc, adapter.name, asked.first_lacking(alloc, names)?),
+        None => no_module_line(alloc, adapter.name),
     }
+}
+
+/// The line of a function that the adapter of this name lacks; the empty text where it lacks none.
+fn lacking_line(alloc: Global, name: &str, function: Option<&str>) -> Result<String, AllocError>
+    ensures { IfOk result (λ text. string_bytes text
+        ≡ lack_line (adapter_text name.now) (option_map text_of function.entry)) }
+{
+    let importer = adapter_text(alloc, name)?;
+    lack_line(alloc, &importer, function)
+}
+
+/// The line of the adapter of this name, which is no module.
+fn no_module_line(alloc: Global, name: &str) -> Result<String, AllocError>
+    ensures { IfOk result (λ text. string_bytes text
+        ≡ codes "\n  " ++ (adapter_text name.now ++ codes " is no core module")) }
+{
+    let importer = adapter_text(alloc, name)?;
+    format!(in alloc; "\n  {importer} is no core module")
 }
 
 /// An adapter of this name.

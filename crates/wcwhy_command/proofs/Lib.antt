@@ -3,5 +3,8 @@ mod ArgumentLemmas
 mod LineLemmas
 mod TreeLemmas
 mod ExecutionLemmas
+mod AdapterNameLemmas
+mod InputLemmas
+mod ModuleWayLemmas
 mod RunLemmas
 mod NearExportLemmas

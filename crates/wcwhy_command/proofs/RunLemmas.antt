@@ -1,16 +1,17 @@
 -- How the program ends by what its arguments are read as.
 use Rattle.std.proofs.Common.{◌≡◌, ℕ, List, Result, Ok, Err, OnOk, IfErr, sym, subst, inl, inr}
-use Rattle.wc_program.specs.Files.{FileChange, Holds}
+use Rattle.wc_module_ways.specs.Adapters.{Given}
+use Rattle.wc_program.specs.Files.{FileChange}
 use Rattle.wc_program.specs.Screen.{Printing}
 use Rattle.wc_options.specs.Wrong.{IsStop, Reading, wrong_view}
 use Rattle.wcwhy_command.specs.Arguments.{CommandView}
 use Rattle.wcwhy_command.specs.Reading.{AsksMemory, read_arguments}
-use Rattle.wcwhy_command.specs.Program.{CommandEnds, EndsWell, EndsWith, IsPrintCause, IsPrintedOf, IsRunCause, ReadingEnds, input_path}
+use Rattle.wcwhy_command.specs.Inputs.{AreInputs}
+use Rattle.wcwhy_command.specs.Program.{CommandEnds, EndsWell, EndsWith, IsRunCause, IsTextCause, IsTextOf, ReadingEnds, is_alone}
 use Rattle.wcwhy_command.specs.Private.Execution.{AnswersStop, PrintsSome}
 use Rattle.wc_options.specs.declared.wrong.NoCommand.{NoCommand}
 use Rattle.wc_options.specs.declared.wrong.NoCommand.TheVariants.{Memory, Help, Version, Wrong}
 use Rattle.wcwhy_command.specs.declared.fault.WhyFault.{WhyFault}
-use Rattle.wcwhy_command.specs.declared.fault.WhyFault.TheVariants.{Memory as why_memory, CannotRead}
 
 pub ends_by_command : (arguments : List (List ℕ)) (c : CommandView) (files : FileChange) (out err : Printing → Type 0) (status : ℕ)
     → read_arguments arguments ≡ Ok c → files.after ≡ files.before → CommandEnds c files out err status → EndsWith arguments files out err status
@@ -28,17 +29,12 @@ ends_by_stop arguments (Wrong w) files out err status kept stops (inl answer) =
     (kept, inl (subst (λ (r : Reading CommandView). ReadingEnds r files out err status) (sym stops) answer))
 ends_by_stop arguments (Wrong w) files out err status kept stops (inr none) = (kept, inr (inr (wrong_view w, stops), none))
 
--- the file of a command was read
-module _ (c : CommandView) (files : FileChange) (bytes : List ℕ) (read : Holds files.before (input_path c.source) bytes) (out : Printing → Type 0) where
-  pub read_well : {T : Type 0} (r : Result T WhyFault) → OnOk r (PrintsSome (IsPrintedOf c bytes) out) → OnOk r (EndsWell c files.before out)
-  read_well (Ok x) (text, is, shown) = (bytes, text, read, is, shown)
+-- the files of a command were read
+module _ (c : CommandView) (files : FileChange) (main : List ℕ) (adapters : List Given) (read : AreInputs c files.before main adapters) (out : Printing → Type 0) where
+  pub read_well : {T : Type 0} (r : Result T WhyFault) → OnOk r (PrintsSome (IsTextOf (is_alone c) c main adapters) out) → OnOk r (EndsWell c files.before out)
+  read_well (Ok x) (text, is, shown) = (main, text, adapters, read, is, shown)
   read_well (Err f) h = tt
 
-  cause_of_read : (f : WhyFault) → IsPrintCause c bytes out f → IsRunCause c files out f
-  cause_of_read (CannotRead path p) h = absurd h.0
-  cause_of_read why_memory h = inr (bytes, read, h)
-  cause_of_read f h = (bytes, read, h)
-
-  pub read_badly : {T : Type 0} (r : Result T WhyFault) → IfErr r (IsPrintCause c bytes out) → IfErr r (IsRunCause c files out)
+  pub read_badly : {T : Type 0} (r : Result T WhyFault) → IfErr r (IsTextCause (is_alone c) c main adapters out) → IfErr r (IsRunCause c files out)
   read_badly (Ok x) h = tt
-  read_badly (Err f) h = cause_of_read f h
+  read_badly (Err f) h = inr (main, adapters, read, h)

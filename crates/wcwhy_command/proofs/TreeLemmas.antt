@@ -5,6 +5,7 @@ use Rattle.std.specs.List.{cons_option, filter_map, list_all, range_with_len, sl
 use Rattle.std.specs.Option.{option_map}
 use Rattle.std.proofs.lemmas.List.{length-map}
 use Rattle.std.proofs.lemmas.Option.{same_Some, slice_get-map}
+use Rattle.std.proofs.lemmas.Simd.{map-map}
 use Rattle.wc_read.specs.Imports.{ImportValue, import_value}
 use Rattle.wc_read.specs.Modules.{module_value}
 use Rattle.wc_read.specs.Names.{GlobalNameValue, name_entries}
@@ -14,6 +15,7 @@ use Rattle.wc_paths.specs.Callers.{calling_of}
 use Rattle.wc_paths.specs.Items.{GraphValue}
 use Rattle.wc_paths.specs.OnPaths.{is_on}
 use Rattle.wc_paths.specs.PathRoots.{IsPathRoot, RootView}
+use Rattle.wc_paths.specs.PathTree.{AreUsedInOrder}
 use Rattle.wc_paths.specs.Paths.{ArePaths, IsPathFrom}
 use Rattle.wc_paths.specs.Roots.{AreImportItems, import_item}
 use Rattle.wc_paths.specs.declared.items.PathItem.{PathItem}
@@ -25,7 +27,7 @@ use Rattle.wc_import_paths.specs.JsonPaths.{import_path}
 use Rattle.wc_import_paths.specs.Patterns.{PatternView, is_shown}
 use Rattle.wc_import_paths.specs.declared.followed.Followed.{Followed}
 use Rattle.wc_import_paths.proofs.FunctionNameLemmas.{path_named}
-use Rattle.wc_tree.specs.ModuleTree.{IsModuleTree, IsRead, IsUnreached, IsWayTo, shown_view, ways_of}
+use Rattle.wc_tree.specs.ModuleTree.{IsModuleTree, IsRead, IsUnreached, IsWayTo, ShownView, items_in, shown_view, ways_of}
 use Rattle.wc_tree.specs.Tree.{TreeModuleView, TreeView}
 use Rattle.wc_tree.specs.declared.module_tree.ShownImport.{ShownImport}
 use Rattle.wc_tree.specs.declared.module_tree.Source.{Source}
@@ -172,6 +174,11 @@ module _ (f : Followed) (patterns : List PatternView) (h : HasPaths f) (on : Are
             let there = ap (λ z. slice_get z n) seen ∙ (slice_get-map shown_of asked n ∙ ap (option_map shown_of) at) in
             let (end, here, read) = is.paths g first second (subst (ArePaths g first second) (sym same.paths) h.paths) n (shown_of a) there in
             (end, here, end_at names given is.alone one.0 a asks end read);
+        earlier = is.earlier;
+        items =
+            subst (λ zs. AreUsedInOrder g first second zs (items_in is.alone))
+            (ap (map (λ (i : ShownView). i.item)) seen ∙ map-map (λ (i : ShownView). i.item) shown_of asked)
+            (is.items g first second (subst (ArePaths g first second) (sym same.paths) h.paths));
         marks = marking_of s.marks.now;
         marked = marks names;
         have = is.marked;

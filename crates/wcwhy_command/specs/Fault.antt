@@ -19,7 +19,7 @@ use Rattle.wcwhy_command.specs.Patterns.{named_under, near_import, near_package,
 use Rattle.wc_why.specs.Keys.{package_text}
 use Rattle.wc_why.specs.Texts.{word}
 use Rattle.wcwhy_command.specs.declared.fault.WhyFault.{WhyFault}
-use Rattle.wcwhy_command.specs.declared.fault.WhyFault.TheVariants.{Memory, CannotRead, Source, NoImport, Output}
+use Rattle.wcwhy_command.specs.declared.fault.WhyFault.TheVariants.{Memory, CannotRead, RepeatedAdapter, NoAdapter, Source, Adapter, NoImport, Output}
 
 -- a text that was given, as a word; an empty one as two quotes
 abbrev pub given_word : List ℕ → List ℕ
@@ -54,17 +54,32 @@ unknown_text p (Some near) = codes "no import " ++ (pattern_text p ++ (codes "\n
 abbrev pub unread_text : List ℕ → FileProblem → List ℕ
 unread_text path p = codes "cannot read " ++ (escaped path ++ problem_text p)
 
+-- two adapters have a name
+abbrev pub repeated_adapter_text : List ℕ → List ℕ
+repeated_adapter_text name = codes "adapter `" ++ (escaped name ++ codes "` twice")
+
+-- no adapter has a name, and what adapters there are
+abbrev pub no_adapter_text : List ℕ → List ℕ → List ℕ
+no_adapter_text name listing = escaped (codes "no adapter `" ++ (name ++ (codes "`; adapters:" ++ listing)))
+
 -- why a module can't be followed, and under it what it is about, or what is there in place of an export
 abbrev pub source_text : GcFault → Option TrimPlace → Option (List ℕ) → List ℕ
 source_text f (Some p) near = escaped (gc_fault_text f) ++ (codes "\n  " ++ place_text p)
 source_text f None (Some near) = escaped (gc_fault_text f) ++ (codes "\n  is there: " ++ near)
 source_text f None None = escaped (gc_fault_text f)
 
+-- the same of an adapter of a name
+abbrev pub adapter_text : List ℕ → List ℕ → List ℕ
+adapter_text name text = codes "Adapter `" ++ (escaped name ++ (codes "`: " ++ text))
+
 -- the text of a fault
 abbrev pub why_fault_text : WhyFault → List ℕ
 why_fault_text Memory = memory_text
 why_fault_text (CannotRead path p) = unread_text path.now p
+why_fault_text (RepeatedAdapter name) = repeated_adapter_text name.now
+why_fault_text (NoAdapter name listing) = no_adapter_text name.now (string_bytes listing)
 why_fault_text (Source f place near) = source_text f place (option_map string_bytes near)
+why_fault_text (Adapter name f place near) = adapter_text (string_bytes name) (source_text f place (option_map string_bytes near))
 why_fault_text (NoImport p near) = unknown_text (pattern_view p) (option_map string_bytes near)
 why_fault_text Output = codes "cannot print"
 
@@ -83,3 +98,17 @@ of_source f place near = Source f place near
 abbrev pub IsSourceFault : List ℕ → GcFault → Option TrimPlace → WhyFault → Type 0
 IsSourceFault bytes f place fault =
     (fault ≡ Memory) ⊎ ((near : Option (String Global)) × IsNearFor bytes f near × (fault ≡ of_source f place near))
+
+-- the same of the adapter of a name
+abbrev pub of_adapter : String Global → GcFault → Option TrimPlace → Option (String Global) → WhyFault
+of_adapter name gc_memory place near = Memory
+of_adapter name f place near = Adapter name f place near
+
+-- there may have been no memory for its name
+abbrev pub IsNamedFault : List ℕ → GcFault → Option TrimPlace → Option (String Global) → WhyFault → Type 0
+IsNamedFault name f place near fault =
+    (fault ≡ Memory) ⊎ ((n : String Global) × (string_bytes n ≡ name) × (fault ≡ of_adapter n f place near))
+
+abbrev pub IsAdapterFault : List ℕ → List ℕ → GcFault → Option TrimPlace → WhyFault → Type 0
+IsAdapterFault name bytes f place fault =
+    (fault ≡ Memory) ⊎ ((near : Option (String Global)) × IsNearFor bytes f near × IsNamedFault name f place near fault)

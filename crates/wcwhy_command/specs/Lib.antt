@@ -7,5 +7,8 @@ pub mod Lines
 pub mod NearExports
 pub mod Fault
 pub mod Tree
+pub mod AdapterNames
+pub mod Inputs
+pub mod ModuleWays
 pub mod Program
 pub mod Private

@@ -3,3 +3,6 @@ pub mod Puts
 pub mod Followed
 pub mod Tree
 pub mod Execution
+pub mod Inputs
+pub mod ModuleWays
+pub mod Arguments

@@ -1,32 +1,30 @@
 -- The program: what it prints, and its exit status. No file is changed.
-use Rattle.std.specs.Prelude.{◌≡◌, ◌≢◌, ◌⊎◌, ℕ, Bool, true, false, cond, codes, List, Option, Some, None, String, string_bytes, Ok, Err, ⊤}
-use Rattle.std.specs.Option.{option_map}
-use Rattle.std.specs.Str.{bytes_eq}
+use Rattle.std.specs.Prelude.{◌≡◌, ◌≢◌, ◌⊎◌, ◌==◌, ℕ, Bool, true, false, length, List, Option, None, String, Ok, Err, ⊤, ◌&&◌, not}
 use Rattle.std.specs.declared.alloc.Global.{Global}
 use Rattle.wc_json.specs.Escape.{escaped}
-use Rattle.wc_read.specs.Imports.{ImportValue}
 use Rattle.wc_read.specs.Reading.Names.{AreFunctionNames}
 use Rattle.wc_gc.specs.declared.fault.GcFault.TheVariants.{Memory as gc_memory}
 use Rattle.wc_texts.specs.FaultTexts.{memory_text}
-use Rattle.wc_program.specs.Files.{FileChange, Held, Holds}
+use Rattle.wc_module_ways.specs.Adapters.{Given}
+use Rattle.wc_program.specs.Files.{FileChange, Held}
 use Rattle.wc_program.specs.Program.{success, failure, wrong_arguments, Prints, EndsByArguments, EndsByReason}
 use Rattle.wc_program.specs.Screen.{Printing, nothing, printed, failed}
-use Rattle.wc_program.specs.declared.files.FileProblem.TheVariants.{Memory as read_memory}
 use Rattle.wc_program.specs.declared.program.NoArguments.{NoArguments}
 use Rattle.wc_program.specs.declared.program.NoArguments.TheVariants.{Empty, NoMemory, NoText}
 use Rattle.wc_options.specs.Wrong.{Reading, Stop, WrongView, help, version, wrong, wrong_text}
-use Rattle.wc_import_paths.specs.Patterns.{PatternView, first_unknown, pattern_view}
+use Rattle.wc_import_paths.specs.Patterns.{PatternView, first_unknown}
 use Rattle.wcwhy_command.specs.Arguments.{CommandView}
 use Rattle.wcwhy_command.specs.Reading.{AsksMemory, read_arguments}
 use Rattle.wcwhy_command.specs.Usage.{usage_text, help_text, version_text, no_text, fault_line, fault_and_usage}
 use Rattle.wc_import_paths.specs.Following.{FollowedView, IsFollowed, IsRefusal}
 use Rattle.wcwhy_command.specs.Lines.{AreLines}
 use Rattle.wcwhy_command.specs.NearExports.{IsNearFor}
-use Rattle.wcwhy_command.specs.Fault.{NeedsText, near_text, why_fault_text}
+use Rattle.wcwhy_command.specs.Fault.{NeedsText, why_fault_text}
+use Rattle.wcwhy_command.specs.Inputs.{AreInputs, IsInputCause}
+use Rattle.wcwhy_command.specs.ModuleWays.{ArePrinted, IsModulesCause, IsNoImport, modules_input}
 use Rattle.wcwhy_command.specs.Tree.{IsTreeGraph, IsTreeJson}
-use Rattle.wc_import_paths.specs.declared.patterns.ImportPattern.{ImportPattern}
 use Rattle.wcwhy_command.specs.declared.fault.WhyFault.{WhyFault}
-use Rattle.wcwhy_command.specs.declared.fault.WhyFault.TheVariants.{Memory, CannotRead, Source, NoImport, Output}
+use Rattle.wcwhy_command.specs.declared.fault.WhyFault.TheVariants.{Memory, Source, NoImport, Output}
 
 -- what is printed of a module that is followed: the tree of its paths as a graph or as JSON, where that is asked for; else lines
 abbrev pub IsSourceTextBy : Bool → Bool → FollowedView → List PatternView → List ℕ → Type 0
@@ -42,11 +40,6 @@ pub record IsPrintedOf (c : CommandView) (bytes text : List ℕ) : Type 0 where
   pub named : AreFunctionNames bytes source.names
   pub is : IsSourceTextBy c.dot c.json source c.imports text
 
--- the first option that asks for none of these imports, and what is there in their place
-abbrev pub IsNoImport : List ImportValue → List PatternView → ImportPattern → Option (String Global) → Type 0
-IsNoImport imports patterns p near =
-    (first_unknown imports patterns ≡ Some (pattern_view p)) × (option_map string_bytes near ≡ near_text imports (pattern_view p))
-
 -- why nothing is printed of the bytes of a module
 abbrev pub IsBytesCause : CommandView → List ℕ → WhyFault → Type 0
 IsBytesCause c bytes (Source f place near) = (f ≢ gc_memory) × IsRefusal bytes c.exports f place × IsNearFor bytes f near
@@ -60,23 +53,33 @@ IsPrintCause c bytes out Memory = ⊤
 IsPrintCause c bytes out Output = out failed
 IsPrintCause c bytes out f = IsBytesCause c bytes f × out nothing
 
--- the path of the file that is read: `-` stands for standard input
-abbrev pub input_path : List ℕ → List ℕ
-input_path path = cond (bytes_eq path (codes "-")) (codes "/dev/stdin") path
+-- whether the paths in a module that stands alone are asked for
+abbrev pub is_alone : CommandView → Bool
+is_alone c = length c.adapters == 0 && not c.summary
 
--- the adapter's file has bytes of which this could not be printed
+-- what is printed of the bytes of a module that stands alone, or of a main module and its adapters
+abbrev pub IsTextOf : Bool → CommandView → List ℕ → List Given → List ℕ → Type 0
+IsTextOf true c main adapters text = IsPrintedOf c main text
+IsTextOf false c main adapters text = ArePrinted c (modules_input c main adapters) text
+
+-- why they could not be printed of
+abbrev pub IsTextCause : Bool → CommandView → List ℕ → List Given → (Printing → Type 0) → WhyFault → Type 0
+IsTextCause true c main adapters out f = IsPrintCause c main out f
+IsTextCause false c main adapters out f = IsModulesCause c (modules_input c main adapters) out f
+
+-- files have bytes of which this could not be printed
 abbrev pub IsHeldCause : CommandView → Option Held → (Printing → Type 0) → WhyFault → Type 0
-IsHeldCause c before out f = (bytes : List ℕ) × Holds before (input_path c.source) bytes × IsPrintCause c bytes out f
+IsHeldCause c before out f =
+    (main : List ℕ) × (adapters : List Given) × AreInputs c before main adapters × IsTextCause (is_alone c) c main adapters out f
 
--- why a command could not be run: the read of its file failed, by a want of memory or else; or what it has
+-- why a command could not be run: its files are not there; or what they have
 abbrev pub IsRunCause : CommandView → FileChange → (Printing → Type 0) → WhyFault → Type 0
-IsRunCause c files out (CannotRead path p) = (path.now ≡ c.source) × files.IsFailedRead (input_path c.source) p × (p ≢ read_memory) × out nothing
-IsRunCause c files out Memory = (files.IsFailedRead (input_path c.source) read_memory × out nothing) ⊎ IsHeldCause c files.before out Memory
-IsRunCause c files out f = IsHeldCause c files.before out f
+IsRunCause c files out f = (IsInputCause c files f × out nothing) ⊎ IsHeldCause c files.before out f
 
 -- the command did its work
 abbrev pub EndsWell : CommandView → Option Held → (Printing → Type 0) → Type 0
-EndsWell c before out = (bytes text : List ℕ) × Holds before (input_path c.source) bytes × IsPrintedOf c bytes text × out (printed text)
+EndsWell c before out =
+    (main text : List ℕ) × (adapters : List Given) × AreInputs c before main adapters × IsTextOf (is_alone c) c main adapters text × out (printed text)
 
 -- a fault is printed in a line; or that there was no memory for its text, if memory is needed for it
 abbrev pub IsReported : WhyFault → (Printing → Type 0) → ℕ → Type 0

@@ -5,15 +5,16 @@ use Rattle.json.specs.Lex.{tokens}
 use Rattle.json.specs.Print.{print}
 use Rattle.json.specs.Tree.{json_tokens}
 use Rattle.wc_read.specs.Imports.{ImportValue}
+use Rattle.wc_paths.specs.PathTree.{AreUsedInOrder}
 use Rattle.wc_paths.specs.Roots.{import_item}
 use Rattle.wc_paths.specs.declared.items.PathItem.{PathItem}
 use Rattle.wc_why.specs.MarkedPaths.{Marking}
 use Rattle.wc_why.specs.Paths.{PathView}
 use Rattle.wc_import_paths.specs.AskedMarks.{AreMarks}
-use Rattle.wc_import_paths.specs.Following.{FollowedView}
+use Rattle.wc_import_paths.specs.Following.{FollowedView, first_in, graph_in, second_in}
 use Rattle.wc_import_paths.specs.JsonPaths.{IsPathTo, IsUnreached}
 use Rattle.wc_import_paths.specs.Patterns.{PatternView, is_shown}
-use Rattle.wc_tree.specs.ModuleTree.{IsRead, ShownView, ways_of}
+use Rattle.wc_tree.specs.ModuleTree.{IsInPathOrder, IsRead, ShownView, items_in, ways_of}
 use Rattle.wc_tree.specs.Tree.{TreeModuleView, TreeView}
 use Rattle.wc_tree.specs.TreeGraph.{tree_graph}
 use Rattle.wc_tree.specs.TreeJson.{tree_json}
@@ -41,7 +42,8 @@ shown_of a = record { from = a.0.module_name; name = a.0.name; item = a.1 }
 abbrev pub IsEndOf : FollowedView → TreeModuleView → AskedImport → Option ℕ → Type 0
 IsEndOf f m a end = MatchOption end (IsUnreached f a.1) (λ place. (p : PathView) × IsPathTo f a.0 a.1 p × IsRead m place p.steps)
 
--- the tree of the paths to the imports that are asked for, in order, and of their items each with its mark
+-- the tree of the paths to the imports that are asked for, in order, and of their items, each once, in the order of first use, with its
+-- mark
 pub record IsTree (f : FollowedView) (patterns : List PatternView) (t : TreeView) : Type 0 where
   pub alone : TreeModuleView
   pub modules : t.modules ≡ alone ∷ []
@@ -51,6 +53,9 @@ pub record IsTree (f : FollowedView) (patterns : List PatternView) (t : TreeView
   pub ways : t.ways ≡ ways_of (map shown_of (asked_imports patterns f.code.imports)) ends
   pub paths : (n : ℕ) (a : AskedImport) → slice_get (asked_imports patterns f.code.imports) n ≡ Some a
       → (end : Option ℕ) × (slice_get ends n ≡ Some end) × IsEndOf f alone a end
+  pub earlier : IsInPathOrder alone
+  pub items : AreUsedInOrder (graph_in f) (first_in f) (second_in f)
+      (map (λ (a : AskedImport). a.1) (asked_imports patterns f.code.imports)) (items_in alone)
   pub marks : Marking
   pub marked : AreMarks f patterns marks
   pub have : All (λ i. i.only ≡ marks i.item) alone.items

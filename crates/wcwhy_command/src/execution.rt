@@ -41,7 +41,11 @@ pub(crate) fn print_reasons<'a, O: Output>(
 }
 
 /// The fault for the imports that an option asks for, of which a module with these imports has none.
-fn no_import<'a>(alloc: Global, pattern: ImportPattern<'a>, imports: &[Import<'_>]) -> WhyFault<'a>
+pub(crate) fn no_import<'a>(
+    alloc: Global,
+    pattern: ImportPattern<'a>,
+    imports: &[Import<'_>],
+) -> WhyFault<'a>
     ensures { IsNoImportFault (map import_value imports.now) pattern.entry result }
 {
     match near_text(alloc, &pattern, imports) {

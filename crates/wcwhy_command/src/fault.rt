@@ -4,11 +4,11 @@ ghost use Rattle.std.specs.Prelude.{◌≡◌, IfNone, IfOk, IfSome, map, string
 ghost use Rattle.std.specs.Option.{option_map};
 ghost use Rattle.wc_read.specs.Imports.{import_value};
 ghost use Rattle.wc_import_paths.specs.Patterns.{pattern_view};
-ghost use Rattle.wcwhy_command.specs.Fault.{IsSourceFault, NeedsText, given_word, near_package_text, near_text, of_source, package_pattern_text, pattern_text, source_text, unknown_text, unread_text, why_fault_text};
+ghost use Rattle.wcwhy_command.specs.Fault.{IsAdapterFault, IsNamedFault, IsSourceFault, NeedsText, adapter_text, given_word, near_package_text, near_text, no_adapter_text, of_adapter, of_source, package_pattern_text, pattern_text, repeated_adapter_text, source_text, unknown_text, unread_text, why_fault_text};
 
 use crate::near_exports::near_for;
 use crate::patterns::{named_under, near_import, near_package, near_pattern};
-use std::alloc::{AllocError, Global};
+use std::alloc::{AllocError, AllocFailed, Global};
 use wc_gc::{GcFault, TrimPlace};
 use wc_import_paths::ImportPattern;
 use wc_json::escaped;
@@ -25,9 +25,15 @@ pub enum WhyFault<'a> {
     Memory,
     /// The file of this path could not be read, and why: never `Memory`.
     CannotRead(&'a str, FileProblem),
+    /// Two adapters have this name.
+    RepeatedAdapter(&'a str),
+    /// No adapter has this name, and an export is asked of it. It carries what adapters there are, as a text.
+    NoAdapter(&'a str, String),
     /// The module can't be followed. It carries why not, never `Memory`, and where; and of an export that is not there the
     /// first that is equal to it but for its version and for the case of letters, as it is in the fault's text.
     Source(GcFault, Option<TrimPlace>, Option<String>),
+    /// The adapter of this name can't be followed. It carries what `Source` does.
+    Adapter(String, GcFault, Option<TrimPlace>, Option<String>),
     /// An option asks for imports, and the module has none of them. It carries what the option asks for; and of the first
     /// import that it would ask for by the module, if versions and the case of letters did not count, the module; else of
     /// the first that it would ask for so by the package, the package with its version. After an option with a name it is
@@ -50,7 +56,13 @@ impl WhyFault<'_> {
         match self {
             WhyFault::Memory => String::from_str(alloc, OUT_OF_MEMORY),
             WhyFault::CannotRead(path, problem) => unread_text(alloc, path, *problem),
+            WhyFault::RepeatedAdapter(name) => repeated_adapter_text(alloc, name),
+            WhyFault::NoAdapter(name, listing) => no_adapter_text(alloc, name, listing),
             WhyFault::Source(fault, place, near) => source_text(alloc, fault, place, near),
+            WhyFault::Adapter(name, fault, place, near) => {
+                let text = source_text(alloc, fault, place, near)?;
+                adapter_text(alloc, name, &text)
+            }
             WhyFault::NoImport(pattern, near) => unknown_text(alloc, pattern, near),
             WhyFault::Output => String::from_str(alloc, UNPRINTED),
         }
@@ -64,9 +76,33 @@ impl WhyFault<'_> {
         match self {
             WhyFault::Memory => Some(OUT_OF_MEMORY),
             WhyFault::Output => Some(UNPRINTED),
-            WhyFault::CannotRead(_, _) | WhyFault::Source(_, _, _) | WhyFault::NoImport(_, _) =>
-                None,
+            WhyFault::CannotRead(_, _)
+            | WhyFault::RepeatedAdapter(_)
+            | WhyFault::NoAdapter(_, _)
+            | WhyFault::Source(_, _, _)
+            | WhyFault::Adapter(_, _, _, _)
+            | WhyFault::NoImport(_, _) => None,
         }
+    }
+}
+
+impl From<AllocError> for WhyFault<'_> {
+    ghost use Rattle.wcwhy_command.specs.declared.fault.WhyFault.TheVariants.{Memory};
+
+    ghost from_gives = { λ _ e. e ≡ Memory };
+
+    fn from(_e: AllocError) -> Self {
+        WhyFault::Memory
+    }
+}
+
+impl<T: Drop> From<AllocFailed<T>> for WhyFault<'_> {
+    ghost use Rattle.wcwhy_command.specs.declared.fault.WhyFault.TheVariants.{Memory};
+
+    ghost from_gives = { λ _ e. e ≡ Memory };
+
+    fn from(_e: AllocFailed<T>) -> Self {
+        WhyFault::Memory
     }
 }
 
@@ -80,6 +116,30 @@ fn unread_text(alloc: Global, path: &str, problem: FileProblem) -> Result<String
     let path = escaped(alloc, path)?;
     let problem = problem_text(problem);
     format!(in alloc; "cannot read {path}{problem}")
+}
+
+/// The fault for a name that two adapters have.
+fn repeated_adapter_text(alloc: Global, name: &str) -> Result<String, AllocError>
+    ensures { IfOk result (λ text. string_bytes text ≡ repeated_adapter_text name.now) }
+{
+    let name = escaped(alloc, name)?;
+    format!(in alloc; "adapter `{name}` twice")
+}
+
+/// The fault for a name that no adapter has, with what adapters there are.
+fn no_adapter_text(alloc: Global, name: &str, listing: &str) -> Result<String, AllocError>
+    ensures { IfOk result (λ text. string_bytes text ≡ no_adapter_text name.now listing.now) }
+{
+    let text = format!(in alloc; "no adapter `{name}`; adapters:{listing}")?;
+    escaped(alloc, &text)
+}
+
+/// The text of why the adapter of a name can't be followed.
+fn adapter_text(alloc: Global, name: &str, text: &str) -> Result<String, AllocError>
+    ensures { IfOk result (λ t. string_bytes t ≡ adapter_text name.now text.now) }
+{
+    let name = escaped(alloc, name)?;
+    format!(in alloc; "Adapter `{name}`: {text}")
 }
 
 /// The text of why a module can't be followed, with what a terminal would act on escaped, and under it what it is about,
@@ -220,6 +280,51 @@ fn refused_fault<'a>(refused: Refused<GcFault, TrimPlace>, near: Option<String>)
     match fault {
         GcFault::Memory => WhyFault::Memory,
         _ => WhyFault::Source(fault, place, near),
+    }
+}
+
+/// The fault for the adapter of this name with these bytes, which can't be followed.
+pub(crate) fn adapter_fault<'a>(
+    alloc: Global,
+    name: &str,
+    bytes: &[u8],
+    refused: Refused<GcFault, TrimPlace>,
+) -> WhyFault<'a>
+    ensures { IsAdapterFault name.now bytes.now refused.fault refused.place result }
+{
+    match near_for(alloc, bytes, &refused.fault) {
+        Ok(near) => named_fault(alloc, name, refused, near),
+        Err(AllocError) => WhyFault::Memory,
+    }
+}
+
+/// The fault for the adapter of this name, with what is there in place of an export.
+fn named_fault<'a>(
+    alloc: Global,
+    name: &str,
+    refused: Refused<GcFault, TrimPlace>,
+    near: Option<String>,
+) -> WhyFault<'a>
+    ensures { IsNamedFault name.now refused.fault refused.place near result }
+{
+    match String::from_str(alloc, name) {
+        Ok(name) => of_adapter(name, refused, near),
+        Err(AllocError) => WhyFault::Memory,
+    }
+}
+
+/// The fault for an adapter by its name.
+fn of_adapter<'a>(
+    name: String,
+    refused: Refused<GcFault, TrimPlace>,
+    near: Option<String>,
+) -> WhyFault<'a>
+    ensures { result ≡ of_adapter name refused.fault refused.place near }
+{
+    let Refused { fault, place } = refused;
+    match fault {
+        GcFault::Memory => WhyFault::Memory,
+        _ => WhyFault::Adapter(name, fault, place, near),
     }
 }
 

@@ -3,13 +3,17 @@
 //! (`wc_paths`).
 //!
 //! `parse` gives the command of some arguments. `run_command` does a command's work, over any `FileStore` and any `Output`,
-//! and `run` is the program over these and any `Screen` for its faults. Paths are printed by `wc_why`.
+//! and `run` is the program over these and any `Screen` for its faults. Paths are printed by `wc_why`; those through adapters,
+//! and imports by interfaces, by `wc_module_ways`.
 #![tactic(auto)]
 
+mod adapter_names;
 mod arguments;
 mod execution;
 mod fault;
+mod inputs;
 mod lines;
+mod module_ways;
 mod near_exports;
 mod patterns;
 mod program;

@@ -1,27 +1,30 @@
 //! The program: its arguments, its file, what it prints, and its exit status.
 
-ghost use Rattle.std.specs.Prelude.{◌≡◌, IfErr, IfOk, IsErr, OnOk};
+ghost use Rattle.std.specs.Prelude.{◌≡◌, ◌==◌, IfErr, IfOk, IsErr, OnOk, length, map, ◌&&◌, not};
 ghost use Rattle.std.specs.IoError.{error_kind};
 ghost use Rattle.wc_program.specs.Files.{file_change};
 ghost use Rattle.wc_program.specs.Screen.{Becomes, output_ends};
 ghost use Rattle.wc_program.specs.Program.{Prints, failure, success, wrong_arguments};
 ghost use Rattle.wcwhy_command.specs.Arguments.{command_view};
 ghost use Rattle.wcwhy_command.specs.Fault.{NeedsText};
-ghost use Rattle.wcwhy_command.specs.Program.{CommandEnds, EndsWell, EndsWith, EndsWithout, EndsWithoutArguments, IsReported, IsRunCause, ProgramEnds, input_path};
-ghost use Rattle.wcwhy_command.specs.Private.Execution.{AnswersStop};
+ghost use Rattle.wcwhy_command.specs.Program.{CommandEnds, EndsWell, EndsWith, EndsWithout, EndsWithoutArguments, IsReported, IsRunCause, IsTextCause, IsTextOf, ProgramEnds, is_alone};
+ghost use Rattle.wcwhy_command.specs.Private.Execution.{AnswersStop, PrintsSome};
+ghost use Rattle.wcwhy_command.specs.Private.Inputs.{file_view};
 ghost use Rattle.wcwhy_command.specs.Usage.{fault_and_usage, fault_line, help_text, usage_text};
 
 use crate::arguments::{Command, NoCommand, parse};
 use crate::execution::print_reasons;
 use crate::fault::WhyFault;
+use crate::inputs::{Input, read_input};
+use crate::module_ways::print_modules;
 use crate::usage::{NO_TEXT, VERSION, page};
 use std::alloc::{AllocError, Global};
 use std::io::{self, ErrorKind};
 use wc_maps::Seed;
 use wc_options::{Help, Usage, WrongCall};
 use wc_program::{
-    FAILURE, FileProblem, FileStore, NoArguments, Output, Program, SUCCESS, Screen, Shell, Text,
-    TextBetween, WRONG_ARGUMENTS, print, read_file,
+    FAILURE, FileStore, NoArguments, Output, Program, SUCCESS, Screen, Shell, Text, TextBetween,
+    WRONG_ARGUMENTS, print,
 };
 use wc_texts::OUT_OF_MEMORY;
 
@@ -32,7 +35,7 @@ use wc_texts::OUT_OF_MEMORY;
 /// |---|---|---|
 /// | 0 | there are no arguments | the usage text, to `out` |
 /// | 0 | `parse` answers `Help` or `Version` | the help text or the version, to `out` |
-/// | 0 | the command was run | the lines of imports, or with `--dot` the graph, to `out` |
+/// | 0 | the command was run | the lines of imports, or the graph or JSON of them, to `out` |
 /// | 1 | the command could not be run | the line `wcwhy: TEXT`, to `err` |
 /// | 1 | there was no memory for the arguments | the line `wcwhy: out of memory`, to `err` |
 /// | 2 | an argument is wrong, or no text | the line `wcwhy: TEXT` and the usage text, to `err` |
@@ -134,7 +137,9 @@ fn run_and_report<F: FileStore, O: Output, E: Screen>(
     }
 }
 
-/// Reads the module of a command, and prints why its imports stay: for each import that is asked for, in the order of the
+/// Reads the module of a command, and its adapters, and prints why imports stay.
+///
+/// Of a module that stands alone, without adapters: for each import that is asked for, in the order of the
 /// file, the lines of the one path to its item: `MODULE NAME`, where the path begins, as `  export NAME`, `  start`,
 /// `  fills table T` or `  fills memory M`, and then a line for each of its items, as `  func 33 write_all`. Where nothing
 /// leads there, it is the line `MODULE NAME: not reached` if imports are asked for, and no line if all are shown.
@@ -145,22 +150,35 @@ fn run_and_report<F: FileStore, O: Output, E: Screen>(
 /// With `--json` it prints the tree of these paths instead, as JSON (`wc_tree::tree_to_json`), and with `--dot` as a graph
 /// (`wc_tree::tree_to_graph`). An import that nothing leads to is not in it.
 ///
-/// All lines are flushed. The path `-` of the module is that of `/dev/stdin`. `seed`: the seed of the maps that are made.
+/// With adapters the module is the main module of a component. It prints the lines of `wc_module_ways::ways_text` for its
+/// imports and those of the adapters that it needs; with `--json` the tree of `wc_module_ways::ways_json`, and with `--dot`
+/// the graph of `wc_module_ways::ways_graph`.
 ///
-/// It takes time and memory linear in the module and in what is asked for, and time linear in what is printed.
+/// With `--imports` it prints the lines of `wc_module_ways::imports_text` instead, of a module that stands alone too, or with
+/// `--json` the list of `wc_module_ways::imports_json`.
+///
+/// All lines are flushed. The path `-` of a file is that of `/dev/stdin`. `seed`: the seed of the maps that are made.
+///
+/// It takes time and memory linear in the modules and in what is asked for, and time linear in what is printed; with adapters
+/// memory too.
 ///
 /// # Errors
 ///
 /// Of several causes the first in this order is named; `Memory` may come in place of any.
 ///
 /// - `CannotRead`: the module could not be read. It carries why.
+/// - `RepeatedAdapter`, `NoAdapter`: two adapters have one name; or an export is asked of one that is not given.
+/// - `CannotRead`: an adapter could not be read; they are read in order.
 /// - `Source`: the module can't be followed: `Read` of a module that can't be read, and then of segments; `MissingExport`;
 ///   `LiveBody`, of a body that paths reach. With `MissingExport` it carries the first export that is equal but for its version
-///   and for the case of letters.
-/// - `NoImport`: the module has none of the imports that an option asks for. It carries the first such, and the first
+///   and for the case of letters. With adapters segments and bodies that can't be read are no faults of the main module.
+/// - `Adapter`: the bytes of an adapter are no module.
+/// - `NoImport`: the module, or with adapters each of the modules, has none of the imports that an option asks for. It carries the first such, and the first
 ///   import that it would ask for by the module, or else by the package, if versions and the case of letters did not count.
+/// - `Adapter`: an adapter that the component needs can't be followed, as one that is trimmed (`wc_gc::why_imports`). With
+///   `MissingExport` it carries what `Source` does.
 /// - `Output`: a put or the flush failed; `out` is failed, and how much was printed is left open.
-/// - `Memory`: an allocation failed, or the module is too large for memory. How much was printed is left open.
+/// - `Memory`: an allocation failed, or a file is too large for memory. How much was printed is left open.
 ///
 /// After each fault but `Output` and `Memory` nothing was printed.
 pub fn run_command<'a, F: FileStore, O: Output>(
@@ -176,18 +194,39 @@ pub fn run_command<'a, F: FileStore, O: Output>(
         (file_change F.held F.read_fails F.write_fails files.now files.now)
         (Becomes (output_ends O.written O.sent O.is_failed) out.old out.new)) }
 {
-    match read_file(files, input_path(command.source)) {
-        Ok(bytes) => print_reasons(alloc, seed, command, &bytes, out),
-        Err(FileProblem::Memory) => Err(WhyFault::Memory),
-        Err(problem) => Err(WhyFault::CannotRead(command.source, problem)),
+    match read_input(alloc, seed, command, files) {
+        Ok(input) => print_input(alloc, seed, command, &input, out),
+        Err(fault) => Err(fault),
     }
 }
 
-/// The path of the file that is read: `-` stands for standard input.
-fn input_path(path: &str) -> &str
-    ensures { result.now ≡ input_path path.now }
+/// Prints why imports stay of a module that stands alone, or of a main module and its adapters.
+fn print_input<'a, O: Output>(
+    alloc: Global,
+    seed: Seed,
+    command: &Command<'a>,
+    input: &Input<'_>,
+    out: &mut O,
+) -> Result<(), WhyFault<'a>>
+    ensures done { OnOk result (PrintsSome (IsTextOf (is_alone (command_view command.now))
+        (command_view command.now) input.now.main.items (map file_view input.now.adapters.items))
+        (Becomes (output_ends O.written O.sent O.is_failed) out.old out.new)) }
+    ensures fault { IfErr result (IsTextCause (is_alone (command_view command.now))
+        (command_view command.now) input.now.main.items (map file_view input.now.adapters.items)
+        (Becomes (output_ends O.written O.sent O.is_failed) out.old out.new)) }
 {
-    if path == "-" { "/dev/stdin" } else { path }
+    if is_alone(command.adapters.as_slice(), command.summary) {
+        print_reasons(alloc, seed, command, &input.main, out)
+    } else {
+        print_modules(alloc, seed, command, input, out)
+    }
+}
+
+/// Whether a module has none of these adapters, and paths in it are asked for.
+fn is_alone(adapters: &[(&str, &str)], summary: bool) -> bool
+    ensures { result ≡ (length adapters.now == 0 && not summary) }
+{
+    adapters.is_empty() && !summary
 }
 
 /// Prints why the program failed. The answer is the status of a failure.

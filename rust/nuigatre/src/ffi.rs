@@ -174,6 +174,34 @@ unsafe extern "C" {
         out_length: usize,
     ) -> Answer;
 
+    #[allow(dead_code)]
+    #[link_name = "nuigatre9_component_paths"]
+    fn nuigatre_component_paths(
+        seed0: u64,
+        seed1: u64,
+        message: *const u8,
+        message_length: usize,
+        modules: *const u8,
+        modules_length: usize,
+        key: *const u8,
+        key_length: usize,
+        out: *mut u8,
+        out_length: usize,
+    ) -> Answer;
+
+    #[allow(dead_code)]
+    #[link_name = "nuigatre9_component_imports"]
+    fn nuigatre_component_imports(
+        seed0: u64,
+        seed1: u64,
+        message: *const u8,
+        message_length: usize,
+        modules: *const u8,
+        modules_length: usize,
+        out: *mut u8,
+        out_length: usize,
+    ) -> Answer;
+
     #[cfg(test)]
     #[link_name = "nuigatre9_fault_text"]
     fn nuigatre_fault_text(call: u32, number: u32, out: *mut u8, out_length: usize) -> Answer;

@@ -8,12 +8,10 @@ use Rattle.wc_read.specs.Exports.{ExportValue}
 use Rattle.wc_read.specs.Imports.{ImportValue}
 use Rattle.wc_read.specs.Modules.{ModuleValue}
 use Rattle.wc_read.specs.Names.{GlobalNameValue}
-use Rattle.wc_read.specs.Place.{IsPlaceIn}
 use Rattle.wc_read.specs.declared.fault.ReadFault.{ReadFault}
 use Rattle.wc_read.specs.declared.place.ReadPlace.{ReadPlace}
 use Rattle.wc_gc.specs.Exports.{missing_name}
 use Rattle.wc_gc.specs.Fault.{of_read}
-use Rattle.wc_gc.specs.LiveItems.{IsUnread}
 use Rattle.wc_gc.specs.declared.fault.GcFault.{GcFault}
 use Rattle.wc_gc.specs.declared.fault.GcFault.TheVariants.{Memory, Read, MissingExport, LiveBody}
 use Rattle.wc_gc.specs.declared.trim_place.TrimPlace.{TrimPlace}
@@ -42,11 +40,6 @@ use Rattle.wc_import_paths.specs.declared.followed.Followed.{Followed}
 
 abbrev pub IsUnreadRefusal : ReadFault → Option ReadPlace → GcFault → Option TrimPlace → Type 0
 IsUnreadRefusal f place fault at = (fault ≡ of_read f) × (at ≡ option_map (λ p. Bytes p) place)
-
-abbrev pub IsReadRefusal : List ℕ → GcFault → Option TrimPlace → Type 0
-IsReadRefusal bytes Memory place = ⊤
-IsReadRefusal bytes (Read f) place = IsUnread bytes f × (p : ReadPlace) × IsPlaceIn bytes p × (place ≡ Some (Bytes p))
-IsReadRefusal bytes f place = ⊥
 
 abbrev pub IsUnreadSegments : ReadFault → Option SegmentSection → GcFault → Option TrimPlace → Type 0
 IsUnreadSegments f place fault at = MatchOption place (fault ≡ Memory) (λ section. (fault ≡ Read f) × (at ≡ Some (Section (section_id section))))

@@ -1,6 +1,7 @@
 -- A tree that grows.
-use Rattle.std.specs.Prelude.{◌≡◌, ◌≢◌, ℕ, List, [], ◌∷◌, ◌++◌, length, AllPairs, Contains, Option, Some, None, set}
+use Rattle.std.specs.Prelude.{◌≡◌, ◌≢◌, ℕ, List, [], ◌∷◌, ◌++◌, length, All, AllPairs, Contains, Option, Some, None, set}
 use Rattle.std.specs.List.{slice_get}
+use Rattle.wc_paths.specs.ChainMarks.{IsOnChain}
 use Rattle.wc_paths.specs.ChainTree.{HasFroms, IsEnd}
 use Rattle.wc_paths.specs.declared.chain_tree.Growth.{Growth}
 
@@ -16,11 +17,17 @@ pub record IsGrowthOf (finder order : List ℕ) (from places : List (Option ℕ)
 abbrev pub IsGrowth : List ℕ → Growth → Type 0
 IsGrowth finder g = IsGrowthOf finder g.order.items g.from.items g.places.items
 
+-- positions are on the chain to a target, if there is one
+abbrev pub AreFor : List ℕ → Option ℕ → List ℕ → Type 0
+AreFor finder None ks = ks ≡ []
+AreFor finder (Some target) ks = All (IsOnChain finder (target ∷ [])) ks
+
 -- the chain to a position was added, whose place this is
 pub record IsGrown (finder : List ℕ) (target : ℕ) (old new : Growth) (end : ℕ) : Type 0 where
   pub growth : IsGrowth finder new
   pub more : List ℕ
   pub order : new.order.items ≡ old.order.items ++ more
+  pub used : AreFor finder (Some target) more
   pub is : slice_get new.order.items end ≡ Some target
 
 -- the same, if there is a position
@@ -28,6 +35,7 @@ pub record IsGrownIf (finder : List ℕ) (target : Option ℕ) (old new : Growth
   pub growth : IsGrowth finder new
   pub more : List ℕ
   pub order : new.order.items ≡ old.order.items ++ more
+  pub used : AreFor finder target more
   pub is : IsEnd new.order.items target end
 
 -- a position was appended, whose place this is

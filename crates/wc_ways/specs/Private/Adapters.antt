@@ -1,6 +1,5 @@
 -- An adapter in which paths are looked for, as the code has it, and what is said of it.
-use Rattle.std.specs.Prelude.{◌≡◌, ℕ, Bool, List, [], ◌∷◌, ◌++◌, Some, None, is_some, string_bytes}
-use Rattle.wc_read.specs.Imports.{ImportValue}
+use Rattle.std.specs.Prelude.{◌≡◌, ℕ, List, [], ◌∷◌, ◌++◌, None}
 use Rattle.wc_read.specs.Modules.{module_value}
 use Rattle.wc_read.specs.Names.{name_entries}
 use Rattle.wc_gc.specs.LiveChains.{AreImportChains, AreWhyImports}
@@ -9,23 +8,17 @@ use Rattle.wc_validate.specs.Validate.{module_record}
 use Rattle.wc_world.specs.Views.{ComponentWorldView, WorldAdapterView}
 use Rattle.wc_world.specs.WorldViews.{required_view, world_view}
 use Rattle.wc_plan.specs.Planner.{AreModuleNameable}
-use Rattle.wc_why.specs.Lines.{importer_text}
 use Rattle.wc_why.specs.Paths.{StepView, exported, imported}
-use Rattle.wc_ways.specs.Asked.{FunctionName}
 use Rattle.wc_ways.specs.Main.{AreMainSteps}
-use Rattle.wc_ways.specs.Originals.{Original, asked_in, original_of, required_exports, required_of, wanted_of}
-use Rattle.wc_ways.specs.Said.{IsSaidIn, IsSaidOf, IsSaidOfTrimmed, SayingAlone, SayingAt, library_said as library_in}
+use Rattle.wc_ways.specs.Marked.{Marking}
+use Rattle.wc_ways.specs.Originals.{Original, original_of, required_exports, required_of, wanted_of}
+use Rattle.wc_ways.specs.Said.{IsSaidBy as IsAdapterSaid, IsSaidIn, IsSaidOfTrimmed, SayingBy, SayingLibrary}
 use Rattle.wc_ways.specs.WaysFaults.{search_input}
-use Rattle.wc_ways.specs.Words.{adapter_id}
 use Rattle.wc_ways.specs.Private.MainPaths.{AreMainPaths}
-use Rattle.wc_ways.specs.declared.asked.Function.{Function}
+use Rattle.wc_ways.specs.Private.Marked.{marking}
 use Rattle.wc_ways.specs.declared.main_paths.MainPaths.{MainPaths}
 use Rattle.wc_ways.specs.declared.modules.Adapter.{Adapter}
 use Rattle.wc_ways.specs.declared.originals.Walk.{Walk}
-
--- the names of a function that is asked about
-abbrev pub function_value : Function → FunctionName
-function_value f = (string_bytes f.interface, f.name.now)
 
 -- the paths in the main module of a component's world
 abbrev pub IsMainOf : ComponentWorldView → MainPaths → Type 0
@@ -34,6 +27,10 @@ IsMainOf w p = AreMainPaths w.encoder.module_bytes p
 -- the component's world that an adapter is in
 abbrev pub world_in : Adapter → ComponentWorldView
 world_in g = world_view g.world.now
+
+-- the marks of items
+abbrev pub marks_at : Adapter → Marking
+marks_at g = marking (world_in g) g.marks.now
 
 -- the paths are those in the main module
 abbrev pub HasMain : Adapter → Type 0
@@ -74,21 +71,15 @@ AreStepsBy g export first =
 
 -- what is said of it
 
-abbrev pub IsSaidFor : {A : Type 0} → SayingAt A → Adapter → List ℕ → List A → Type 0
-IsSaidFor saying g wasm parts = IsSaidIn (saying g.key.now g.index) (world_in g) g.name.now (module_record g.info.now) wasm parts
+abbrev pub IsSaidFor : {A : Type 0} → SayingBy A → Adapter → List ℕ → List A → Type 0
+IsSaidFor saying g wasm parts = IsSaidIn (saying g.key.now) (world_in g) g.name.now (module_record g.info.now) wasm parts
 
-abbrev pub IsSaidOfThis : {A : Type 0} → SayingAt A → Adapter → List A → Type 0
-IsSaidOfThis saying g parts = IsSaidOfTrimmed (saying g.key.now g.index) (world_in g) g.name.now (module_record g.info.now) parts
+abbrev pub IsSaidOfThis : {A : Type 0} → SayingBy A → Adapter → List A → Type 0
+IsSaidOfThis saying g parts = IsSaidOfTrimmed (saying g.key.now) (world_in g) g.name.now (module_record g.info.now) parts
 
-abbrev pub IsSaidBy : {A : Type 0} → SayingAlone A → SayingAt A → Adapter → WorldAdapterView → List A → Type 0
-IsSaidBy alone saying g y parts =
-    IsSaidOf (saying g.key.now g.index) (library_in alone (world_in g) g.key.now g.index) (world_in g) (g.name.now, y) parts
+abbrev pub IsSaidBy : {A : Type 0} → SayingLibrary A → SayingBy A → Adapter → WorldAdapterView → List A → Type 0
+IsSaidBy alone saying g y parts = IsAdapterSaid alone saying (world_in g) g.key.now (g.name.now, y) parts
 
 -- of a library
-abbrev pub library_said : {A : Type 0} → SayingAlone A → Adapter → List A
-library_said alone g =
-    alone (world_in g).encoder.resolve g.key.now (Some g.name.now) (adapter_id g.index) (importer_text (Some g.name.now)) g.info.now.imports
-
--- an import of it is asked about
-abbrev pub is_asked_of : Adapter → ImportValue → Bool
-is_asked_of g i = is_some (asked_in (world_in g).encoder.resolve g.key.now (module_record g.info.now).imports i)
+abbrev pub IsSaidAlone : {A : Type 0} → SayingLibrary A → Adapter → List A → Type 0
+IsSaidAlone alone g parts = alone (world_in g).encoder.resolve g.key.now g.name.now g.info.now.imports parts

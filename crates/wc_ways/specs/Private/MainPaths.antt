@@ -1,9 +1,7 @@
 -- A main module as the code follows it.
-use Rattle.std.specs.Prelude.{◌≡◌, ℕ, Bool, ◌&&◌, ◌<◌, List, ◌∷◌, length, true, Option, Some, None}
-use Rattle.std.specs.Borrow.{Bor}
+use Rattle.std.specs.Prelude.{◌≡◌, ℕ, ◌<◌, List, ◌∷◌, length, true, Option, Some, None}
 use Rattle.std.specs.List.{slice_get}
 use Rattle.std.specs.Map.{lookup}
-use Rattle.std.specs.Str.{bytes_eq}
 use Rattle.wc_read.specs.Imports.{ImportValue}
 use Rattle.wc_read.specs.Modules.{ModuleValue, SpellsModule}
 use Rattle.wc_read.specs.Names.{GlobalNameValue, name_entries}
@@ -19,7 +17,8 @@ use Rattle.wc_paths.specs.Roots.{first_roots, import_item, second_roots}
 use Rattle.wc_paths.specs.declared.items.PathItem.{PathItem}
 use Rattle.wc_paths.specs.declared.paths.Path.{Path}
 use Rattle.wc_why.specs.Paths.{StepView, begun, path_steps}
-use Rattle.wc_ways.specs.Main.{AreMainSteps, AreStepsTo, IsFollowed, IsNamed, IsUnfollowed}
+use Rattle.wc_ways.specs.Main.{AreMainSteps, AreStepsTo, IsFollowed, IsUnfollowed}
+use Rattle.wc_component_tree.specs.Keys.{IsNamed, Key, is_key}
 use Rattle.wc_ways.specs.declared.main_paths.Followed.{Followed}
 use Rattle.wc_ways.specs.declared.main_paths.Following.{Following}
 use Rattle.wc_ways.specs.declared.main_paths.Following.TheVariants.{Whole, Unread}
@@ -39,13 +38,6 @@ IsFollowing wasm m (Unread why) = IsUnfollowed wasm m why
 -- why there are no segments
 abbrev pub IsRefusedAt : List ℕ → ModuleValue → Option SegmentSection → Type 0
 IsRefusedAt wasm m place = (f : ReadFault) × IsRefused m wasm f place
-
--- a module and a name, as a key
-abbrev pub Key : Type 0
-Key = Bor (List ℕ) × Bor (List ℕ)
-
-abbrev pub is_key : Key → Key → Bool
-is_key q k = bytes_eq q.0.now k.0.now && bytes_eq q.1.now k.1.now
 
 -- the items of the imports at positions below n, by their modules and names
 pub record HasPlacesTo (imports : List ImportValue) (n : ℕ) (entries : List (Key × PathItem)) : Type 0 where

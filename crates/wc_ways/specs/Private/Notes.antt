@@ -1,4 +1,4 @@
--- What is noted of each interface of a component, by the main module, by adapters and by types.
+-- What is noted of each interface of a component, by adapters and by types.
 use Rattle.std.specs.Prelude.{◌≡◌, ℕ, List, Option, String, string_bytes}
 use Rattle.std.specs.Borrow.{Bor}
 use Rattle.std.specs.declared.alloc.Global.{Global}
@@ -8,17 +8,10 @@ use Rattle.std.specs.Str.{bytes_eq}
 use Rattle.wc_world.specs.Views.{ComponentWorldView, ImportedView}
 use Rattle.wc_world.specs.WorldViews.{imported_view}
 use Rattle.wc_world.specs.declared.imported.ImportedInterface.{ImportedInterface}
-use Rattle.wc_ways.specs.Imports.{AreInterfacesIn, AreMainInterfaces, AreParts, IsMainPart, typed_in}
-use Rattle.wc_ways.specs.Summary.{AdapterPartView, MainPartView}
+use Rattle.wc_ways.specs.Imports.{AreInterfacesIn, AreParts, typed_in}
+use Rattle.wc_summary.specs.Summary.{AdapterPartView}
 use Rattle.wc_ways.specs.Types.{user_in}
-use Rattle.wc_ways.specs.Private.Entries.{EntriesView, Lists, no_parts, parts_of, with_adapters, with_main, with_types}
-
--- what the main module imports is noted, of interfaces of which nothing was
-pub record NotesMain (w : ComponentWorldView) (old new : EntriesView) : Type 0 where
-  pub found : List (List ℕ)
-  pub are_found : AreMainInterfaces w found
-  pub listed : Lists old new found
-  pub each : (interface : List ℕ) → (main : MainPartView) × IsMainPart w interface main × (parts_of old interface ≡ no_parts → parts_of new interface ≡ with_main main no_parts)
+use Rattle.wc_summary.specs.Entries.{EntriesView, Lists, parts_of, with_adapters, with_types}
 
 -- what adapters import is noted
 pub record NotesAdapters (w : ComponentWorldView) (old new : EntriesView) : Type 0 where

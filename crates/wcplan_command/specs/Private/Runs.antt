@@ -22,6 +22,7 @@ use Rattle.wc_plan.specs.Fault.{RefusedPlan}
 use Rattle.wc_plan.specs.declared.fault.PlanFault.TheVariants.{Memory as plan_memory}
 use Rattle.wc_program.specs.Files.{Held, StoreChange}
 use Rattle.wc_program.specs.declared.files.FileProblem.{FileProblem}
+use Rattle.wc_world.specs.Causes.{IsComponentWorldCause, IsMemory as IsWorldMemory}
 use Rattle.wc_world.specs.Options.{plain_options}
 use Rattle.wc_world.specs.Views.{ComponentWorldView}
 use Rattle.wc_world.specs.World.{IsWorldOf}
@@ -93,7 +94,14 @@ IsOfWorld e f no_memory = Unit {0}
 IsOfWorld e f (World x) = (x.fault ≡ f) × (f ≢ world_memory) × IsExplanation e f x.place
 IsOfWorld e f g = ⊥
 
--- and for one of its plan
+-- why an encoder has no component's world, with what that is about
+abbrev pub IsWorldFault : EncoderView → ProgramFault → Type 0
+IsWorldFault e no_memory = Unit {0}
+IsWorldFault e (World x) =
+    (x.fault ≢ world_memory) × (IsWorldMemory e x.fault ⊎ IsComponentWorldCause e x.fault) × IsExplanation e x.fault x.place
+IsWorldFault e f = ⊥
+
+-- the fault of the program for one of a plan
 abbrev pub IsOfPlan : RefusedPlan → ProgramFault → Type 0
 IsOfPlan x no_memory = Unit {0}
 IsOfPlan x (Plan y) = (y ≡ x) × (x.fault ≢ plan_memory)

@@ -8,7 +8,8 @@ use Rattle.wc_options.specs.Wrong.{help, version, wrong, wrong_view}
 use Rattle.wc_import_paths.specs.Patterns.{first_unknown, pattern_view}
 use Rattle.wcwhy_command.specs.Arguments.{CommandView}
 use Rattle.wcwhy_command.specs.Fault.{near_text}
-use Rattle.wcwhy_command.specs.Program.{EndsWithoutMemory, IsNoImport, StopEnds}
+use Rattle.wcwhy_command.specs.ModuleWays.{IsNoImport}
+use Rattle.wcwhy_command.specs.Program.{EndsWithoutMemory, StopEnds}
 use Rattle.wcwhy_command.specs.Private.Followed.{IsSourceText}
 use Rattle.wc_import_paths.specs.declared.followed.Followed.{Followed}
 use Rattle.wc_import_paths.specs.declared.patterns.ImportPattern.{ImportPattern}

@@ -1,10 +1,12 @@
 use Rattle.std.proofs.Common.{◌≡◌, ◌++◌, ◌∷◌, [], set, Some, None, sym, ◌∙◌, ap, subst, append_assoc}
 use Rattle.std.specs.List.{slice_get}
+use Rattle.std.proofs.lemmas.List.Elements.{All-push}
 use Rattle.std.proofs.lemmas.Option.{slice_get_within}
+use Rattle.wc_paths.specs.ChainMarks.{IsOnChain}
 use Rattle.wc_paths.specs.Private.ChainTree.{IsGrowthOf}
 use Rattle.wc_gc.proofs.BodyCutLemmas.{get_set_other}
 use Rattle.wc_gc.proofs.ImportPositionLemmas.{set_same}
-use Rattle.wc_paths.proofs.ChainTreeLemmas.{grown_put, last_from, last_placed}
+use Rattle.wc_paths.proofs.ChainTreeLemmas.{grown_put, last_from, last_on, last_placed}
 use Rattle.wc_paths.proofs.chain_tree.put_all.Goals as goal
 
 pub put-requires : goal.put-requires
@@ -23,7 +25,7 @@ loop-position-preserved c =
     let (none, is) = last_from finder inv.left c.pop.new.self.items m c.in-Some.ensures.items in
     let put = c.in_ok-place.ensures in
     let places : new.places.items ≡ set old.places.items m (Some c.in_ok-place.place) = put.places in
-    let (more, added) = inv.order in
+    let (more, added, used) = inv.order in
     record {
       growth =
           subst (λ z. IsGrowthOf finder z new.from.items new.places.items) (sym put.order)
@@ -31,7 +33,12 @@ loop-position-preserved c =
           (subst (λ z. IsGrowthOf finder (old.order.items ++ m ∷ []) (old.from.items ++ after ∷ []) z)
           (sym (places ∙ ap (λ n. set old.places.items m (Some n)) put.at))
           (grown_put finder old.order.items old.from.items old.places.items inv.growth m after none is)));
-      order = (more ++ m ∷ [], put.order ∙ (ap (λ z. z ++ m ∷ []) added ∙ append_assoc c.args.growth.now.order.items more (m ∷ [])));
+      order = (
+        more ++ m ∷ [],
+        put.order ∙ (ap (λ z. z ++ m ∷ []) added ∙ append_assoc c.args.growth.now.order.items more (m ∷ [])),
+        All-push (IsOnChain finder (c.args.target ∷ [])) more m used
+            (last_on finder inv.left c.pop.new.self.items m c.in-Some.ensures.items),
+      );
       left =
           last_placed finder c.requires.earlier new.places.items c.in_ok-place.place inv.left c.pop.new.self.items m c.in-Some.ensures.items
           (subst (λ z. slice_get z m ≡ Some (Some c.in_ok-place.place)) (sym places)

@@ -19,7 +19,7 @@ loop-target-preserved c =
     let lt : index < length targets = c.loop-target-test.true in
     subst (λ z. IsTreeTo finder targets new.order.items new.from.items new.places.items z (index + 1)) (sym c.in_ok-push.ensures.items)
     (tree_more finder targets old.order.items old.from.items old.places.items c.loop-target.ends.items index c.loop-target.invariant (get_or targets index None)
-    c.in_ok-end.end added.more new.order.items new.from.items new.places.items (slice_get-get_or targets index None lt) added.growth added.order added.is)
+    c.in_ok-end.end added.more new.order.items new.from.items new.places.items (slice_get-get_or targets index None lt) added.growth added.order added.used added.is)
 
 pub returns : goal.returns
 returns c =

@@ -1,4 +1,4 @@
-use Rattle.wc_tree.specs.Private.ModuleTree.{AreItemsTo}
+use Rattle.wc_tree.specs.ModuleItems.{AreItemsTo}
 use Rattle.wc_tree.specs.Tree.{tree_module_view}
 use Rattle.wc_tree.proofs.module_tree.module_of.Given as goal
 

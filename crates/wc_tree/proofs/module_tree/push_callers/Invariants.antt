@@ -1,6 +1,6 @@
 use Rattle.std.proofs.Common.{◌≡◌, ◌++◌, drop, map}
 use Rattle.wc_read.specs.Names.{name_entries}
-use Rattle.wc_tree.specs.Private.ModuleTree.{caller_named}
+use Rattle.wc_tree.specs.ModuleItems.{caller_named}
 use Rattle.wc_tree.specs.Tree.{tree_caller_view}
 use Rattle.wc_tree.proofs.module_tree.push_callers.Given as goal
 

@@ -1,7 +1,7 @@
 use Rattle.std.proofs.Common.{◌≡◌, [], ◌++◌, length, map, take, rules, refl, sym, ◌∙◌, ap, append-nil}
 use Rattle.std.proofs.lemmas.List.{length-map}
 use Rattle.wc_read.specs.Names.{name_entries}
-use Rattle.wc_tree.specs.Private.ModuleTree.{caller_named}
+use Rattle.wc_tree.specs.ModuleItems.{caller_named}
 use Rattle.wc_tree.specs.Tree.{tree_caller_view}
 use Rattle.wc_tree.proofs.ModuleTreeLemmas.{none_in}
 use Rattle.wc_tree.proofs.module_tree.put_called.Goals as goal

@@ -1,7 +1,7 @@
 use Rattle.std.proofs.Common.{IfOk, ◌∙◌, ap, map, subst}
 use Rattle.wc_read.specs.Names.{name_entries}
 use Rattle.wc_paths.specs.Callers.{calling_of}
-use Rattle.wc_tree.specs.Private.ModuleTree.{AreCallersPut, callers_at}
+use Rattle.wc_tree.specs.ModuleItems.{AreCallersPut, callers_at}
 use Rattle.wc_tree.specs.Tree.{tree_caller_view}
 use Rattle.wc_tree.proofs.module_tree.put_callers.Goals as goal
 

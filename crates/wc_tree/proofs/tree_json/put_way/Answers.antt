@@ -8,7 +8,7 @@ returns c =
     then _ _ _ c.in_ok-begin_object.ensures
     (then _ _ _ c.in_ok-put_text.ensures
     (then _ _ _ c.in_ok-put_text_or_null.ensures
-    (then _ _ _ c.in_ok-put_number.ensures
-    (then _ _ _ c.in_ok-put_number-2.ensures
+    (then _ _ _ c.in_ok-put_number_or_null.ensures
+    (then _ _ _ c.in_ok-put_number_or_null-2.ensures
     (then _ _ _ c.in_ok-put_import.ensures
     (closed _ _ c.in_ok-put_text_or_null-2.ensures c.end_object.ensures))))))

@@ -1,6 +1,6 @@
 use Rattle.std.proofs.Common.{rules}
 use Rattle.wc_world.specs.WorldViews.{world_view}
-use Rattle.wc_ways.specs.Private.Entries.{entries_view}
+use Rattle.wc_summary.specs.Entries.{entries_view}
 use Rattle.wc_ways.proofs.AllEntriesLemmas.{are_entries}
 use Rattle.wc_ways.proofs.imports.entries_of.Goals as goal
 

@@ -5,9 +5,10 @@ use Rattle.wc_plan.specs.Calls.{IsNameable}
 use Rattle.wc_validate.specs.Imports.Iter.{imports_left}
 use Rattle.wc_validate.specs.Imports.Map.{imports_in}
 use Rattle.wc_world.specs.Slots.{imports_of}
-use Rattle.wc_ways.specs.Private.MainWays.{key_of, world_of}
+use Rattle.wc_ways.specs.Private.MainWays.{key_of, marks_in, world_of}
 use Rattle.wc_ways.specs.Ways.{IsRecordedMainPath}
-use Rattle.wc_ways.proofs.EachLemmas.{said_all, said_next, said_start}
+use Rattle.wc_ways.specs.Private.Marked.{shown_by}
+use Rattle.wc_component_tree.proofs.EachLemmas.{said_all, said_next, said_start}
 use Rattle.wc_ways.proofs.main_ways.main_paths_of.Goals as goal
 
 pub recorded_main_path-requires-clause-nameable : goal.recorded_main_path-requires-clause-nameable
@@ -20,7 +21,7 @@ pub loop-from-init : goal.loop-from-init
 loop-from-init g c =
     let m = c.args.main.now in
     record {
-      said = said_start g.P.PathPrinter.parts (IsRecordedMainPath (world_of m) (key_of m)) (imports_in c.args.imports.now) (g.P.PathPrinter.printed c.args.out.now) _ (search rules);
+      said = said_start (shown_by g.P.MarkedPathPrinter.parts (marks_in c.args.main.now)) (IsRecordedMainPath (world_of m) (key_of m)) (imports_in c.args.imports.now) (g.P.MarkedPathPrinter.printed c.args.out.now) _ (search rules);
       kept = refl;
       nameable = search rules;
     }
@@ -31,7 +32,7 @@ loop-from-preserved g c =
     let r = (world_of m).encoder.resolve in
     let x : List ℕ × (List ℕ × ImportView) = (c.in-Some.from.now, (c.in-Some.name.now, import_view c.in-Some.import.now)) in
     record {
-      said = said_next g.P.PathPrinter.parts (IsRecordedMainPath (world_of m) (key_of m)) (imports_in c.args.imports.now) (g.P.PathPrinter.printed c.args.out.now)
+      said = said_next (shown_by g.P.MarkedPathPrinter.parts (marks_in c.args.main.now)) (IsRecordedMainPath (world_of m) (key_of m)) (imports_in c.args.imports.now) (g.P.MarkedPathPrinter.printed c.args.out.now)
           (imports_left c.loop-from.from-iterator) (imports_left c.next.new.self) x _ _ c.loop-from.invariant.said c.in-Some.ensures.steps
           c.in_ok-recorded_main_path.ensures.said;
       kept = c.in_ok-recorded_main_path.ensures.kept ∙ c.loop-from.invariant.kept;
@@ -42,5 +43,5 @@ loop-from-preserved g c =
 pub returns-clause-said : goal.returns-clause-said
 returns-clause-said g c =
     let m = c.args.main.now in
-    said_all g.P.PathPrinter.parts (IsRecordedMainPath (world_of m) (key_of m)) (imports_in c.args.imports.now) (g.P.PathPrinter.printed c.args.out.now)
+    said_all (shown_by g.P.MarkedPathPrinter.parts (marks_in c.args.main.now)) (IsRecordedMainPath (world_of m) (key_of m)) (imports_in c.args.imports.now) (g.P.MarkedPathPrinter.printed c.args.out.now)
     (imports_left c.loop-from.from-iterator) _ c.loop-from.invariant.said c.in-None.ensures.steps.0

@@ -3,15 +3,16 @@ use Rattle.wc_validate.specs.Imports.Iter.{imports_left}
 use Rattle.wc_validate.specs.Imports.Map.{imports_in}
 use Rattle.wc_world.specs.Slots.{imports_of}
 use Rattle.wc_plan.specs.Calls.{IsNameable}
-use Rattle.wc_ways.specs.Private.MainWays.{key_of, world_of}
+use Rattle.wc_ways.specs.Private.MainWays.{key_of, marks_in, world_of}
 use Rattle.wc_ways.specs.Ways.{IsRecordedMainPath}
-use Rattle.wc_ways.proofs.EachLemmas.{EachSaid}
+use Rattle.wc_ways.specs.Private.Marked.{shown_by}
+use Rattle.wc_component_tree.proofs.EachLemmas.{EachSaid}
 use Rattle.wc_ways.proofs.main_ways.main_paths_of.Given as goal
 
 abbrev pub invariant-loop-from : goal.invariant-loop-from
 invariant-loop-from g l = record {
-  said : EachSaid g.P.PathPrinter.parts (IsRecordedMainPath (world_of l.main) (key_of l.main)) (imports_in l.imports)
-      (imports_left l.from-iterator) (g.P.PathPrinter.printed l.fn.out) (g.P.PathPrinter.printed l.out);
-  kept : g.P.PathPrinter.before l.out ≡ g.P.PathPrinter.before l.fn.out;
+  said : EachSaid (shown_by g.P.MarkedPathPrinter.parts (marks_in l.main)) (IsRecordedMainPath (world_of l.main) (key_of l.main)) (imports_in l.imports)
+      (imports_left l.from-iterator) (g.P.MarkedPathPrinter.printed l.fn.out) (g.P.MarkedPathPrinter.printed l.out);
+  kept : g.P.MarkedPathPrinter.before l.out ≡ g.P.MarkedPathPrinter.before l.fn.out;
   nameable : All (IsNameable (world_of l.main).encoder.resolve) (imports_of (imports_left l.from-iterator));
 }

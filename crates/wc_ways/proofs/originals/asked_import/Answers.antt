@@ -8,8 +8,9 @@ use Rattle.wc_resolve.specs.Kinds.{ResolveView}
 use Rattle.wc_validate.specs.Validate.{module_record}
 use Rattle.wc_ways.specs.Asked.{asked_function}
 use Rattle.wc_ways.specs.Originals.{asked_in}
-use Rattle.wc_ways.specs.Private.Adapters.{function_value, world_in}
-use Rattle.wc_ways.specs.declared.asked.Function.{Function}
+use Rattle.wc_component_tree.specs.Found.{function_value}
+use Rattle.wc_ways.specs.Private.Adapters.{world_in}
+use Rattle.wc_component_tree.specs.declared.found.Function.{Function}
 use Rattle.wc_ways.proofs.RecordLemmas.{recorded_has}
 use Rattle.wc_ways.proofs.originals.asked_import.Goals as goal
 

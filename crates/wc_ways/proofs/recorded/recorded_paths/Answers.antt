@@ -8,6 +8,8 @@ use Rattle.wc_validate.specs.Imports.Map.{imports_in}
 use Rattle.wc_world.specs.Slots.{imports_of}
 use Rattle.wc_why.specs.Paths.{text_of}
 use Rattle.wc_ways.specs.Ways.{recorded_path}
+use Rattle.wc_ways.specs.Private.Marked.{marking, shown_by}
+use Rattle.wc_world.specs.WorldViews.{world_view}
 use Rattle.wc_ways.proofs.ListLemmas.{flat_flat, made_all, made_more}
 use Rattle.wc_ways.proofs.recorded.recorded_paths.Goals as goal
 
@@ -20,7 +22,7 @@ pub loop-from-preserved : goal.loop-from-preserved
 loop-from-preserved g c =
     let q = c.args.question in
     record {
-      made = made_more (λ x. flat_map g.P.PathPrinter.parts (recorded_path q.resolve.now q.key.now (option_map text_of q.adapter) x)) _ (g.P.PathPrinter.printed c.loop-from.out) _ _ (imports_left c.loop-from.from-iterator) (imports_left c.next.new.self)
+      made = made_more (λ x. flat_map (shown_by g.P.MarkedPathPrinter.parts (marking (world_view c.args.question.world.now) c.args.question.marks.now)) (recorded_path q.resolve.now q.key.now (option_map text_of q.adapter) x)) _ (g.P.MarkedPathPrinter.printed c.loop-from.out) _ _ (imports_left c.loop-from.from-iterator) (imports_left c.next.new.self)
           (c.in-Some.from.now, (c.in-Some.name.now, import_view c.in-Some.import.now)) c.in-Some.ensures.steps c.in_ok-recorded_path.ensures.printed (search rules)
           c.loop-from.invariant.made;
       kept = c.in_ok-recorded_path.ensures.kept ∙ c.loop-from.invariant.kept;
@@ -31,6 +33,6 @@ loop-from-preserved g c =
 pub returns-clause-printed : goal.returns-clause-printed
 returns-clause-printed g c =
     let q = c.args.question in
-    made_all (λ x. flat_map g.P.PathPrinter.parts (recorded_path q.resolve.now q.key.now (option_map text_of q.adapter) x)) _ (g.P.PathPrinter.printed c.loop-from.out) (imports_left c.loop-from.from-iterator) c.in-None.ensures.steps.0 c.loop-from.invariant.made
-    ∙ ap (λ z. g.P.PathPrinter.printed c.args.out.now ++ z)
-    (sym (flat_flat g.P.PathPrinter.parts (recorded_path q.resolve.now q.key.now (option_map text_of q.adapter)) (imports_in c.args.imports.now)))
+    made_all (λ x. flat_map (shown_by g.P.MarkedPathPrinter.parts (marking (world_view c.args.question.world.now) c.args.question.marks.now)) (recorded_path q.resolve.now q.key.now (option_map text_of q.adapter) x)) _ (g.P.MarkedPathPrinter.printed c.loop-from.out) (imports_left c.loop-from.from-iterator) c.in-None.ensures.steps.0 c.loop-from.invariant.made
+    ∙ ap (λ z. g.P.MarkedPathPrinter.printed c.args.out.now ++ z)
+    (sym (flat_flat (shown_by g.P.MarkedPathPrinter.parts (marking (world_view c.args.question.world.now) c.args.question.marks.now)) (recorded_path q.resolve.now q.key.now (option_map text_of q.adapter)) (imports_in c.args.imports.now)))

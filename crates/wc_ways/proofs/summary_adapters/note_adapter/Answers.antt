@@ -5,7 +5,7 @@ use Rattle.wc_gc.specs.LiveItems.{IsFault}
 use Rattle.wc_gc.specs.declared.fault.GcFault.{GcFault}
 use Rattle.wc_gc.specs.declared.fault.GcFault.TheVariants.{Memory}
 use Rattle.wc_ways.specs.Private.SummaryAdapters.{NotesWasm, entry_of, info_of, world_of}
-use Rattle.wc_ways.specs.Private.Entries.{entries_view}
+use Rattle.wc_summary.specs.Entries.{entries_view}
 use Rattle.wc_ways.specs.WaysFaults.{IsAdapterFault, search_input}
 use Rattle.wc_ways.proofs.AdapterNoteLemmas.{library_adapter, missing_adapter, trimmed_adapter}
 use Rattle.wc_ways.proofs.RecordLemmas.{viewed_found}

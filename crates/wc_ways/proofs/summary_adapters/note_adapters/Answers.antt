@@ -7,7 +7,7 @@ use Rattle.wc_plan.specs.Calls.{IsNameable}
 use Rattle.wc_plan.specs.Planner.{AreModuleNameable}
 use Rattle.wc_plan.proofs.ModuleLemmas.{of_adapters}
 use Rattle.wc_ways.specs.WaysFaults.{IsWaysFault}
-use Rattle.wc_ways.specs.Private.Entries.{entries_view}
+use Rattle.wc_summary.specs.Entries.{entries_view}
 use Rattle.wc_ways.proofs.AdapterNoteLemmas.{far_end, far_in, far_one, far_start}
 use Rattle.wc_ways.proofs.OriginalLemmas.{fault_of}
 use Rattle.wc_ways.proofs.summary_adapters.note_adapters.Goals as goal

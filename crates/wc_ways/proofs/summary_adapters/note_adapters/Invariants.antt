@@ -2,7 +2,7 @@ use Rattle.std.proofs.Common.{All, map}
 use Rattle.wc_plan.specs.Planner.{AreModuleNameable}
 use Rattle.wc_world.specs.Views.{NamedWorldAdapter}
 use Rattle.wc_world.specs.WorldViews.{adapter_entry, world_view}
-use Rattle.wc_ways.specs.Private.Entries.{entries_view}
+use Rattle.wc_summary.specs.Entries.{entries_view}
 use Rattle.wc_ways.proofs.AdapterNoteLemmas.{AdaptersSoFar}
 use Rattle.wc_ways.proofs.summary_adapters.note_adapters.Given as goal
 

@@ -1,36 +1,18 @@
-use Rattle.std.proofs.Common.{◌≢◌, ◌∙◌, List, Option, ℕ, ap, refl, subst, sym}
-use Rattle.std.specs.Prelude.{AllPairs}
+use Rattle.std.proofs.Common.{◌∙◌, ap}
 use Rattle.std.proofs.lemmas.Result.{on_ok_weaker}
-use Rattle.wc_gc.specs.LiveItems.{names_of}
-use Rattle.wc_ways.specs.Imports.{library_tags}
+use Rattle.wc_summary.specs.Entries.{entries_view}
+use Rattle.wc_summary.specs.Leads.{tags_view}
+use Rattle.wc_ways.specs.Tags.{library_tags}
 use Rattle.wc_ways.specs.Private.SummaryAdapters.{info_of}
-use Rattle.wc_ways.specs.Private.Entries.{entries_view, interfaces_of}
-use Rattle.wc_ways.specs.Private.Tags.{ArePlacesCounted, tags_view}
-use Rattle.wc_ways.proofs.AdapterNoteLemmas.{found_distinct, found_is, keys_many, keys_named, library_pushed}
+use Rattle.wc_ways.proofs.AdapterNoteLemmas.{library_noted}
 use Rattle.wc_ways.proofs.summary_adapters.note_library.Goals as goal
-
-pub push_uses-requires : goal.push_uses-requires
-push_uses-requires c =
-    let found = c.place_tags.new.entries.entries in
-    let tags = tags_view c.deref.result.now in
-    let is = found_is tags c.in_ok-places.places.items (entries_view c.with_hasher-found.result.entries) (entries_view found) (ap entries_view c.with_hasher-found.ensures.empty)
-    c.in_ok-places.ensures in
-    subst (AllPairs (λ x y. x ≢ y)) (sym (ap names_of (c.as_slice.ensures ∙ c.keys.ensures.rest) ∙ keys_named found)) (found_distinct tags (interfaces_of (entries_view found)) is)
 
 pub returns : goal.returns
 returns c =
     let g = c.args.named.now in
-    let found = c.place_tags.new.entries.entries in
-    let places = c.in_ok-places.places.items in
     let records = (info_of g).imports in
     let tags = tags_view c.deref.result.now in
-    let same = ap tags_view c.deref.ensures.value ∙ (c.in_ok-tags.ensures ∙ ap (λ r. library_tags r records) c.metadata-metadata.ensures.resolve) in
-    let is = found_is tags places (entries_view c.with_hasher-found.result.entries) (entries_view found) (ap entries_view c.with_hasher-found.ensures.empty) c.in_ok-places.ensures in
-    on_ok_weaker c.push_uses.result
-    (library_pushed g tags (interfaces_of (entries_view found)) (names_of c.as_slice.result.now) places _ _
-    (record { is_library = _; counts = c.in_ok-counts_of.field-0; led = c.new.result; alone = c.new-2.result }) c.len.result (entries_view c.args.entries.now.entries)
-    (entries_view c.push_uses.new.entries.entries) same (ap names_of (c.as_slice.ensures ∙ c.keys.ensures.rest) ∙ keys_named found) is c.in_ok-places.ensures.at
-    (c.len.ensures.len ∙ keys_many found)
-    (subst (λ (z : List (Option ℕ)). ArePlacesCounted z c.len.result c.in_ok-counts_of.field-0.items) c.deref-2.ensures.value c.in_ok-counts_of.ensures) refl c.new.ensures.items
-    c.new-2.ensures.items)
-    c.push_uses.ensures
+    on_ok_weaker c.note_library.result
+    (library_noted g tags (entries_view c.args.entries.now.entries) (entries_view c.note_library.new.entries.entries)
+    (ap tags_view c.deref.ensures.value ∙ (c.in_ok-tags.ensures ∙ ap (λ r. library_tags r records) c.metadata-metadata.ensures.resolve)))
+    c.note_library.ensures

@@ -1,6 +1,6 @@
 use Rattle.std.proofs.lemmas.Result.{on_ok_weaker}
 use Rattle.wc_read.specs.Modules.{module_value}
-use Rattle.wc_ways.specs.Private.Entries.{entries_view}
+use Rattle.wc_summary.specs.Entries.{entries_view}
 use Rattle.wc_ways.proofs.AdapterNoteLemmas.{wasm_noted}
 use Rattle.wc_ways.proofs.summary_adapters.note_read.Goals as goal
 

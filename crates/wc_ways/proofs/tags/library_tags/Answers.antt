@@ -4,8 +4,8 @@ use Rattle.wc_names.specs.Views.{import_view}
 use Rattle.wc_plan.specs.Calls.{IsNameable}
 use Rattle.wc_validate.specs.Imports.Iter.{imports_left}
 use Rattle.wc_world.specs.Slots.{imports_of}
-use Rattle.wc_ways.specs.Imports.{recorded_tag}
-use Rattle.wc_ways.proofs.TagLemmas.{tags_all, tags_more}
+use Rattle.wc_ways.specs.Tags.{recorded_tag}
+use Rattle.wc_summary.proofs.TagLemmas.{tags_all, tags_more}
 use Rattle.wc_ways.proofs.tags.library_tags.Goals as goal
 
 pub recorded_tag-requires : goal.recorded_tag-requires

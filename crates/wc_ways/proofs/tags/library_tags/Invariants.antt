@@ -2,8 +2,8 @@ use Rattle.std.proofs.Common.{◌≡◌, ◌++◌, All, map}
 use Rattle.wc_plan.specs.Calls.{IsNameable}
 use Rattle.wc_validate.specs.Imports.Iter.{imports_left}
 use Rattle.wc_world.specs.Slots.{imports_of}
-use Rattle.wc_ways.specs.Imports.{library_tags, recorded_tag}
-use Rattle.wc_ways.specs.Private.Tags.{tags_view}
+use Rattle.wc_ways.specs.Tags.{library_tags, recorded_tag}
+use Rattle.wc_summary.specs.Leads.{tags_view}
 use Rattle.wc_ways.proofs.tags.library_tags.Given as goal
 
 abbrev pub invariant-loop-from : goal.invariant-loop-from

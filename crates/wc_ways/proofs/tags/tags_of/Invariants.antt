@@ -1,7 +1,7 @@
 use Rattle.std.proofs.Common.{◌≡◌, take}
 use Rattle.wc_read.specs.Imports.{import_values}
-use Rattle.wc_ways.specs.Imports.{tags_in}
-use Rattle.wc_ways.specs.Private.Tags.{tags_view}
+use Rattle.wc_ways.specs.Tags.{tags_in}
+use Rattle.wc_summary.specs.Leads.{tags_view}
 use Rattle.wc_ways.proofs.tags.tags_of.Given as goal
 
 abbrev pub invariant-loop-import : goal.invariant-loop-import

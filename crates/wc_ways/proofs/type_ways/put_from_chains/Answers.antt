@@ -8,9 +8,10 @@ use Rattle.wc_ways.specs.Private.Adapters.{required_in, world_in}
 use Rattle.wc_ways.specs.Private.TypeWays.{AreStepsSpelled, IsWayOf}
 use Rattle.wc_ways.specs.Ways.{AreImportSteps}
 use Rattle.wc_validate.specs.Validate.{module_record}
+use Rattle.wc_ways.specs.Private.Marked.{plain_by}
 use Rattle.wc_ways.proofs.OriginalLemmas.{input_of}
 use Rattle.wc_ways.proofs.TypedLemmas.{typed_as}
-use Rattle.wc_ways.proofs.WalkLemmas.{says_as}
+use Rattle.wc_component_tree.proofs.WalkLemmas.{says_as}
 use Rattle.wc_ways.proofs.type_ways.put_from_chains.Goals as goal
 
 pub put_on_walk-requires : goal.put_on_walk-requires
@@ -28,7 +29,7 @@ returns-clause-said g c =
     let way = c.args.way.now in
     let m = module_value c.in-Ok.original in
     let names = name_entries c.in-Ok-function_names.names in
-    says_as g.P.PathPrinter.parts (IsWayOf way (AreStepsSpelled a way c.args.original.0.now)) _ _ _ c.put_on_walk.result
+    says_as (plain_by g.P.MarkedPathPrinter.parts) (IsWayOf way (AreStepsSpelled a way c.args.original.0.now)) _ _ _ c.put_on_walk.result
     (λ paths was. typed_as (AreStepsSpelled a way c.args.original.0.now)
     (AreImportSteps way.«module».now way.name.now (original_of (world_in a) a.name.now (module_record a.info.now) m names)) way.typed.interface.now
     (option_map text_of way.typed.ty) paths (λ steps h. (m, names, c.in-Ok.ensures.found, c.in-Ok-function_names.ensures.found, h)) was)

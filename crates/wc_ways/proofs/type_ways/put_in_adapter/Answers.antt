@@ -8,8 +8,9 @@ use Rattle.wc_ways.specs.Private.TypeWays.{AreStepsIn, AreStepsOfTrimmed, IsLibr
 use Rattle.wc_ways.specs.Said.{IsSaidOfTrimmed}
 use Rattle.wc_ways.specs.Ways.{AreImportSteps}
 use Rattle.wc_ways.specs.WaysFaults.{IsAdapterFault}
+use Rattle.wc_ways.specs.Private.Marked.{plain_by}
 use Rattle.wc_ways.proofs.TypedLemmas.{memory_or, typed_as}
-use Rattle.wc_ways.proofs.WalkLemmas.{says_as}
+use Rattle.wc_component_tree.proofs.WalkLemmas.{says_as}
 use Rattle.wc_ways.proofs.type_ways.put_in_adapter.Goals as goal
 
 pub returns-in-Some-clause-said : goal.returns-in-Some-clause-said
@@ -17,7 +18,7 @@ returns-in-Some-clause-said g c =
     let a = c.args.asked.now in
     let way = c.args.way.now in
     let y = adapter_view c.args.adapter.now in
-    says_as g.P.PathPrinter.parts (IsWayOf way (AreStepsIn a way y)) _ _ _ c.put_from_library.result
+    says_as (plain_by g.P.MarkedPathPrinter.parts) (IsWayOf way (AreStepsIn a way y)) _ _ _ c.put_from_library.result
     (λ paths was. typed_as (AreStepsIn a way y) (IsLibraryStep a.name.now way) way.typed.interface.now (option_map text_of way.typed.ty) paths
     (λ steps h. rw c.in-Some.is h) was)
     c.put_from_library.ensures.said
@@ -27,7 +28,7 @@ returns-in-None-clause-said g c =
     let a = c.args.asked.now in
     let way = c.args.way.now in
     let y = adapter_view c.args.adapter.now in
-    says_as g.P.PathPrinter.parts (IsWayOf way (AreStepsIn a way y)) _ _ _ c.put_from_trimmed.result
+    says_as (plain_by g.P.MarkedPathPrinter.parts) (IsWayOf way (AreStepsIn a way y)) _ _ _ c.put_from_trimmed.result
     (λ paths was. typed_as (AreStepsIn a way y) (AreStepsOfTrimmed a way) way.typed.interface.now (option_map text_of way.typed.ty) paths
     (λ steps h. rw c.in-None.is (subst (λ (m : ValidatedModule). IsSaidOfTrimmed (AreImportSteps way.«module».now way.name.now) (world_in a) a.name.now (module_record m) steps)
     c.requires.same h)) was)

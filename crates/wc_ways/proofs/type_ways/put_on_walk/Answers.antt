@@ -6,8 +6,9 @@ use Rattle.wc_why.specs.Paths.{step_view, text_of}
 use Rattle.wc_ways.specs.Private.Adapters.{original_in}
 use Rattle.wc_ways.specs.Private.TypeWays.{IsNamedAt, IsWayOf}
 use Rattle.wc_ways.specs.Ways.{AreImportSteps, AreStepsAt}
+use Rattle.wc_ways.specs.Private.Marked.{plain_by}
 use Rattle.wc_ways.proofs.TypedLemmas.{no_steps_at, steps_at, typed_as, typed_put}
-use Rattle.wc_ways.proofs.WalkLemmas.{says_as}
+use Rattle.wc_component_tree.proofs.WalkLemmas.{says_as}
 use Rattle.wc_ways.proofs.type_ways.put_on_walk.Goals as goal
 
 pub put_position-requires-clause-there : goal.put_position-requires-clause-there
@@ -24,7 +25,7 @@ returns-in-Some-clause-said g c =
     let way = c.args.way.now in
     let imports = c.args.walk.now.original.now.imports.items in
     let here = subst (IsNamedAt imports way) c.in-Some.is c.import_at.ensures in
-    says_as g.P.PathPrinter.parts (IsWayOf way (AreImportSteps way.«module».now way.name.now a)) _ _ _ c.put_position.result
+    says_as (plain_by g.P.MarkedPathPrinter.parts) (IsWayOf way (AreImportSteps way.«module».now way.name.now a)) _ _ _ c.put_position.result
     (λ paths was. typed_as (AreImportSteps way.«module».now way.name.now a) (AreStepsAt a c.in-Some.position) way.typed.interface.now (option_map text_of way.typed.ty) paths
     (λ steps h. steps_at a way imports c.in-Some.position steps refl here h) was)
     c.put_position.ensures.said
@@ -35,6 +36,6 @@ returns-in-None-clause-said g c =
     let way = c.args.way.now in
     let imports = c.args.walk.now.original.now.imports.items in
     let none = subst (IsNamedAt imports way) c.in-None.is c.import_at.ensures in
-    typed_put g.P.PathPrinter.parts (AreImportSteps way.«module».now way.name.now a) way.typed.interface.now (option_map text_of way.typed.ty)
+    typed_put (plain_by g.P.MarkedPathPrinter.parts) (AreImportSteps way.«module».now way.name.now a) way.typed.interface.now (option_map text_of way.typed.ty)
     (map step_view c.new.result.items) _ _ c.put_steps.result
     (no_steps_at a way imports (map step_view c.new.result.items) refl none (ap (map step_view) c.new.ensures.items)) c.put_steps.ensures.printed

@@ -1,7 +1,7 @@
 use Rattle.std.proofs.Common.{ap, map, option_map, rules, string_bytes}
 use Rattle.wc_world.specs.WorldViews.{imported_entry, imported_view, world_view}
-use Rattle.wc_ways.specs.Imports.{all_key}
-use Rattle.wc_ways.specs.Private.Entries.{entries_view}
+use Rattle.wc_ways.specs.Tags.{all_key}
+use Rattle.wc_summary.specs.Entries.{entries_view}
 use Rattle.wc_ways.specs.Types.{typed_name, user_in}
 use Rattle.wc_ways.proofs.NoteLemmas.{typed_end, typed_next, typed_start}
 use Rattle.wc_ways.proofs.types.note_all_typed.Goals as goal

@@ -3,9 +3,9 @@ use Rattle.std.specs.Borrow.{Bor}
 use Rattle.std.specs.Option.{option_to_list}
 use Rattle.wc_resolve.specs.declared.ids.InterfaceId.{InterfaceId}
 use Rattle.wc_world.specs.WorldViews.{world_view}
-use Rattle.wc_ways.specs.Private.Entries.{entries_view}
+use Rattle.wc_summary.specs.Entries.{entries_view}
 use Rattle.wc_ways.specs.Private.Notes.{NotesTyped}
-use Rattle.wc_ways.specs.Summary.{user_view}
+use Rattle.wc_summary.specs.Summary.{user_view}
 use Rattle.wc_ways.specs.Types.{user_in}
 use Rattle.wc_ways.proofs.NoteLemmas.{typed_none, typed_one}
 use Rattle.wc_ways.proofs.types.note_if_typed.Goals as goal

@@ -7,7 +7,7 @@ use Rattle.wcplan_command.specs.Arguments.{command_view}
 use Rattle.wcplan_command.specs.Program.{IsFileIn}
 use Rattle.wcplan_command.specs.Private.SharedKeys.{file_bytes}
 use Rattle.wcplan_command.proofs.ProgramLemmas.{path_cause}
-use Rattle.wcplan_command.proofs.SharedKeyLemmas.{zip_more}
+use Rattle.wc_options.proofs.AdapterLemmas.{zip_more}
 use Rattle.wcplan_command.proofs.adapter_files.read_adapters.Goals as goal
 
 pub returns-in_err-wasm-clause-fault : goal.returns-in_err-wasm-clause-fault

@@ -1,10 +1,10 @@
 use Rattle.std.proofs.Common.{◌<◌, ap, length, map, sym, subst}
 use Rattle.std.proofs.lemmas.Result.{err_from_is_err_and}
-use Rattle.wc_encoder.specs.EncoderParts.{parts_view}
+use Rattle.wc_encoder.specs.EncoderParts.{EncoderView, parts_view}
 use Rattle.wc_program.specs.Files.{FailsToRead}
 use Rattle.wc_selection.specs.Keys.{named_key}
 use Rattle.wcplan_command.specs.Arguments.{command_view}
-use Rattle.wcplan_command.specs.Program.{IsPartsOf}
+use Rattle.wcplan_command.specs.Program.{IsEncoderOf, IsPartsOf}
 use Rattle.wcplan_command.proofs.ProgramLemmas.{chosen_worlds, encoder_cause, parts_cause, parts_with}
 use Rattle.wcplan_command.proofs.WorldsLemmas.{meant_there}
 use Rattle.wcplan_command.proofs.inputs.read_encoder.Goals as goal
@@ -20,8 +20,8 @@ returns-in_err-parts-clause-fault g c =
     rw (p.1, p.2) (parts_cause command before (FailsToRead g.F.FileStore.read_fails c.args.files.now) is.worlds.0 metadata.resolve metadata.world.0
     (map named_key c.in_ok-chosen.chosen.keys.items) c.in_err-parts.field-0.0 chosen is.worlds.4 is.keys c.in_err-parts.ensures.fault)
 
-pub returns-in_err-build-clause-fault : goal.returns-in_err-build-clause-fault
-returns-in_err-build-clause-fault g c =
+pub returns-in_err-encoder-clause-fault : goal.returns-in_err-encoder-clause-fault
+returns-in_err-encoder-clause-fault g c =
     let command = command_view c.args.command.now in
     let before = g.F.FileStore.held c.args.files.now in
     let metadata = c.in_ok-chosen.chosen.metadata in
@@ -29,8 +29,8 @@ returns-in_err-build-clause-fault g c =
     let chosen = chosen_worlds command before metadata.resolve metadata.world.0 is.worlds _ is.keys is.there is.asked in
     let parts = parts_with command before metadata.resolve metadata.world.0 is.worlds _ (parts_view c.in_ok-parts.parts) chosen is.keys
     (ap (λ m. m.world.0) c.in_ok-parts.ensures.metadata) (ap (λ m. m.resolve) c.in_ok-parts.ensures.metadata) c.in_ok-parts.ensures.parts in
-    let p = err_from_is_err_and c.from_residual-in_err-build.result c.from_residual-in_err-build.ensures.1 in
-    rw (p.1, p.2) (encoder_cause command before (FailsToRead g.F.FileStore.read_fails c.args.files.now) (parts_view c.in_ok-parts.parts) c.in_err-build.field-0.0 parts c.in_err-build.ensures.fault)
+    let p = err_from_is_err_and c.from_residual-in_err-encoder.result c.from_residual-in_err-encoder.ensures.1 in
+    rw (p.1, p.2) (encoder_cause command before (FailsToRead g.F.FileStore.read_fails c.args.files.now) (parts_view c.in_ok-parts.parts) c.in_err-encoder.field-0.0 parts c.in_err-encoder.ensures.fault)
 
 pub returns-clause-encoder : goal.returns-clause-encoder
 returns-clause-encoder g c =
@@ -41,7 +41,9 @@ returns-clause-encoder g c =
     let chosen = chosen_worlds command before metadata.resolve metadata.world.0 is.worlds _ is.keys is.there is.asked in
     let parts = parts_with command before metadata.resolve metadata.world.0 is.worlds _ (parts_view c.in_ok-parts.parts) chosen is.keys
     (ap (λ m. m.world.0) c.in_ok-parts.ensures.metadata) (ap (λ m. m.resolve) c.in_ok-parts.ensures.metadata) c.in_ok-parts.ensures.parts in
-    record { parts = subst (IsPartsOf command before) (sym c.in_ok-build.ensures.ok) parts; formed = c.in_ok-build.ensures.formed }
+    let is = c.in_ok-encoder.ensures in
+    subst (λ (e : EncoderView). IsEncoderOf command before e) (sym c.in_ok-heaped.ensures)
+    (record { parts = subst (IsPartsOf command before) (sym is.ok) parts; formed = is.formed })
 
 pub read_parts-requires-clause-world : goal.read_parts-requires-clause-world
 read_parts-requires-clause-world g c =

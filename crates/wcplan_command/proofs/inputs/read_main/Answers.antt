@@ -1,4 +1,8 @@
+use Rattle.std.proofs.Common.{subst, sym}
+use Rattle.wc_dedupe.specs.Dedupe.{renames_in}
 use Rattle.wc_program.specs.Files.{FailsToRead}
+use Rattle.wc_selection.specs.declared.main_module.MainModule.{MainModule}
+use Rattle.wcplan_command.specs.Program.{IsMainIn}
 use Rattle.wcplan_command.proofs.ProgramLemmas.{main_cause}
 use Rattle.wcplan_command.proofs.inputs.read_main.Goals as goal
 
@@ -7,9 +11,8 @@ returns-in-Err-clause-fault g c =
     main_cause (g.F.FileStore.held c.args.files.now) (FailsToRead g.F.FileStore.read_fails c.args.files.now) c.args.path.now c.in_ok-bytes.bytes.items
     c.in-Err.refused c.main_fault.result c.in_ok-bytes.ensures.read c.in-Err.ensures.refused c.in-Err.ensures.place c.main_fault.ensures
 
-pub returns-in-Ok-clause-main : goal.returns-in-Ok-clause-main
-returns-in-Ok-clause-main g c = record {
-  bytes = c.in_ok-bytes.bytes.items;
-  read = c.in_ok-bytes.ensures.read;
-  renamed = c.in-Ok.ensures.dedupe;
-}
+pub returns-in_ok-heaped-in-Ok-clause-main : goal.returns-in_ok-heaped-in-Ok-clause-main
+returns-in_ok-heaped-in-Ok-clause-main g c =
+    subst (λ (m : MainModule). IsMainIn (g.F.FileStore.held c.args.files.now) c.args.path.now m.wasm.items (renames_in m.import_map))
+    (sym c.in_ok-heaped-in-Ok.ensures)
+    (record { bytes = c.in_ok-bytes.bytes.items; read = c.in_ok-bytes.ensures.read; renamed = c.in-Ok.ensures.dedupe })

@@ -1,43 +1,11 @@
-use Rattle.std.proofs.Common.{map, refl, subst, sym}
-use Rattle.std.proofs.lemmas.Result.{err_from_is_err_and}
-use Rattle.wc_dedupe.specs.Dedupe.{renames_in}
-use Rattle.wc_program.specs.Files.{FailsToRead}
+use Rattle.std.proofs.Common.{map, refl}
 use Rattle.wc_selection.specs.Keys.{named_key}
-use Rattle.wc_selection.specs.Texts.{AreDistinct}
 use Rattle.wcplan_command.specs.Arguments.{command_view}
-use Rattle.wcplan_command.specs.SharedKeys.{AreUnshared}
-use Rattle.wcplan_command.specs.Private.Inputs.{AreRequested, scope_in}
-use Rattle.wcplan_command.specs.Private.SharedKeys.{file_bytes}
-use Rattle.wcplan_command.proofs.AdapterFileLemmas.{names_read}
 use Rattle.wcplan_command.proofs.InputLemmas.{parts_made}
-use Rattle.wcplan_command.proofs.ProgramLemmas.{exporter_parts}
 use Rattle.wcplan_command.proofs.inputs.read_parts.Goals as goal
 
-pub requested_modules-requires-clause-names : goal.requested_modules-requires-clause-names
-requested_modules-requires-clause-names g c =
-    subst AreDistinct (sym (names_read (g.F.FileStore.held c.args.files.now) (command_view c.args.command.now).adapters
-    (map file_bytes c.in_ok-adapters.adapters.items) c.in_ok-adapters.ensures.read)) c.requires.names
-
-pub returns-in_err-requested-clause-fault : goal.returns-in_err-requested-clause-fault
-returns-in_err-requested-clause-fault g c =
-    let command = command_view c.args.command.now in
-    let s = scope_in command c.args.chosen in
-    let keys = map named_key c.args.chosen.keys.items in
-    let files = map file_bytes c.in_ok-adapters.adapters.items in
-    let main = c.in_ok-main.main in
-    let f = c.in_err-requested.field-0.0 in
-    let p = err_from_is_err_and c.from_residual-in_err-requested.result c.from_residual-in_err-requested.ensures.1 in
-    rw (p.1, p.2) (exporter_parts command (g.F.FileStore.held c.args.files.now) (FailsToRead g.F.FileStore.read_fails c.args.files.now) s keys
-    main.wasm.items (renames_in main.import_map) files f c.in_ok-main.ensures.main c.in_ok-adapters.ensures.read
-    (subst (λ bytes. AreUnshared command s bytes files keys f) c.deref.ensures.value c.in_err-requested.ensures.fault))
-
-pub returns-clause-parts : goal.returns-clause-parts
-returns-clause-parts g c =
-    let command = command_view c.args.command.now in
-    let s = scope_in command c.args.chosen in
-    let keys = map named_key c.args.chosen.keys.items in
-    let files = map file_bytes c.in_ok-adapters.adapters.items in
-    let requested = c.in_ok-requested.requested in
-    parts_made command (g.F.FileStore.held c.args.files.now) keys _ files requested c.in_ok-main.ensures.main c.in_ok-adapters.ensures.read
-    (subst (λ bytes. AreRequested command s bytes files keys requested) c.deref.ensures.value c.in_ok-requested.ensures.requested) refl refl refl refl
-    c.in_ok-task_hook.ensures
+pub returns-in-Ok-clause-parts : goal.returns-in-Ok-clause-parts
+returns-in-Ok-clause-parts g c =
+    let are = c.in-Ok.ensures.modules in
+    parts_made (command_view c.args.command.now) (g.F.FileStore.held c.args.files.now) (map named_key c.args.chosen.keys.items) _ are.files
+    c.in-Ok.modules.requested are.main_read are.adapters_read are.requested refl refl refl refl are.hook

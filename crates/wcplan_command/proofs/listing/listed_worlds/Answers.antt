@@ -2,7 +2,7 @@ use Rattle.std.proofs.Common.{◌≡◌, ◌+◌, ◌++◌, ◌∙◌, ℕ, List
 use Rattle.std.specs.List.{flat_map, range_with_len}
 use Rattle.wc_json.specs.Document.{document_view}
 use Rattle.wc_selection.specs.Worlds.{world_name}
-use Rattle.wcplan_command.specs.Listing.{listed_key}
+use Rattle.wc_options.specs.Listing.{listed_name}
 use Rattle.wcplan_command.proofs.listing.listed_worlds.Goals as goal
 
 next_listed : (f : ℕ → List ℕ) (a n : ℕ) → flat_map f (range_with_len a (suc n)) ≡ flat_map f (range_with_len a n) ++ f (a + n)
@@ -19,4 +19,4 @@ listed_next f n text new put made =
 
 pub loop-index-preserved : goal.loop-index-preserved
 loop-index-preserved c =
-    listed_next (λ index. listed_key (world_name (document_view c.args.document.now) index)) c.loop-index.index (string_bytes c.loop-index.text) _ (search rules) c.loop-index.invariant
+    listed_next (λ index. listed_name (world_name (document_view c.args.document.now) index)) c.loop-index.index (string_bytes c.loop-index.text) _ (search rules) c.loop-index.invariant

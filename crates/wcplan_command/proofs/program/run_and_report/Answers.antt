@@ -16,4 +16,4 @@ returns-in-Ok g c =
     inl (c.deref.result.now, subst (EndsWell command files out) (sym c.deref.ensures) c.in-Ok.ensures.done, warned.warned, warned.status)
 
 pub returns-in-Err : goal.returns-in-Err
-returns-in-Err g c = inr (c.in-Err.fault, c.in-Err.ensures.fault, c.report_as.ensures)
+returns-in-Err g c = inr (c.in-Err.fault, c.in-Err.ensures.fault, c.report_last.ensures)

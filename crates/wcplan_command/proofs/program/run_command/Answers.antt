@@ -1,10 +1,17 @@
-use Rattle.std.proofs.Common.{refl}
+use Rattle.std.proofs.Common.{refl, subst, sym}
 use Rattle.std.proofs.lemmas.Result.{err_from_is_err_and}
+use Rattle.wc_encoder.specs.EncoderParts.{EncoderView}
 use Rattle.wcplan_command.specs.Arguments.{command_view}
 use Rattle.wc_program.specs.Files.{store_change}
 use Rattle.wc_program.specs.Screen.{Becomes}
+use Rattle.wcplan_command.specs.Program.{IsEncoderOf}
 use Rattle.wcplan_command.proofs.RunLemmas.{quiet}
 use Rattle.wcplan_command.proofs.program.run_command.Goals as goal
+
+pub run_encoder-requires : goal.run_encoder-requires
+run_encoder-requires g c =
+    subst (λ (e : EncoderView). IsEncoderOf (command_view c.args.command.now) (g.F.FileStore.held c.args.files.now) e) (sym c.deref.ensures)
+    c.in_ok-encoder.ensures.encoder
 
 pub returns-in_err-encoder-clause-fault : goal.returns-in_err-encoder-clause-fault
 returns-in_err-encoder-clause-fault g c =

@@ -2,7 +2,7 @@ use Rattle.std.proofs.Common.{◌∙◌, [], ◌∷◌, ap, map, rules, subst}
 use Rattle.std.proofs.lemmas.List.{map-append}
 use Rattle.wcplan_command.specs.SharedKeys.{IsNamedFile}
 use Rattle.wcplan_command.specs.Private.SharedKeys.{adapter_view, file_bytes}
-use Rattle.wcplan_command.proofs.SharedKeyLemmas.{zip_more}
+use Rattle.wc_options.proofs.AdapterLemmas.{zip_more}
 use Rattle.wcplan_command.proofs.shared_keys.adapter_names.Goals as goal
 
 pub loop-file-preserved : goal.loop-file-preserved

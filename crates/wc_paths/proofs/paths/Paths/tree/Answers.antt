@@ -2,7 +2,8 @@ use Rattle.std.proofs.Common.{◌≡◌, ◌<◌, ◌≤◌, ℕ, length, map, g
 use Rattle.wc_paths.specs.ChainTree.{IsChainTree, IsInside}
 use Rattle.wc_paths.specs.Counts.{counts_value}
 use Rattle.wc_paths.specs.Private.PathTree.{finders_in, found_in, is_past, item_in, position_in}
-use Rattle.wc_paths.proofs.PathTreeLemmas.{all_there, finders_earlier, path_tree_is}
+use Rattle.wc_paths.proofs.PathTreeLemmas.{all_there, finders_earlier}
+use Rattle.wc_paths.proofs.PathTreeUseLemmas.{path_tree_is}
 use Rattle.wc_paths.proofs.paths.Paths.tree.Goals as goal
 
 pub tree_to-requires-clause-earlier : goal.tree_to-requires-clause-earlier

@@ -1,0 +1,4 @@
+mod AnswerLemmas
+mod CauseLemmas
+mod KeyLemmas
+mod WorldAnswerLemmas

@@ -1,0 +1,11 @@
+use Rattle.wc_json.specs.Shapes.{object_of}
+use Rattle.wc_why.proofs.TokenLemmas.{closed, then}
+use Rattle.wc_component_calls.proofs.places.put_imports.Goals as goal
+
+pub returns : goal.returns
+unfolding object_of
+returns c =
+    then _ _ _ c.in_ok-begin_object.ensures
+    (then _ _ _ c.in_ok-put_text.ensures
+    (then _ _ _ c.in_ok-put_text-2.ensures
+    (closed _ _ c.in_ok-put_list.ensures c.end_object.ensures)))

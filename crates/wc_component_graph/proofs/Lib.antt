@@ -1,0 +1,3 @@
+mod LinkLemmas
+mod LaidLemmas
+mod MarkLemmas

@@ -1,0 +1,6 @@
+pub mod ListLemmas
+pub mod WalkLemmas
+pub mod EachLemmas
+pub mod WaysTreeLemmas
+pub mod FoundLemmas
+pub mod MainTreeLemmas

@@ -1,7 +1,0 @@
-use Rattle.wc_import_paths.proofs.FollowedLemmas.{read_refusal}
-use Rattle.wc_import_paths.proofs.followed.read.Goals as goal
-
-pub returns-in-Err-clause-refused : goal.returns-in-Err-clause-refused
-returns-in-Err-clause-refused c =
-    rw (c.unread.ensures.0, c.unread.ensures.1)
-    (read_refusal c.args.bytes.now c.in-Err.refused.fault c.in-Err.refused.place c.in-Err.ensures.refused c.in-Err.ensures.component c.in-Err.ensures.place)

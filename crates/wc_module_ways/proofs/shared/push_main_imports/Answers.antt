@@ -1,0 +1,12 @@
+use Rattle.std.proofs.Common.{◌<◌, length, arith}
+use Rattle.wc_read.specs.Imports.{import_value, import_values}
+use Rattle.wc_module_ways.specs.Modules.{is_of_main}
+use Rattle.wc_module_ways.proofs.PickedLemmas.{kept_more}
+use Rattle.wc_module_ways.proofs.shared.push_main_imports.Goals as goal
+
+pub loop-import-preserved : goal.loop-import-preserved
+loop-import-preserved c given names =
+    let within : c.loop-import.import-index < length c.args.imports.now = omega arith in
+    let put = rw (c.is_of_main.ensures given names) at c.in_ok-push_if.ensures in
+    kept_more import_value (is_of_main given) c.args.imports.now c.loop-import.import-index _ (import_values c.args.found.now.items)
+    (import_values c.loop-import.found.items) (import_values c.push_if.new.found.items) within (c.loop-import.invariant given names) put

@@ -1,0 +1,17 @@
+pub mod ComponentExports
+pub mod Names
+pub mod NameLists
+pub mod Functions
+pub mod Required
+pub mod Main
+pub mod MainModules
+pub mod Adapters
+pub mod AdapterNames
+pub mod Modules
+pub mod Printed
+pub mod Refusals
+pub mod Ways
+pub mod WaysIn
+pub mod Imports
+pub mod Tree
+pub mod Private

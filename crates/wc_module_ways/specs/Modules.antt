@@ -1,0 +1,93 @@
+-- The modules of a component before it is made.
+use Rattle.std.specs.Prelude.{◌≡◌, ℕ, All, Bool, ◌&&◌, not, List, ◌++◌, map, filter, codes}
+use Rattle.std.specs.List.{flat_map, list_any}
+use Rattle.std.specs.Str.{bytes_eq}
+use Rattle.wc_read.specs.Imports.{ImportValue}
+use Rattle.wc_import_paths.specs.Patterns.{PatternView, is_shown}
+use Rattle.wc_why.specs.Paths.{text_of}
+use Rattle.wc_module_ways.specs.Adapters.{AdapterView, AreAdapters, Given, IsRead, adapter_view, given_view}
+use Rattle.wc_module_ways.specs.Main.{IsMain, MainView, code_of}
+use Rattle.wc_module_ways.specs.MainModules.{HasMain, IsView, module_of}
+use Rattle.wc_module_ways.specs.Names.{NamePair, function_pairs, pair_view}
+use Rattle.wc_module_ways.specs.Functions.{AreFunctions}
+use Rattle.wc_module_ways.specs.AdapterNames.{HasNames}
+use Rattle.wc_module_ways.specs.declared.modules.Modules.{Modules}
+use Rattle.wc_module_ways.specs.declared.modules.ModulesInput.{ModulesInput}
+
+-- the main module's bytes, and its exports at which paths begin; the adapters; and exports that are asked of adapters
+pub record InputView : Type 0 where
+  pub main : List ℕ
+  pub exports : List (List ℕ)
+  pub adapters : List Given
+  pub adapter_exports : List NamePair
+
+abbrev pub input_view : ModulesInput → InputView
+input_view i = record {
+  main = i.main.now;
+  exports = map text_of i.exports.now;
+  adapters = map given_view i.adapters.now;
+  adapter_exports = map pair_view i.adapter_exports.now;
+}
+
+-- the main module, the adapters that a component of it needs, and all that are given
+pub record ModulesView : Type 0 where
+  pub main : MainView
+  pub adapters : List AdapterView
+  pub given : List Given
+
+pub record IsModules (i : InputView) (w : ModulesView) : Type 0 where
+  pub main : IsMain i.main i.exports w.main
+  pub adapters : AreAdapters (function_pairs (code_of w.main).imports) i.adapter_exports i.adapters w.adapters
+  pub given : w.given ≡ i.adapters
+
+-- imports that belong to no other module of the component
+
+abbrev pub is_main_module : ImportValue → Bool
+is_main_module i = bytes_eq i.module_name (codes "__main_module__")
+
+abbrev pub is_given : List Given → List ℕ → Bool
+is_given given name = list_any (λ (g : Given). bytes_eq name g.0) given
+
+abbrev pub is_of_main : List Given → ImportValue → Bool
+is_of_main given i = not (is_main_module i) && not (is_given given i.module_name)
+
+abbrev pub is_of_adapter : ImportValue → Bool
+is_of_adapter i = not (is_main_module i) && not (bytes_eq i.module_name (codes "env") && bytes_eq i.name (codes "memory"))
+
+-- an import is shown: it is one of these, and is asked for
+
+abbrev pub is_main_shown : List Given → List PatternView → ImportValue → Bool
+is_main_shown given patterns i = is_of_main given i && is_shown patterns i
+
+abbrev pub is_adapter_shown : List PatternView → ImportValue → Bool
+is_adapter_shown patterns i = is_of_adapter i && is_shown patterns i
+
+-- all of these imports: those of an adapter, and those of all modules
+abbrev pub imports_through : AdapterView → List ImportValue
+imports_through a = filter is_of_adapter a.code.imports
+
+abbrev pub imports_of : ModulesView → List ImportValue
+imports_of w = filter (is_of_main w.given) (code_of w.main).imports ++ flat_map imports_through w.adapters
+
+-- they are these modules
+pub record AreView (p : Modules) (w : ModulesView) : Type 0 where
+  pub main : IsView p.main w.main
+  pub adapters : map adapter_view p.adapters.items ≡ w.adapters
+  pub names : HasNames w.given p.names.keys
+
+-- the paths in them were found
+pub record HasModules (p : Modules) : Type 0 where
+  pub main : HasMain p.main
+  pub functions : AreFunctions (module_of p.main).imports p.functions
+  pub adapters : All IsRead (map adapter_view p.adapters.items)
+
+-- they are the modules of this input
+pub record AreModules (i : InputView) (p : Modules) : Type 0 where
+  pub view : ModulesView
+  pub is_modules : IsModules i view
+  pub are_view : AreView p view
+  pub has_modules : HasModules p
+
+-- the imports of them that belong to no other module of the component
+abbrev pub AreImportsIn : Modules → List ImportValue → Type 0
+AreImportsIn p imports = (w : ModulesView) → AreView p w → imports ≡ imports_of w

@@ -1,0 +1,49 @@
+-- Why nothing can be said of modules, and where.
+use Rattle.std.specs.Prelude.{◌≡◌, ◌⊎◌, ℕ, List, Contains, Option, Some, None}
+use Rattle.std.specs.Option.{option_map}
+use Rattle.wc_gc.specs.LiveItems.{IsFault}
+use Rattle.wc_gc.specs.TrimPlace.{IsExplained}
+use Rattle.wc_gc.specs.declared.fault.GcFault.{GcFault}
+use Rattle.wc_gc.specs.declared.fault.GcFault.TheVariants.{Memory}
+use Rattle.wc_gc.specs.declared.trim_place.TrimPlace.{TrimPlace}
+use Rattle.wc_import_paths.specs.Following.{IsCodeRefusal}
+use Rattle.wc_module_ways.specs.Adapters.{AdapterView, Given, given_view, search_input}
+use Rattle.wc_module_ways.specs.Main.{IsMainRefusal}
+use Rattle.wc_module_ways.specs.declared.refusals.ModulesRefusal.{ModulesRefusal}
+
+-- the adapter that is at fault; none for the main module
+abbrev pub adapter_in : ModulesRefusal → Option Given
+adapter_in r = option_map given_view r.adapter
+
+-- a refusal of the main module, or of an adapter, with this fault and place
+
+abbrev pub IsOfMain : GcFault → Option TrimPlace → ModulesRefusal → Type 0
+IsOfMain f place r = (adapter_in r ≡ None) × (r.fault ≡ f) × (r.place ≡ place)
+
+abbrev pub IsOfAdapter : List ℕ → List ℕ → GcFault → Option TrimPlace → ModulesRefusal → Type 0
+IsOfAdapter name bytes f place r = (adapter_in r ≡ Some (name, bytes)) × (r.fault ≡ f) × (r.place ≡ place)
+
+-- the bytes of an adapter are no module, from this byte on
+abbrev pub IsAdapterUnread : List ℕ → GcFault → Option TrimPlace → Type 0
+IsAdapterUnread bytes f place = IsCodeRefusal bytes f place
+
+abbrev pub IsGivenRefusal : Given → ModulesRefusal → Type 0
+IsGivenRefusal g r = (adapter_in r ≡ Some g) × IsAdapterUnread g.1 r.fault r.place
+
+abbrev pub IsAdaptersRefusal : List Given → ModulesRefusal → Type 0
+IsAdaptersRefusal given r = (r.fault ≡ Memory) ⊎ ((g : Given) × Contains given g × IsGivenRefusal g r)
+
+-- memory ran out; or the main module, or an adapter, is refused
+abbrev pub IsReadRefusal : List ℕ → List (List ℕ) → List Given → ModulesRefusal → Type 0
+IsReadRefusal main exports given r = ((adapter_in r ≡ None) × IsMainRefusal main exports r.fault r.place) ⊎ IsAdaptersRefusal given r
+
+-- an adapter has this fault, which comes before other ones of it, at this place
+abbrev pub IsAdapterFault : AdapterView → ModulesRefusal → Type 0
+IsAdapterFault a r = (adapter_in r ≡ Some (a.name, a.bytes)) × IsFault (search_input a) r.fault × IsExplained (search_input a) r.fault r.place
+
+-- memory ran out; or this adapter, or one of these, has the fault
+abbrev pub IsThisRefusal : AdapterView → ModulesRefusal → Type 0
+IsThisRefusal a r = (r.fault ≡ Memory) ⊎ IsAdapterFault a r
+
+abbrev pub IsWaysRefusal : List AdapterView → ModulesRefusal → Type 0
+IsWaysRefusal adapters r = (r.fault ≡ Memory) ⊎ ((a : AdapterView) × Contains adapters a × IsAdapterFault a r)

@@ -1,0 +1,217 @@
+//! The modules of a component before it is made.
+
+ghost use Rattle.std.specs.Prelude.{◌≡◌, ◌++◌, IfErr, IfOk, List, OnOk, map};
+ghost use Rattle.std.specs.List.{flat_map};
+ghost use Rattle.wc_read.specs.Imports.{ImportValue, import_values};
+ghost use Rattle.wc_why.specs.Paths.{text_of};
+ghost use Rattle.wc_module_ways.specs.Adapters.{AreAdapters, adapter_view, given_view};
+ghost use Rattle.wc_module_ways.specs.Functions.{AreFunctions};
+ghost use Rattle.wc_module_ways.specs.MainModules.{IsMainOf};
+ghost use Rattle.wc_module_ways.specs.Names.{function_pairs};
+ghost use Rattle.wc_module_ways.specs.Private.Others.{AreOthers};
+ghost use Rattle.wc_module_ways.specs.Modules.{AreImportsIn, AreModules, imports_through, input_view};
+ghost use Rattle.wc_module_ways.specs.Refusals.{IsAdaptersRefusal, IsReadRefusal};
+ghost use Rattle.wc_module_ways.specs.AdapterNames.{HasNames};
+
+use crate::adapters::{AdapterModule, Wanted, read_adapters};
+use crate::functions::Functions;
+use crate::main_module::MainModule;
+use crate::name_lists::list_names;
+use crate::refusals::{ModulesRefusal, of_main};
+use crate::shared::{push_adapter_imports, push_main_imports};
+use std::alloc::{AllocError, Global};
+use wc_maps::{Seed, Set};
+use wc_read::Import;
+
+/// The modules of a component, as their files have them.
+#[derive(Clone, Copy)]
+pub struct ModulesInput<'a, 's> {
+    /// The bytes of the main module.
+    pub main: &'a [u8],
+    /// The exports of it at which paths may begin, in order; all, if there are none.
+    pub exports: &'s [&'a str],
+    /// The names of the adapters, and the bytes of their modules, in order.
+    pub adapters: &'s [(&'a str, &'a [u8])],
+    /// Exports that are asked of adapters, each after the name of its adapter.
+    pub adapter_exports: &'s [(&'a str, &'a str)],
+}
+
+/// The modules of a component before it is made: the main module, and the adapters that it needs.
+#[derive(Drop)]
+pub struct Modules<'r> {
+    /// The main module.
+    pub main: MainModule<'r>,
+    /// The adapters that a component of it needs, in order.
+    pub adapters: Vec<AdapterModule<'r>>,
+    /// The functions that the main module imports.
+    pub(crate) functions: Functions<'r>,
+    /// The names of all adapters.
+    pub(crate) names: Set<&'r str>,
+}
+
+impl<'r> Modules<'r> {
+    /// The modules with these bytes. `seed`: the seed of the maps that are made.
+    ///
+    /// An adapter has to export the functions that the main module imports under its name; the exports that a component may
+    /// need: functions of interfaces, which have a `#` in their names, names of the standard scheme, which begin with
+    /// `cm32p2`, reallocs (`cabi_realloc` of its type, `canonical_abi_realloc`, `cabi_import_realloc`, `cabi_export_realloc`,
+    /// `cabi_realloc_adapter`), `_initialize` without parameters and results, a memory `memory` and a table
+    /// `__indirect_function_table`; and those that are asked for. An adapter is left out from which the main module
+    /// imports no function, that exports no function of an interface, and of which no export is asked for.
+    ///
+    /// It takes time and memory linear in the modules and in the names.
+    ///
+    /// # Errors
+    ///
+    /// Of several causes the first in this order is named; `Memory` may come in place of any.
+    ///
+    /// - Of the main module: `Read`, with the byte at which it stops to be a module; `MissingExport`, an export that is not
+    ///   there. A section of segments, or a body, that can't be read is none.
+    /// - Of an adapter, in order: `Read`, with the byte at which it stops to be a module.
+    /// - `Memory`: an allocation failed.
+    pub fn read(
+        alloc: Global,
+        seed: Seed,
+        input: &ModulesInput<'r, '_>,
+    ) -> Result<Modules<'r>, ModulesRefusal<'r>>
+        ensures modules { IfOk result (AreModules (input_view input.now)) }
+        ensures refused { IfErr result (IsReadRefusal input.now.main.now
+            (map text_of input.now.exports.now) (map given_view input.now.adapters.now)) }
+    {
+        match MainModule::read(alloc, seed, input.main, input.exports) {
+            Ok(main) => read_with(alloc, seed, input, main),
+            Err(refused) => Err(of_main(refused)),
+        }
+    }
+
+    /// The imports of the modules to which paths may be shown: those of the main module that are not from an adapter, and then
+    /// those of each adapter. What modules of a component share is none: what is imported from `__main_module__`, and the
+    /// `memory` that an adapter imports from `env`.
+    ///
+    /// # Errors
+    ///
+    /// `AllocError`: an allocation failed.
+    pub fn imports(&self, alloc: Global) -> Result<Vec<Import<'r>>, AllocError>
+        ensures { IfOk result (λ v. AreImportsIn self.now (import_values v.items)) }
+    {
+        let mut imports = Vec::new(alloc);
+        push_main_imports(&self.names, &self.main.code().imports, &mut imports)?;
+        push_all_imports(&self.adapters, &mut imports)?;
+        Ok(imports)
+    }
+}
+
+/// Appends the imports of adapters that belong to no other module of the component.
+fn push_all_imports<'r>(
+    adapters: &[AdapterModule<'r>],
+    found: &mut Vec<Import<'r>>,
+) -> Result<(), AllocError>
+    ensures { OnOk result (import_values found.new.items ≡ import_values found.old.items
+        ++ flat_map imports_through (map adapter_view adapters.now)) }
+{
+    for adapter in adapters {
+        push_adapter_imports(&adapter.code.imports, found)?;
+    }
+    Ok(())
+}
+
+/// The modules with this main module.
+fn read_with<'r>(
+    alloc: Global,
+    seed: Seed,
+    input: &ModulesInput<'r, '_>,
+    main: MainModule<'r>,
+) -> Result<Modules<'r>, ModulesRefusal<'r>>
+    requires { IsMainOf input.now.main.now (map text_of input.now.exports.now) main }
+    ensures modules { IfOk result (AreModules (input_view input.now)) }
+    ensures refused { IfErr result (IsAdaptersRefusal (map given_view input.now.adapters.now)) }
+{
+    match read_others(alloc, seed, input, &main.code().imports) {
+        Ok(others) => Ok(modules_of(main, others)),
+        Err(refusal) => Err(refusal),
+    }
+}
+
+/// The main module with the others.
+fn modules_of<'r>(main: MainModule<'r>, others: Others<'r>) -> Modules<'r>
+    ensures main { result.main ≡ main.entry }
+    ensures adapters { result.adapters.items ≡ others.entry.adapters.items }
+    ensures functions { result.functions ≡ others.entry.functions }
+    ensures names { result.names.keys ≡ others.entry.names.keys }
+{
+    let Others {
+        adapters,
+        functions,
+        names,
+    } = others;
+    Modules {
+        main,
+        adapters,
+        functions,
+        names,
+    }
+}
+
+/// The adapters that a component needs, and what is looked up of them.
+#[derive(Drop)]
+struct Others<'r> {
+    adapters: Vec<AdapterModule<'r>>,
+    functions: Functions<'r>,
+    names: Set<&'r str>,
+}
+
+/// The adapters for a main module with these imports.
+fn read_others<'r>(
+    alloc: Global,
+    seed: Seed,
+    input: &ModulesInput<'r, '_>,
+    imports: &[Import<'r>],
+) -> Result<Others<'r>, ModulesRefusal<'r>>
+    ensures others { IfOk result (AreOthers (input_view input.now) (import_values imports.now)) }
+    ensures refused { IfErr result (IsAdaptersRefusal (map given_view input.now.adapters.now)) }
+{
+    let functions = Functions::find(alloc, seed, imports)?;
+    let adapters = adapters_for(alloc, seed, input, &functions)?;
+    let names = adapter_names(alloc, seed, input.adapters)?;
+    Ok(Others {
+        adapters,
+        functions,
+        names,
+    })
+}
+
+/// The adapters for a main module that imports these functions.
+fn adapters_for<'r>(
+    alloc: Global,
+    seed: Seed,
+    input: &ModulesInput<'r, '_>,
+    functions: &Functions<'r>,
+) -> Result<Vec<AdapterModule<'r>>, ModulesRefusal<'r>>
+    ensures adapters { (imports : List ImportValue) → AreFunctions imports functions.now →
+        IfOk result (λ v. AreAdapters (function_pairs imports)
+        (input_view input.now).adapter_exports (map given_view input.now.adapters.now)
+        (map adapter_view v.items)) }
+    ensures refused { IfErr result (IsAdaptersRefusal (map given_view input.now.adapters.now)) }
+{
+    let asked = list_names(alloc, seed, input.adapter_exports)?;
+    let wanted = Wanted {
+        imported: &functions.names,
+        asked: &asked,
+    };
+    read_adapters(alloc, seed, input.adapters, wanted)
+}
+
+/// The names of adapters as a set.
+fn adapter_names<'r>(
+    alloc: Global,
+    seed: Seed,
+    adapters: &[(&'r str, &'r [u8])],
+) -> Result<Set<&'r str>, AllocError>
+    ensures { IfOk result (λ s. HasNames (map given_view adapters.now) s.keys) }
+{
+    let mut names = Set::with_hasher(alloc, seed);
+    for adapter in adapters {
+        names.insert(adapter.0)?;
+    }
+    Ok(names)
+}

@@ -1,0 +1,18 @@
+pub mod ListLemmas
+mod SummaryLemmas
+mod SummaryTextLemmas
+mod EntryLemmas
+mod OrderLemmas
+pub mod TagLemmas
+mod NoSegmentLemmas
+mod NamerLemmas
+pub mod MainNamerLemmas
+mod MainNoteLemmas
+mod NumberedLemmas
+pub mod LeadLemmas
+mod OwnerLemmas
+pub mod UseLemmas
+mod AdapterLemmas
+pub mod AdapterPartLemmas
+pub mod NotedLemmas
+pub mod ListedLemmas

@@ -1,0 +1,9 @@
+use Rattle.wc_json.specs.Shapes.{object_of}
+use Rattle.wc_why.proofs.TokenLemmas.{closed, then}
+use Rattle.wc_summary.proofs.summary_json.put_entries.Goals as goal
+
+pub returns : goal.returns
+unfolding object_of
+returns c =
+    then _ _ _ c.in_ok-begin_object.ensures
+    (closed _ _ c.in_ok-put_list.ensures c.end_object.ensures)

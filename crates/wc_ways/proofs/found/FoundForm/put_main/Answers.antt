@@ -1,0 +1,11 @@
+use Rattle.std.proofs.Common.{refl}
+use Rattle.wc_ways.specs.Private.Found.{AreFoundInMain}
+use Rattle.wc_component_tree.specs.Found.{found_view}
+use Rattle.wc_ways.specs.Private.MainWays.{key_of, world_of}
+use Rattle.wc_ways.proofs.FoundLemmas.{module_said}
+use Rattle.wc_ways.proofs.found.FoundForm.put_main.Goals as goal
+
+pub returns-clause-said : goal.returns-clause-said
+returns-clause-said c =
+    module_said (AreFoundInMain (world_of c.args.main.now) (key_of c.args.main.now)) c.args.self.now.modules.items c.push.new.self.items c.in_ok-found.found c.in_ok-push.ensures.items
+    (found_view c.in_ok-found.found, refl, c.in_ok-found.ensures)

@@ -1,7 +1,0 @@
-use Rattle.std.proofs.Common.{◌≡◌, ◌++◌, map, string_bytes, take}
-use Rattle.wc_ways.specs.Summary.{part_view}
-use Rattle.wc_ways.specs.SummaryLines.{adapter_text}
-use Rattle.wc_ways.proofs.summary_lines.push_adapters.Given as goal
-
-abbrev pub invariant-loop-part : goal.invariant-loop-part
-invariant-loop-part l = map string_bytes l.parts.items ≡ map string_bytes l.fn.parts.items ++ map adapter_text (map part_view (take l.part-index l.adapters))

@@ -1,6 +1,0 @@
-use Rattle.std.proofs.Common.{◌≡◌, map, take}
-use Rattle.wc_selection.specs.Texts.{first_parts, text_of, text_pair}
-use Rattle.wcplan_command.proofs.adapter_names.first_parts.Given as goal
-
-abbrev pub invariant-loop-name : goal.invariant-loop-name
-invariant-loop-name l = map text_of l.names.items ≡ first_parts (map text_pair (take l.name-index l.pairs))
