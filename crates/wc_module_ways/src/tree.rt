@@ -174,13 +174,7 @@ fn main_part<'t>(
     let picked = wanted_items(alloc, modules, keys, &items)?;
     let made = picked_tree(alloc, &modules.main, &own.items, &picked)?;
     let MainTree { module, ends } = made;
-    let places = wanted_places(
-        alloc,
-        asked.seed(),
-        keys,
-        own.items.len(),
-        &ends,
-    )?;
+    let places = wanted_places(alloc, asked.seed(), keys, own.items.len(), &ends)?;
     let ways = own_ways(alloc, &code.imports, &own.places, &ends)?;
     Ok(MainPart {
         module,
