@@ -1,11 +1,13 @@
 -- Where the paths to items of the main module end in the tree.
-use Rattle.std.proofs.Common.{◌≡◌, ◌⊎◌, ℕ, ◌+◌, ◌<◌, ◌≤◌, Bool, true, false, cond, List, [], ◌∷◌, ◌++◌, get_or, length, map, take, Option, Some, None, Result, Ok, Err, IfOk, OnOk, refl, sym, ◌∙◌, ap, subst, inl, inr, arith, append-nil}
+use Rattle.std.proofs.Common.{◌≡◌, ◌⊎◌, ℕ, ◌+◌, ◌<◌, ◌≤◌, Bool, true, false, ◌||◌, cond, ◌&&◌, List, [], ◌∷◌, ◌++◌, get_or, length, map, string_bytes, take, Option, Some, None, Result, Ok, Err, IfOk, OnOk, refl, sym, ◌∙◌, ap, subst, inl, inr, arith, append-nil}
 use Rattle.std.specs.Prelude.{MatchOption, replicate}
-use Rattle.std.specs.List.{flat_map, slice_get}
+use Rattle.std.specs.List.{flat_map, list_any, slice_get}
 use Rattle.std.specs.Map.{lookup}
 use Rattle.std.specs.Str.{bytes_eq}
+use Rattle.std.proofs.Math.Bool.{or-false, or-true, or_assoc}
 use Rattle.std.proofs.lemmas.Bool.{and_parts}
 use Rattle.std.proofs.lemmas.List.{get_or-replicate, length-map, length-replicate, length_push, map-append, take_all, take_more}
+use Rattle.std.proofs.lemmas.List.Folds.{list_any_more}
 use Rattle.std.proofs.lemmas.Option.{get_or_from_slice_get, same_Some, slice_get-get_or, slice_get_within}
 use Rattle.std.proofs.lemmas.Slice.Eq.{bytes_eq-Decides}
 use Rattle.wc_gc.proofs.TypedGlobalLemmas.{get_front, get_last}
@@ -32,10 +34,11 @@ use Rattle.wc_tree.specs.declared.tree.TreeRoot.{TreeRoot}
 use Rattle.wc_tree.specs.declared.tree.TreeRoot.TheVariants.{Unfollowed as tree_unfollowed}
 use Rattle.wc_tree.proofs.ModuleTreeLemmas.{way_read}
 use Rattle.wc_component_tree.specs.Found.{FoundView, FoundWayView}
-use Rattle.wc_component_tree.specs.FoundTree.{AreEndsReady, AreEvenIn, AreItemEnds, ArePlaces, IsEndFrom, IsEndIn, IsEndPut, IsEndReady, IsGrownTo, IsItemEnd, IsItemEndIn, IsModuleFrom, IsModuleIn, IsModulePut, IsPlaceOf, IsPlacePut, IsRootFrom, IsSourceOf, IsTreeIn, IsUnfollowedPut, IsWayAt, IsWayPut, Places, way_to, ways_to, why_of}
+use Rattle.wc_component_tree.specs.FoundTree.{AreEndsReady, AreEvenIn, AreItemEnds, ArePlaces, AreWantedPut, IsEndFrom, IsEndIn, IsEndPut, IsEndReady, IsGrownTo, IsItemEnd, IsItemEndIn, IsModuleFrom, IsModuleIn, IsModulePut, IsPlaceOf, IsPlacePut, IsRootFrom, IsSourceOf, IsTreeIn, IsUnfollowedPut, IsWayAt, IsWayPut, Places, is_wanted_import, way_to, ways_to, why_of}
 use Rattle.wc_component_tree.specs.Keys.{Key, is_key}
 use Rattle.wc_component_tree.specs.Said.{Says}
 use Rattle.wc_component_tree.specs.WaysTree.{AreStepsFrom, HasRoot, IsMainRead}
+use Rattle.wc_component_tree.specs.declared.found.FoundRoot.{FoundRoot}
 use Rattle.wc_component_tree.specs.declared.main_tree.FollowedMain.{FollowedMain}
 use Rattle.wc_component_tree.specs.declared.main_tree.MainFollowing.{MainFollowing}
 use Rattle.wc_component_tree.specs.declared.main_tree.MainFollowing.TheVariants.{Whole, Unread}
@@ -344,6 +347,44 @@ pub places_put_at : (imports : List Key) (ends : List ℕ) (n : ℕ) (d : Key) (
     → ArePlaces imports ends new
 places_put_at imports ends n d e old new lt within put h =
     places_put imports ends n (get_or imports n d) (get_or ends n e) old new (slice_get-get_or imports n d lt) (slice_get-get_or ends n e within) put h
+
+-- ---- imports of the main module, put to a set
+
+-- a key is in the set, or it is put
+key_put : (b had : Bool) → cond b true had ≡ (had || b)
+key_put true had = sym (or-true had)
+key_put false had = sym (or-false had)
+
+pub none_wanted : (adapter : List ℕ) (keys : List Key) → AreWantedPut adapter [] keys keys
+none_wanted adapter keys q = sym (or-false (list_any (is_key q) keys))
+
+-- of the exports so far, and one more
+wanted_more : (adapter : List ℕ) (roots : List FoundRoot) (i : ℕ) (d r : FoundRoot) (old now new : List Key) → i < length roots → r ≡ get_or roots i d
+    → AreWantedPut adapter (take i roots) old now → ((q : Key) → list_any (is_key q) new ≡ (list_any (is_key q) now || is_wanted_import adapter q r))
+    → AreWantedPut adapter (take (i + 1) roots) old new
+wanted_more adapter roots i d r old now new within item before put q =
+    let is = is_wanted_import adapter q in
+    put q ∙ (ap (λ b. b || is r) (before q)
+    ∙ (or_assoc (list_any (is_key q) old) (list_any is (take i roots)) (is r)
+    ∙ ap (λ b. list_any (is_key q) old || b) (ap (λ z. list_any is (take i roots) || is z) item ∙ sym (list_any_more is roots i d within))))
+
+pub wanted_put : (adapter : List ℕ) (roots : List FoundRoot) (i : ℕ) (d r : FoundRoot) (key : Key) (old now new : List Key) → i < length roots
+    → r ≡ get_or roots i d → AreWantedPut adapter (take i roots) old now → r.is_wanted ≡ true → key.0.now ≡ adapter → key.1.now ≡ string_bytes r.name
+    → ((q : Key) → list_any (is_key q) new ≡ cond (is_key key q) true (list_any (is_key q) now)) → AreWantedPut adapter (take (i + 1) roots) old new
+wanted_put adapter roots i d r key old now new within item before wanted from name put =
+    wanted_more adapter roots i d r old now new within item before (λ q. put q ∙ (key_put (is_key key q) (list_any (is_key q) now)
+    ∙ ap (λ b. list_any (is_key q) now || b) (same q)))
+  where
+    same : (q : Key) → is_key key q ≡ is_wanted_import adapter q r
+    same q =
+        (λ k. bytes_eq (from k) q.0.now && bytes_eq (name k) q.1.now)
+        ∙ sym (ap (λ b. b && (bytes_eq adapter q.0.now && bytes_eq (string_bytes r.name) q.1.now)) wanted)
+
+pub wanted_passed : (adapter : List ℕ) (roots : List FoundRoot) (i : ℕ) (d r : FoundRoot) (old now : List Key) → i < length roots → r ≡ get_or roots i d
+    → AreWantedPut adapter (take i roots) old now → r.is_wanted ≡ false → AreWantedPut adapter (take (i + 1) roots) old now
+wanted_passed adapter roots i d r old now within item before other =
+    wanted_more adapter roots i d r old now now within item before (λ q. sym (or-false (list_any (is_key q) now))
+    ∙ ap (λ b. list_any (is_key q) now || b && (bytes_eq adapter q.0.now && bytes_eq (string_bytes r.name) q.1.now)) (sym other))
 
 -- ---- the adapters
 

@@ -1,7 +1,8 @@
 -- The tree of what was found in the modules of a component, as the code makes it.
-use Rattle.std.specs.Prelude.{◌≡◌, ◌⊎◌, ⊤, ℕ, Bool, true, false, List, [], ◌∷◌, ◌++◌, length, MatchOption, Option, Some, None}
-use Rattle.std.specs.List.{slice_get}
+use Rattle.std.specs.Prelude.{◌≡◌, ◌⊎◌, ⊤, ℕ, Bool, true, false, List, [], ◌∷◌, ◌++◌, ◌&&◌, ◌||◌, length, string_bytes, MatchOption, Option, Some, None}
+use Rattle.std.specs.List.{list_any, slice_get}
 use Rattle.std.specs.Map.{lookup}
+use Rattle.std.specs.Str.{bytes_eq}
 use Rattle.wc_read.specs.Names.{GlobalNameValue, name_entries}
 use Rattle.wc_segments.specs.Segments.{segments_value}
 use Rattle.wc_paths.specs.Callers.{calling_of, entry_by}
@@ -23,6 +24,7 @@ use Rattle.wc_component_tree.specs.Found.{FoundRootView, FoundView, FoundWayView
 use Rattle.wc_component_tree.specs.Keys.{Key, is_key}
 use Rattle.wc_component_tree.specs.Said.{AreEach}
 use Rattle.wc_component_tree.specs.WaysTree.{IsMainRead}
+use Rattle.wc_component_tree.specs.declared.found.FoundRoot.{FoundRoot}
 use Rattle.wc_component_tree.specs.declared.main_tree.FollowedMain.{FollowedMain}
 use Rattle.wc_component_tree.specs.declared.main_tree.MainFollowing.{MainFollowing}
 use Rattle.wc_component_tree.specs.declared.main_tree.MainFollowing.TheVariants.{Whole, Unread}
@@ -72,6 +74,15 @@ abbrev pub ArePlaces : List Key → List ℕ → Places → Type 0
 ArePlaces imports ends places =
     (q : Key) (k : ℕ) → lookup (is_key q) places ≡ Some k → (n : ℕ) × (key : Key) × (slice_get imports n ≡ Some key) × (slice_get ends n ≡ Some k)
     × (key.0.now ≡ q.0.now) × (key.1.now ≡ q.1.now)
+
+-- a key is the import of an export of an adapter, which the main module has
+abbrev pub is_wanted_import : List ℕ → Key → FoundRoot → Bool
+is_wanted_import adapter q r = r.is_wanted && (bytes_eq adapter q.0.now && bytes_eq (string_bytes r.name) q.1.now)
+
+-- to a set of imports exactly those of these exports were added
+abbrev pub AreWantedPut : List ℕ → List FoundRoot → List Key → List Key → Type 0
+AreWantedPut adapter roots old new =
+    (q : Key) → list_any (is_key q) new ≡ (list_any (is_key q) old || list_any (is_wanted_import adapter q) roots)
 
 -- why no path to an item is known
 abbrev pub why_of : MainFollowing → Unfollowed

@@ -7,7 +7,7 @@ ghost use Rattle.wc_paths.specs.Callers.{entry_by};
 ghost use Rattle.wc_why.specs.Joined.{AreJoined};
 ghost use Rattle.wc_tree.specs.Tree.{tree_import_view, tree_module_view, tree_root_view, tree_view, tree_way_view};
 ghost use Rattle.wc_component_tree.specs.Found.{found_root_view, found_view, found_way_view};
-ghost use Rattle.wc_component_tree.specs.FoundTree.{AreModulesFrom, AreWaysAt, AreWaysFrom, IsEndFrom, IsFoundTree, IsModuleFrom, IsModulePut, IsPlaceOf, IsRootFrom, IsRootPut, IsWayAt, way_to, ways_to};
+ghost use Rattle.wc_component_tree.specs.FoundTree.{AreModulesFrom, AreWantedPut, AreWaysAt, AreWaysFrom, IsEndFrom, IsFoundTree, IsModuleFrom, IsModulePut, IsPlaceOf, IsRootFrom, IsRootPut, IsWayAt, way_to, ways_to};
 ghost use Rattle.wc_component_tree.specs.Keys.{is_key};
 ghost use Rattle.wc_component_tree.specs.Said.{AreEach, Says};
 
@@ -48,7 +48,10 @@ pub fn put_wanted<'t>(
     adapter: &'t str,
     roots: &'t [FoundRoot],
     imports: &mut Set<ImportKey<'t>>,
-) -> Result<(), AllocError> {
+) -> Result<(), AllocError>
+    ensures { OnOk result (AreWantedPut adapter.now roots.now
+        imports.old.keys imports.new.keys) }
+{
     for root in roots {
         if root.is_wanted {
             imports.insert((adapter, &root.name))?;
