@@ -350,10 +350,10 @@ places_put_at imports ends n d e old new lt within put h =
 
 -- ---- imports of the main module, put to a set
 
--- a key is in the set, or it is put
-key_put : (b had : Bool) → cond b true had ≡ (had || b)
-key_put true had = sym (or-true had)
-key_put false had = sym (or-false had)
+-- a key that is put is in the set, and so is each that was there
+key_put : (b is had : Bool) → b ≡ is → cond b true had ≡ (had || is)
+key_put true is had same = sym (or-true had) ∙ ap (λ z. had || z) same
+key_put false is had same = sym (or-false had) ∙ ap (λ z. had || z) same
 
 pub none_wanted : (adapter : List ℕ) (keys : List Key) → AreWantedPut adapter [] keys keys
 none_wanted adapter keys q = sym (or-false (list_any (is_key q) keys))
@@ -372,8 +372,8 @@ pub wanted_put : (adapter : List ℕ) (roots : List FoundRoot) (i : ℕ) (d r : 
     → r ≡ get_or roots i d → AreWantedPut adapter (take i roots) old now → r.is_wanted ≡ true → key.0.now ≡ adapter → key.1.now ≡ string_bytes r.name
     → ((q : Key) → list_any (is_key q) new ≡ cond (is_key key q) true (list_any (is_key q) now)) → AreWantedPut adapter (take (i + 1) roots) old new
 wanted_put adapter roots i d r key old now new within item before wanted from name put =
-    wanted_more adapter roots i d r old now new within item before (λ q. put q ∙ (key_put (is_key key q) (list_any (is_key q) now)
-    ∙ ap (λ b. list_any (is_key q) now || b) (same q)))
+    wanted_more adapter roots i d r old now new within item before
+    (λ q. put q ∙ key_put (is_key key q) (is_wanted_import adapter q r) (list_any (is_key q) now) (same q))
   where
     same : (q : Key) → is_key key q ≡ is_wanted_import adapter q r
     same q =
