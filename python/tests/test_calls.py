@@ -96,6 +96,21 @@ def test_paths_lead_to_the_imports_of_main_modules_with_names():
         nuigatre.paths(TABLE, imports=["\ud800"])
 
 
+def test_a_component_says_why_it_imports_what_it_does(notes):
+    found = nuigatre.component_paths(*notes(), key="my:notes/store")
+    assert "my:notes/store@1.2.0" in json.dumps(found)
+    assert nuigatre.component_paths(*notes(), key="my:notes") == nuigatre.component_paths(*notes(), key="my:notes@1.2.0")
+    imports = {it["interface"]: it["kind"] for it in nuigatre.component_imports(*notes())}
+    assert imports["my:notes/store@1.2.0"] in ("main", "goes", "stays")
+    with pytest.raises(Fault, match="^UnknownImport `my:notes/other`$") as unknown:
+        nuigatre.component_paths(*notes(), key="my:notes/other")
+    assert (unknown.value.call, unknown.value.number) == ("component_paths", 16)
+    assert (unknown.value.place["kind"], unknown.value.place["key"]) == ("imports", "my:notes/other")
+    assert "my:notes/store@1.2.0" in unknown.value.place["imports"]
+    with pytest.raises(BadArgument):
+        nuigatre.component_paths(*notes(), key="\ud800")
+
+
 def test_a_world_and_its_plan_are_those_of_the_examples(examples, notes):
     made = nuigatre.planned_world(*notes())
     assert made.main == examples("wcplan/main.wasm")

@@ -35,9 +35,7 @@ function thrown(call) {
 test("the module imports nothing, and exports the calls of the header and its memory", () => {
   assert.deepEqual(WebAssembly.Module.imports(library.module), []);
   const found = WebAssembly.Module.exports(library.module).map((it) => it.name).sort();
-  // a module that is older than these calls lacks them
-  const isThere = (it) => !it.startsWith("component_") || found.includes("nuigatre_" + it);
-  const wanted = ["alloc", "free", "limit", "proved", ...Object.keys(CALLS).filter(isThere)].map((it) => "nuigatre_" + it);
+  const wanted = ["alloc", "free", "limit", "proved", ...Object.keys(CALLS)].map((it) => "nuigatre_" + it);
   assert.deepEqual(found, ["memory", ...wanted].sort());
 });
 
@@ -127,6 +125,19 @@ test("paths lead to the imports of main modules, with names", () => {
   assert.deepEqual([cut.text, cut.place.kind, cut.place.offset], ["Read: Truncated", "bytes", 12]);
 });
 
+test("a component says why it imports what it does", () => {
+  const found = library.componentPaths(notes(), "my:notes/store");
+  assert.match(JSON.stringify(found), /my:notes\/store@1\.2\.0/);
+  assert.deepEqual(library.componentPaths(notes(), "my:notes"), library.componentPaths(notes(), "my:notes@1.2.0"));
+  const store = library.componentImports(notes()).find((it) => it.interface === "my:notes/store@1.2.0");
+  assert.ok(["main", "goes", "stays"].includes(store.kind));
+  const unknown = thrown(() => library.componentPaths(notes(), "my:notes/other"));
+  assert.deepEqual([unknown.call, unknown.number, unknown.text], ["component_paths", 16, "UnknownImport `my:notes/other`"]);
+  assert.deepEqual([unknown.place.kind, unknown.place.key], ["imports", "my:notes/other"]);
+  assert.ok(unknown.place.imports.includes("my:notes/store@1.2.0"));
+  assert.equal(thrown(() => library.componentPaths(notes(), "\ud800")).text, "UnknownImport `\ufffd`");
+});
+
 test("a component's world and plan are those of the examples", () => {
   const { record, main, adapters } = library.plannedWorld(notes());
   same(main, example("wcplan/main.wasm"));
@@ -206,6 +217,7 @@ test("damaged modules and messages end each call, and change no later one", () =
     const component = notes(message);
     if (drawn(2)) component.adapters[0].wasm = damaged(component.adapters[0].wasm, drawn);
     tried(() => library.plannedWorld(component));
+    tried(() => library.componentPaths(component, "all"));
     if (count === 1000) memory = library.memory;
   }
   assert.ok(refused > 2000, `${refused} are refused`);

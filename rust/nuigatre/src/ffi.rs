@@ -174,7 +174,6 @@ unsafe extern "C" {
         out_length: usize,
     ) -> Answer;
 
-    #[allow(dead_code)]
     #[link_name = "nuigatre9_component_paths"]
     fn nuigatre_component_paths(
         seed0: u64,
@@ -189,7 +188,6 @@ unsafe extern "C" {
         out_length: usize,
     ) -> Answer;
 
-    #[allow(dead_code)]
     #[link_name = "nuigatre9_component_imports"]
     fn nuigatre_component_imports(
         seed0: u64,
@@ -422,6 +420,42 @@ pub(crate) fn planned_world(
     room: usize,
 ) -> Result<Answered, Error> {
     answer_to(nuigatre_planned_world, message, modules, room)
+}
+
+/// Says what a component imports of each interface. The answer is JSON.
+pub(crate) fn component_imports(
+    message: &[u8],
+    modules: &[u8],
+    room: usize,
+) -> Result<Answered, Error> {
+    answer_to(nuigatre_component_imports, message, modules, room)
+}
+
+/// The paths to what a key asks about of a component. The answer is JSON.
+pub(crate) fn component_paths(
+    message: &[u8],
+    modules: &[u8],
+    key: &str,
+    room: usize,
+) -> Result<Answered, Error> {
+    let (seed0, seed1) = seed();
+    answered(room, |out| {
+        // SAFETY: as above.
+        unsafe {
+            nuigatre_component_paths(
+                seed0,
+                seed1,
+                message.as_ptr(),
+                message.len(),
+                modules.as_ptr(),
+                modules.len(),
+                key.as_ptr(),
+                key.len(),
+                start(out),
+                out.len(),
+            )
+        }
+    })
 }
 
 /// The answer of one of these calls to a message.

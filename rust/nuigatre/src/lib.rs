@@ -6,7 +6,8 @@
 //! and why it imports them is answered by [`paths`](fn@paths). The shim that a component needs is listed too
 //! ([`ComponentWorld::table`]). The names are those of the Rust crate `wit-component`, and so is what they do. An error says
 //! what it is about ([`Error::place`]), which is its source.
-//! A component is asked why it imports what it does by [`ComponentWorld::ways`].
+//! A component is asked why it imports what it does by [`ComponentWorld::ways`] and [`ComponentEncoder::paths_to_json`], and what
+//! has to go for it not to by [`ComponentEncoder::imported_parts`].
 //!
 //! The work is done by `libnuigatre.a`, whose functions are proved: each ends on all bytes, and answers what its
 //! contract says. This crate is the way there, and is tested: a heap, the calls, and the reading of their answers. It
@@ -42,6 +43,7 @@
 mod binary;
 mod built_ins;
 mod compact;
+mod component_paths;
 mod core_types;
 mod encoder;
 mod error;
@@ -96,6 +98,7 @@ pub fn is_proved() -> bool {
     ffi::is_proved()
 }
 
+pub use component_paths::{ImportedKind, ImportedPart, ImportingModule};
 pub use core_types::{
     ExportKind, FuncType, GlobalType, MemoryType, TableType, ValType, WasmSignature, WasmType,
 };

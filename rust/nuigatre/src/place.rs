@@ -100,6 +100,8 @@ pub enum Subject {
     },
     /// The worlds that there are, by their full names.
     Worlds(Vec<String>),
+    /// All that the world imports, as keys that may be asked about.
+    Imports(Vec<String>),
     /// The world at an index among those of the JSON.
     World(u32),
     /// An interface.
@@ -131,6 +133,8 @@ pub(crate) enum About {
     Key(String),
     /// Of a name of a world the name, and the worlds that there are.
     Worlds { name: String, worlds: Vec<String> },
+    /// Of a key that asks about no import of the world the key, and the imports that there are.
+    Imports { key: String, imports: Vec<String> },
     /// A byte of the message.
     Byte(usize),
     /// A path in the message.
@@ -175,6 +179,11 @@ impl About {
                 subject: Subject::Worlds(worlds),
                 types: None,
             }),
+            About::Imports { imports, .. } => Some(Place {
+                adapter: None,
+                subject: Subject::Imports(imports),
+                types: None,
+            }),
             _ => None,
         }
     }
@@ -188,6 +197,10 @@ impl Read for About {
             "worlds" => About::Worlds {
                 name: member(value, "name")?,
                 worlds: member(value, "worlds")?,
+            },
+            "imports" => About::Imports {
+                key: member(value, "key")?,
+                imports: member(value, "imports")?,
             },
             "json-byte" => About::Byte(member(value, "byte")?),
             "json-path" => About::Path(member(value, "path")?),
@@ -362,6 +375,11 @@ impl Display for Subject {
             Subject::Worlds(names) => {
                 f.write_str("worlds")?;
                 names.iter().try_for_each(|name| write!(f, " {name:?}"))
+            }
+            Subject::Imports(texts) if texts.is_empty() => f.write_str("the world imports nothing"),
+            Subject::Imports(texts) => {
+                f.write_str("imports")?;
+                texts.iter().try_for_each(|text| write!(f, " {text:?}"))
             }
             Subject::World(index) => write!(f, "world {index}"),
             Subject::Interface(id) => write!(f, "{id}"),

@@ -50,7 +50,8 @@ impl<F> Refused<F> {
     /// - of [`Plan`](crate::WorldFault::Plan) the function, and the module that imports it;
     /// - of [`Resolve`](crate::WorldFault::Resolve) a world, an interface, a type or a package;
     /// - of [`UnknownWorld`](crate::WorldFault::UnknownWorld) and [`SeveralWorlds`](crate::WorldFault::SeveralWorlds) the
-    ///   worlds that there are.
+    ///   worlds that there are;
+    /// - of [`UnknownImport`](crate::WorldFault::UnknownImport) what the world imports.
     ///
     /// Of the validation of one module as of [`Main`](crate::WorldFault::Main), without the name of an adapter.
     #[must_use]

@@ -62,6 +62,12 @@ pub enum WorldFault {
     PageSize,
     /// Of a plan alone: a function needs what is not there.
     Plan(PlanFault),
+    /// Of paths alone ([`paths_to_json`](crate::ComponentEncoder::paths_to_json)): the world imports nothing that this key asks
+    /// about. The place of the error has what it imports.
+    UnknownImport(String),
+    /// Of paths and of what is imported alone: an adapter can't be searched. None that could be trimmed is known to have such a
+    /// fault.
+    Ways(GcFault),
 }
 
 /// A mistake in JSON.
@@ -365,6 +371,8 @@ impl WorldFault {
             ((13, 0), Some(About::Key(key))) => WorldFault::UnknownKey(string(key)?),
             ((14, 0), Some(About::Key(key))) => WorldFault::SeveralKeys(string(key)?),
             ((15, 0), Some(About::Key(key))) => WorldFault::RepeatedKey(string(key)?),
+            ((16, 0), Some(About::Imports { key, .. })) => WorldFault::UnknownImport(string(key)?),
+            ((17, carried), _) => WorldFault::Ways(GcFault::from_number(carried, None)?),
             _ => return Err(Unread::Unknown),
         })
     }
@@ -420,6 +428,8 @@ impl Display for WorldFault {
             }
             WorldFault::PageSize => f.write_str("World: PageSize"),
             WorldFault::Plan(fault) => write!(f, "Plan: {fault}"),
+            WorldFault::UnknownImport(key) => write!(f, "UnknownImport {}", Backquoted(key)),
+            WorldFault::Ways(fault) => write!(f, "Ways: {fault}"),
         }
     }
 }

@@ -224,12 +224,15 @@ fn printed(row: &Row) -> Paths {
         .filter_map(|it| it.strip_prefix("printed "));
     for line in lines {
         match paths.last_mut() {
-            Some(path) if line.starts_with("  ") => path.push(line.to_owned()),
+            // a mark is no part of a path
+            Some(path) if line.starts_with("  ") || line.starts_with("* ") => {
+                path.push(format!("  {}", &line[2..]));
+            }
             _ => paths.push(vec![line.to_owned()]),
         }
     }
-    // an interface that is imported for its types alone has no path
-    paths.retain(|path| path.len() > 1);
+    // what isn't imported has no path, and the one to what needs the types of an interface is the program's alone
+    paths.retain(|path| path.len() > 1 && !path[0].ends_with(": for its types"));
     let begins =
         |line: &String| line.starts_with("  main imports ") || line.starts_with("  adapter ");
     for path in &mut paths {

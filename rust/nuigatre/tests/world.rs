@@ -2,9 +2,9 @@
 
 use nuigatre::{
     AbiVariant, Adapter, AdapterModuleDidNotExport, ComponentEncoder, ComponentWorld, DedupeFault,
-    Error, Export, ExportMap, FuncType, Import, ImportInstance, ImportOptions, InterfaceId,
-    JsonFault, Lowering, MainOrAdapter, ModuleImportMap, OrderedMap, Plan, PlanFault, Problem,
-    ReadFault, RequiredOptions, ResolveFault, ValidateFault, World, WorldFault, WorldKey,
+    Error, Export, ExportMap, FuncType, Import, ImportInstance, ImportOptions, ImportedKind,
+    InterfaceId, JsonFault, Lowering, MainOrAdapter, ModuleImportMap, OrderedMap, Plan, PlanFault,
+    Problem, ReadFault, RequiredOptions, ResolveFault, ValidateFault, World, WorldFault, WorldKey,
     validate_adapter_module, validate_module,
 };
 use std::collections::HashSet;
@@ -45,6 +45,49 @@ fn fault_of(encoder: &ComponentEncoder<'_>) -> (WorldFault, String) {
             (fault, error.to_string())
         }
         answer => panic!("no fault of a world: {answer:?}"),
+    }
+}
+
+/// The paths to what the component imports, and what it imports of each interface.
+#[test]
+fn paths_and_imported_parts() {
+    let encoder = encoder();
+    let paths = encoder.paths_to_json("all").expect("paths");
+    assert!(paths.contains("my:demo/host") && paths.contains("hello [v2]"));
+    // of a key each item says whether all paths go through it, and none does here
+    let of_key = encoder.paths_to_json("my:demo").expect("paths");
+    assert!(of_key.contains(",\"only\":false"));
+    assert_eq!(of_key.replace(",\"only\":false", ""), paths);
+    let parts = encoder.imported_parts().expect("imports");
+    let [part] = &parts[..] else {
+        panic!("{parts:?}")
+    };
+    assert_eq!(
+        (&*part.interface, part.kind),
+        ("my:demo/host", ImportedKind::Main)
+    );
+    let [importing] = &part.modules[..] else {
+        panic!("{parts:?}")
+    };
+    assert_eq!(
+        (&importing.module, importing.imports),
+        (&MainOrAdapter::Main, 2)
+    );
+    assert!(importing.by.is_empty() && importing.exports.is_empty());
+}
+
+/// A key that asks about no import, with the imports that there are.
+#[test]
+fn paths_to_an_unknown_import() {
+    match encoder().paths_to_json("my:demo/hosts") {
+        Err(Error::World(error)) => {
+            let wanted = WorldFault::UnknownImport("my:demo/hosts".to_owned());
+            assert_eq!(error.fault(), &wanted);
+            assert_eq!(error.to_string(), "UnknownImport `my:demo/hosts`");
+            let place = error.place().expect("the imports");
+            assert_eq!(place.to_string(), "imports \"my:demo/host\"");
+        }
+        answer => panic!("no fault of a key: {answer:?}"),
     }
 }
 
