@@ -142,6 +142,14 @@ fn show_all(encoder: &ComponentEncoder<'_>, json: &str) -> Result<(), Error> {
     );
     show("Plan::new", [|| Plan::new(encoder)]);
     show(
+        "ComponentEncoder::paths_to_json",
+        [|| encoder.paths_to_json("all")],
+    );
+    show(
+        "ComponentEncoder::imported_parts",
+        [|| encoder.imported_parts()],
+    );
+    show(
         "validate_module",
         [|| validate_module(encoder, encoder.module, None)],
     );
