@@ -306,7 +306,7 @@ def judged(crate, function, lines, with_lemmas=False):
         goals += re.findall(r"`([^`.:]+)`", verdict.split("did not prove")[1]) if "did not prove" in verdict else []
         if "could not tell" in verdict:
             notes.append(verdict[:200])
-        elif not goals and not stands and "it calls" not in verdict:
+        elif not goals and not stands and ("it calls" not in verdict or any(folder in it and ": error" in it for it in lines)):
             goals = [""]
         for goal in goals:
             short = goal.split(".")[-1]
