@@ -34,7 +34,7 @@ use Rattle.wc_tree.specs.declared.tree.TreeRoot.{TreeRoot}
 use Rattle.wc_tree.specs.declared.tree.TreeRoot.TheVariants.{Unfollowed as tree_unfollowed}
 use Rattle.wc_tree.proofs.ModuleTreeLemmas.{way_read}
 use Rattle.wc_component_tree.specs.Found.{FoundView, FoundWayView}
-use Rattle.wc_component_tree.specs.FoundTree.{AreEndsReady, AreEvenIn, AreItemEnds, ArePlaces, AreWantedPut, IsEndFrom, IsEndIn, IsEndPut, IsEndReady, IsGrownTo, IsItemEnd, IsItemEndIn, IsModuleFrom, IsModuleIn, IsModulePut, IsPlaceOf, IsPlacePut, IsRootFrom, IsSourceOf, IsTreeIn, IsUnfollowedPut, IsWayAt, IsWayPut, Places, is_wanted_import, way_to, ways_to, why_of}
+use Rattle.wc_component_tree.specs.FoundTree.{AreEvenIn, AreItemEnds, ArePlaces, AreWantedPut, IsEndFrom, IsEndIn, IsEndPut, IsEndReady, IsGrownTo, IsItemEnd, IsItemEndIn, IsModuleFrom, IsModuleIn, IsModulePut, IsPlaceOf, IsPlacePut, IsRootFrom, IsSourceOf, IsTreeIn, IsUnfollowedPut, IsWayAt, IsWayPut, Places, is_wanted_import, way_to, ways_to, why_of}
 use Rattle.wc_component_tree.specs.Keys.{Key, is_key}
 use Rattle.wc_component_tree.specs.Said.{Says}
 use Rattle.wc_component_tree.specs.WaysTree.{AreStepsFrom, HasRoot, IsMainRead}
@@ -46,6 +46,11 @@ use Rattle.wc_component_tree.specs.declared.main_tree.MainSource.{MainSource}
 use Rattle.wc_component_tree.specs.declared.main_tree.MainTree.{MainTree}
 use Rattle.wc_component_tree.proofs.ListLemmas.{flat_same}
 use Rattle.wc_component_tree.proofs.WaysTreeLemmas.{steps_moved}
+
+-- where the path to each item ends is known, or will be read at an item to which no path is known
+abbrev pub AreEndsReady : MainSource → TreeModuleView → List PathItem → PathTree → Type 0
+AreEndsReady p m items t =
+    (n : ℕ) (x : PathItem) (end : Option ℕ) → slice_get items n ≡ Some x → slice_get t.ends.items n ≡ Some end → IsEndReady p m x end
 
 -- ---- a module that grows
 module _ (old new : TreeModuleView) (g : IsGrownTo old new) where

@@ -152,10 +152,6 @@ abbrev pub IsEndReady : MainSource → TreeModuleView → PathItem → Option �
 IsEndReady p m x (Some k) = IsItemEnd p m x k
 IsEndReady p m x None = (grown : TreeModuleView) (k : ℕ) → IsMainRead grown k (unfollowed_step (why_of p.following) ∷ []) → IsItemEnd p grown x k
 
-abbrev pub AreEndsReady : MainSource → TreeModuleView → List PathItem → PathTree → Type 0
-AreEndsReady p m items t =
-    (n : ℕ) (x : PathItem) (end : Option ℕ) → slice_get items n ≡ Some x → slice_get t.ends.items n ≡ Some end → IsEndReady p m x end
-
 -- ---- the adapters
 
 -- an export at which paths begin, with the main module's import of it

@@ -22,12 +22,18 @@ use Rattle.wc_why.proofs.TokenLemmas.{ways_tokens}
 use Rattle.wc_import_paths.specs.JsonPaths.{IsPathsText, IsWayAt}
 use Rattle.wc_import_paths.specs.Patterns.{PatternView, is_shown}
 use Rattle.wc_import_paths.specs.Followed.{AreMarksIn, AreNamesIn, IsJsonIn, IsPathIn, IsSource, followed_view}
-use Rattle.wc_import_paths.specs.Private.Followed.{IsPathWritten, IsWrittenAt}
+use Rattle.wc_import_paths.specs.Private.Followed.{IsPathWritten}
 use Rattle.wc_import_paths.specs.declared.followed.Followed.{Followed}
 use Rattle.wc_import_paths.proofs.WayLemmas.{way_found, way_hidden, way_missing}
 
 abbrev pub tokens_all : Marking → List PathView → List Token
 tokens_all marks paths = flat_map (λ p. json_tokens (marked_json marks p)) paths
+
+-- the paths to the import at a position were written
+abbrev pub IsWrittenAt : Followed → Marking → List PatternView → ℕ → Written → Written → Type 0
+IsWrittenAt f marks patterns position old new =
+    (paths : List PathView) × ((names : List GlobalNameValue) → AreNamesIn f names → IsWayAt (followed_view f names) patterns position paths)
+    × (new.before ≡ old.before) × (new.tokens ≡ old.tokens ++ flat_map (λ p. json_tokens (marked_json marks p)) paths)
 
 module _ (f : Followed) (marks : Marking) (patterns : List PatternView) where
   -- the paths to imports below n were written

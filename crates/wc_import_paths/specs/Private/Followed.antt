@@ -29,11 +29,10 @@ use Rattle.wc_paths.specs.declared.paths.Path.{Path}
 use Rattle.wc_paths.specs.declared.paths.PathFault.TheVariants.{LiveBody as live_body}
 use Rattle.wc_why.specs.MarkedPaths.{Marking, marked_json}
 use Rattle.wc_why.specs.Paths.{PathView}
-use Rattle.wc_import_paths.specs.Followed.{AreNamesIn, IsPathIn, followed_view}
+use Rattle.wc_import_paths.specs.Followed.{AreNamesIn, IsPathIn}
 use Rattle.wc_import_paths.specs.FunctionNames.{AreNamesOn}
 use Rattle.wc_import_paths.specs.Following.{body_place, section_id}
-use Rattle.wc_import_paths.specs.JsonPaths.{IsWayAt, import_path}
-use Rattle.wc_import_paths.specs.Patterns.{PatternView}
+use Rattle.wc_import_paths.specs.JsonPaths.{import_path}
 use Rattle.wc_import_paths.specs.declared.followed.Followed.{Followed}
 
 -- refusals of each step
@@ -59,12 +58,6 @@ abbrev pub IsPathsRefusal : GraphValue → List PathItem → List PathItem → G
 IsPathsRefusal g first second Memory place = ⊤
 IsPathsRefusal g first second LiveBody place = (n : ℕ) × IsPathFault g first second (live_body n) × (place ≡ body_place n)
 IsPathsRefusal g first second f place = ⊥
-
--- the paths to the import at a position were written
-abbrev pub IsWrittenAt : Followed → Marking → List PatternView → ℕ → Written → Written → Type 0
-IsWrittenAt f marks patterns position old new =
-    (paths : List PathView) × ((names : List GlobalNameValue) → AreNamesIn f names → IsWayAt (followed_view f names) patterns position paths)
-    × (new.before ≡ old.before) × (new.tokens ≡ old.tokens ++ flat_map (λ p. json_tokens (marked_json marks p)) paths)
 
 -- the path to the import at a position, where one leads there, was written
 abbrev pub IsPathWritten : Followed → Marking → ℕ → Written → Written → Type 0

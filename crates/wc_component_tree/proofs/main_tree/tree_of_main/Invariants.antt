@@ -1,6 +1,7 @@
 use Rattle.std.proofs.Common.{◌≡◌, None, take}
 use Rattle.wc_tree.specs.Tree.{tree_module_view}
-use Rattle.wc_component_tree.specs.FoundTree.{AreEndsReady, AreItemEnds}
+use Rattle.wc_component_tree.specs.FoundTree.{AreItemEnds}
+use Rattle.wc_component_tree.proofs.MainTreeLemmas.{AreEndsReady}
 use Rattle.wc_component_tree.proofs.main_tree.tree_of_main.Given as goal
 
 abbrev pub invariant-loop-position : goal.invariant-loop-position
