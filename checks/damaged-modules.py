@@ -1,10 +1,10 @@
 #!/usr/bin/env python3
-"""Damages modules byte by byte, and compares where `explain_read` of the program of rows says that their bytes stop to be a
-module with what a reader of this script's own finds.
+"""Damages modules byte by byte, and compares where the call `scan` of the library says that their bytes stop to be a module
+with what a reader of this script's own finds.
 
-    damaged-modules.py [--program PROGRAM] [--cases N] [--first N] [--values N] [MODULE ..]
+    damaged-modules.py [--library FILE] [--cases N] [--first N] [--values N] [MODULE ..]
 
-PROGRAM is crates/wc_tests/out/wc_tests unless another is named. The modules are those of examples/, the adapters of
+The library is that of tests/rows.py, or the shared one in FILE. The modules are those of examples/, the adapters of
 adapter_shapes.py, and WHOLE, which has a section of each kind and a type of each; or the files that are named. At each byte
 of a module it is cut there, the byte is taken out, a zero is put in before it, and it is replaced by N values, spread over
 all 256 of them (17 unless given; WHOLE has all of them). Cases are all of these, or the N from number N on.
@@ -22,15 +22,20 @@ faults. The status is 1 where something is otherwise.
 """
 import argparse
 import collections
+import itertools
+import os
 import pathlib
-import subprocess
 import sys
-
-from adapter_shapes import SHAPES
-from module_bytes import HEADER, name, number, section, vector
+import tempfile
 
 TOP = pathlib.Path(__file__).resolve().parent.parent
-PROGRAM = TOP / "crates" / "wc_tests" / "out" / "wc_tests"
+sys.path.append(str(TOP / "tests"))
+import calls
+import library
+from adapter_shapes import SHAPES
+from module_bytes import HEADER, name, number, section, vector
+from row_format import LeftOut
+
 KEPT = TOP / "checks" / "data" / "damaged-modules"
 NAMES = "custom type import function table memory global export start element code data".split() + ["data count"]
 ORDER = {1: 1, 2: 2, 3: 3, 4: 4, 5: 5, 6: 6, 7: 7, 8: 8, 9: 9, 12: 10, 10: 11, 11: 12}
@@ -38,7 +43,7 @@ VALUES = {0x7F: "i32", 0x7E: "i64", 0x7D: "f32", 0x7C: "f64", 0x7B: "v128", 0x70
 ARITHMETIC = {**dict.fromkeys(range(0x6A, 0x6D), "i32"), **dict.fromkeys(range(0x7C, 0x7F), "i64")}
 # What may follow the first bytes of a character.
 REST = b"", b"\x80", b"\xa0", b"\x80\x80", b"\xa0\x80", b"\x80\x80\x80", b"\x90\x80\x80"
-BATCH, MOST_PRINTED = 5000, 20
+MOST_PRINTED = 20
 
 # Types of all kinds; imports of each; functions, a table, memories with each flag, globals with each constant; exports,
 # a start function, elements, a count of data, bodies, data, and custom sections among them.
@@ -366,15 +371,21 @@ def check_indices(data, sections, found):
         (4, indices(found[4])),
         (6, indices([it[0][0] for it in found[6]])),
     ]
-    for kind, its in named:
-        if any(it >= len(found[1]) for it in its):
-            raise Stop("BadIndex", starts[kind], kind)
-    if any(index >= counts[kind] for _, kind, index in found[7]):
-        raise Stop("BadIndex", starts[7], 7)
+    # the nulls of initialisers name types too; that alone is a fault of the initialiser, which is looked for last
+    nulls = [it[1] for _, left in found[6] for it in left if not isinstance(it, str) and it[0] == "null" and not isinstance(it[1], str)]
+
+    def is_outside(its):
+        return any(it >= len(found[1]) for it in its)
+
+    if any(is_outside(its) for _, its in named) or any(index >= counts[kind] for _, kind, index in found[7]):
+        kind = next((kind for kind, its in [*named[:4], (6, named[4][1] + nulls)] if is_outside(its)), 7)
+        raise Stop("BadIndex", starts[kind], kind)
     if len({it[0] for it in found[7]}) < len(found[7]):
         raise Stop("DuplicateExport", starts[7], 7)
     for at, ((wanted, _), left) in enumerate(found[6]):
         if len(left) != 1 or not is_of_type(left[0], wanted, found[1], counts[0], globals_[:len(imports[3]) + at]):
+            if is_outside(nulls):
+                raise Stop("BadIndex", starts[6], 6)
             raise Undecided
     functions = imports[0] + found[3]
     for index in found[8]:
@@ -452,37 +463,35 @@ def cases_of(words):
         yield from damaged(data, values)
 
 
-def answered(program, batch):
-    """What the program says of each of these modules."""
-    inputs = [f"in {data.hex()}\n" if data else "" for data in batch]
-    text = "".join(f"row {at}\ncall explain_read\n{line}\n" for at, line in enumerate(inputs))
-    ran = subprocess.run([program, "-"], input=text, capture_output=True, text=True, check=False)
-    found = [[] for _ in batch]
-    lines = None
-    for line in ran.stdout.splitlines():
-        word, _, rest = line.partition(" ")
-        if word == "row" and rest.isdigit() and int(rest) < len(batch):
-            lines = found[int(rest)]
-        elif word == "out" and lines is not None:
-            lines.append(rest)
-    return found
+def asked(words, folder):
+    """The library: the one that is named, or else that of tests/rows.py, linked in a folder."""
+    if words.library:
+        return library.Library(words.library, "given")
+    try:
+        return library.library(pathlib.Path(folder))
+    except LeftOut as why:
+        sys.exit("%s; --library names one" % why)
+
+
+def answered(found, data):
+    """What the library says of a module."""
+    return calls.explained(found, "scan", found.ask("scan", data, room=4096 + 64 * len(data)))
 
 
 def main():
     parser = argparse.ArgumentParser(description=__doc__, formatter_class=argparse.RawDescriptionHelpFormatter)
-    parser.add_argument("--program", type=pathlib.Path, default=PROGRAM)
+    parser.add_argument("--library", metavar="FILE", type=os.path.abspath)
     parser.add_argument("--cases", type=int)
     parser.add_argument("--first", type=int, default=0)
     parser.add_argument("--values", type=int, default=17)
     parser.add_argument("modules", nargs="*", metavar="MODULE", type=pathlib.Path)
     words = parser.parse_args()
-    if not words.program.is_file():
-        sys.exit(f"{words.program} is not there: `rt run` in crates/wc_tests builds it, or --program names another")
-    counts, apart, wrong, batch = collections.Counter(), collections.Counter(), 0, []
-
-    def compare():
-        nonlocal wrong
-        for (at, data), lines in zip(batch, answered(words.program, [it for _, it in batch])):
+    counts, apart, wrong = collections.Counter(), collections.Counter(), 0
+    last = None if words.cases is None else words.first + words.cases
+    with tempfile.TemporaryDirectory(prefix="nuigatre.") as folder:
+        found = asked(words, folder)
+        for at, data in itertools.islice(enumerate(cases_of(words)), words.first, last):
+            lines = answered(found, data)
             try:
                 wanted, stop = answer(data)
             except Undecided:
@@ -494,20 +503,9 @@ def main():
             if lines != wanted:
                 wrong += 1
                 if wrong <= MOST_PRINTED:
-                    print(f"case {at}: wanted {'; '.join(wanted)}; answered {'; '.join(lines) or 'nothing'}", flush=True)
+                    print(f"case {at}: wanted {'; '.join(wanted)}; answered {'; '.join(lines)}", flush=True)
                     KEPT.mkdir(parents=True, exist_ok=True)
                     (KEPT / f"{at}.wasm").write_bytes(data)
-        batch.clear()
-
-    last = None if words.cases is None else words.first + words.cases
-    for at, data in enumerate(cases_of(words)):
-        if last is not None and at >= last:
-            break
-        if at >= words.first:
-            batch.append((at, data))
-        if len(batch) == BATCH:
-            compare()
-    compare()
     for kind in sorted(counts):
         print("%8d %s" % (counts[kind], kind))
     for kind in sorted(apart):

@@ -1,7 +1,8 @@
 #!/usr/bin/env python3
-"""Runs each row of tests with the first, second, .. allocation of the program of rows failing, until none fails.
+"""Runs each row of the program of rows with its first, second, .. allocation failing, until none fails. Those of tests/rows are run
+so by `tests/rows.py --growths`.
 
-    failing-allocations.py [--program PROGRAM] [--most N] [--jobs N] [--table] [--who] [FILE.rows[:ROW] ..]
+    failing-allocations.py [--program PROGRAM] [--most N] [--spread N] [--jobs N] [--table] [--who] [FILE.rows[:ROW] ..]
 
 The files are those of crates/wc_tests/data; all of them where none is named, all rows of a file where no row is. PROGRAM is
 crates/wc_tests/out/wc_tests unless another is named: `rt run` in crates/wc_tests builds it, once it is proved. Each row is
@@ -9,8 +10,8 @@ written into a file of its own, with the fixtures that it uses. The allocations 
 before the C library, so a C compiler, cc, has to be there: it starts the program over by `fork`, one process for each
 allocation. `--jobs` rows are run at once.
 
-Of a row with more than N allocations, 30,000 unless another number is given, 1,000 are failed, evenly spread, and it has a
-line of its own; of all other rows each is failed.
+Of a row with more allocations than --most says, 30,000 unless another number is given, as many as --spread says are failed, evenly
+spread, 1,000 or another number, and it has a line of its own; of all other rows each is failed.
 
 A run is one of these:
 
@@ -40,23 +41,17 @@ import tempfile
 TOP = pathlib.Path(__file__).resolve().parent.parent
 CRATE = TOP / "crates" / "wc_tests"
 SECONDS = 60
-# How many allocations of a large row are failed.
-SPREAD = 1000
 KINDS = ("memory", "rows", "program", "wrong")
 
 # Calls with one answer, which is all there or not at all.
 WHOLE = {
     "frames", "read_imports", "read_module", "read_body", "read_init", "write_import_section", "append_import_section",
     "rewrite_import_section", "write_body", "write_module", "raw_section", "append_raw_section", "dedupe",
-    "dedupe_owned", "read_deduped", "dedupe_imports", "run_program", "liveness_counted", "trim", "trim_for",
+    "dedupe_owned", "read_deduped", "dedupe_imports", "liveness_counted", "trim", "trim_for",
     "realloc_via_memory_grow", "allocate_stack_via_realloc", "component_world", "plan", "validate_module",
-    "validate_adapter_module", "resolve_build", "encoder_build", "live_types", "document", "wcplan", "wcplan_mute",
+    "validate_adapter_module", "resolve_build", "encoder_build", "live_types", "document",
 }
 
-# Calls that run wcplan or wcwhy. Where memory runs out in the store of files, which is the row's, a directory can't be made, or
-# a file can't be read or written.
-PROGRAMS = {"wcplan", "wcplan_failing", "wcplan_mute", "wcwhy", "wcwhy_failing", "run_program"}
-STORE = ("error wcplan: cannot make directory ", "error wcplan: cannot write ", "error wcwhy: cannot read ", "printed wctrim: cannot write ")
 # How a line ends that says that memory ran out, also where it is JSON, with the module of an adapter or without.
 ENDED = re.compile(r'out of memory(","place":(null|\{[^{}]*\})\})?$')
 
@@ -123,14 +118,13 @@ class Run:
         self.ended = "status %d" % os.WEXITSTATUS(status) if os.WIFEXITED(status) else "signal %d" % os.WTERMSIG(status)
 
 
-def runs_of(program, library, row, most):
-    """All runs of a row; the first without a failure."""
-    with tempfile.TemporaryDirectory() as folder:
-        report = pathlib.Path(folder) / "report"
-        (pathlib.Path(folder) / "alone.rows").write_text(row.text)
-        variables = {"LD_PRELOAD": str(library), "REPORT_FILE": str(report), "MOST": str(most), "SPREAD": str(SPREAD)}
-        subprocess.run([program, "alone.rows"], cwd=folder, env=variables, stdin=subprocess.DEVNULL, check=True)
-        data = report.read_bytes()
+def runs_of(command, library, folder, limits, stdin=subprocess.DEVNULL):
+    """All runs of a command in a folder; the first without a failure. Where there are more allocations than the first of the limits,
+    as many as the second fail."""
+    with tempfile.NamedTemporaryFile() as report:
+        variables = {"LD_PRELOAD": str(library), "REPORT_FILE": report.name, "MOST": str(limits[0]), "SPREAD": str(limits[1])}
+        subprocess.run(command, cwd=folder, env=variables, stdin=stdin, check=True)
+        data = report.read()
     place = 0
     while place < len(data):
         end = data.index(b"\n", place)
@@ -162,13 +156,6 @@ def is_memory(row, lines):
         return False
     if len(expected) + len(actual) != len(lines) - 2 or not actual:
         return False
-    # what wctrim prints before it writes is what it prints as ever
-    stored = next((place for place, line in enumerate(actual) if line.startswith(STORE)), None)
-    if row.call in PROGRAMS and stored is not None and actual[:stored] == expected[:stored]:
-        return True
-    # standard error takes nothing, so the line cannot be seen
-    if row.call == "wcplan_mute" and actual == ["status 1"]:
-        return True
     for place, line in enumerate(actual):
         if ENDED.search(line):
             return actual[:place] == expected[:place] and (place == 0 or row.call not in WHOLE)
@@ -194,10 +181,16 @@ class Count:
             self.seen[kind] += other.seen[kind]
 
 
-def sweep(program, library, row, most):
-    """All runs of a row."""
-    runs = runs_of(program, library, row, most)
-    first = next(runs)
+def sweep(program, library, row, limits):
+    """All runs of a row, which is written into a file of its own."""
+    with tempfile.TemporaryDirectory() as folder:
+        pathlib.Path(folder, "alone.rows").write_text(row.text)
+        return count_of(row, list(runs_of([program, "alone.rows"], library, folder, limits)))
+
+
+def count_of(row, runs):
+    """What the runs of a row show."""
+    first, *runs = runs
     found = Count(first.made)
     if first.ended != "status 0":
         found.lines.append("  %s: %s with no failure" % (row.name, first.ended))
@@ -234,7 +227,7 @@ class Symbols:
         outermost; or that there is none."""
         names = [self.name(address) for address in callers]
         inside = [place for place, name in enumerate(names)
-                  if re.match(r"_*(wc_(?!lines|tests|fixtures|\w*rows)|wctrim_command|wcplan_command|wcwhy_command)\w*", name.lstrip("<&"))]
+                  if re.match(r"_*(wc_(?!lines|tests|fixtures|\w*rows)|wctrim_command|wcplan|wcwhy)\w*", name.lstrip("<&"))]
         if not inside:
             return "outside of the libraries"
         place = inside[0] if is_innermost else inside[-1]
@@ -270,6 +263,7 @@ def main():
     asked = argparse.ArgumentParser(description=__doc__, formatter_class=argparse.RawDescriptionHelpFormatter)
     asked.add_argument("--program", type=os.path.abspath, default=str(CRATE / "out" / "wc_tests"))
     asked.add_argument("--most", type=int, default=30000)
+    asked.add_argument("--spread", type=int, default=1000)
     asked.add_argument("--jobs", type=int, default=1)
     asked.add_argument("--table", action="store_true")
     asked.add_argument("--who", action="store_true")
@@ -282,7 +276,7 @@ def main():
         print("| Rows | Allocations | Memory | Rows | Program | Wrong |\n|---|---|---|---|---|---|")
     with tempfile.TemporaryDirectory() as folder, concurrent.futures.ProcessPoolExecutor(asked.jobs) as pool:
         library = build(pathlib.Path(folder))
-        waiting = [(name, [(row, pool.submit(sweep, asked.program, library, row, asked.most)) for row in rows])
+        waiting = [(name, [(row, pool.submit(sweep, asked.program, library, row, (asked.most, asked.spread))) for row in rows])
                    for name, rows in chosen(asked.files)]
         for name, results in waiting:
             inside, large = Count(), []

@@ -21,7 +21,7 @@ import sys
 
 sys.path.append(str(pathlib.Path(__file__).resolve().parent.parent / "tools"))
 from fault_texts import texts_of_faults
-from repository import TOP, files_of, libraries, put_between, row_files
+from repository import TOP, files_of, product_crates, put_between, row_files
 
 FILE = TOP / "checks" / "fault-rows.txt"
 HINTS = TOP / "checks" / "fault-hints.txt"
@@ -40,25 +40,25 @@ TABLES = [
 ANSWERED = {
     "ReadFault": "frames, read_imports, read_module, explain_read, read_body, read_init, example exports_memory, function_names_of",
     "DedupeFault": "dedupe, dedupe_owned, explain_dedupe, example original_name",
-    "ResolveFault": "resolve_build",
+    "ResolveFault": "resolve_build, resolve_build_with",
     "JsonFault": "document",
     "EncoderFault": "encoder_build, example encoder_for",
     "ValidateFault":
-        "classify, classify_export, validate_module, validate_adapter_module, validated_exports, example "
+        "classify, classify_export, validate_module, validate_adapter_module, validated_exports, asked_exports, example "
         "imported_memory",
     "GcFault":
         "explain_trim, liveness_counted, trim, trim_for, why, why_imports, call_chain, example "
         "reaches_memory, example trim_both",
     "WorldFault": "component_world, example can_use_slot_1, example summary",
-    "PlanFault": "plan, plan_explain, plan_failing, plan_without_lowerings, example printed_plan",
-    "CommandFault": "each_put_failing",
+    "PlanFault": "plan, plan_explain, planned_world, plan_failing, plan_without_lowerings, example printed_plan",
+    "ToolFault": "each_put_failing",
     "PutFailed": "writer_sink",
     "RunFault": "run_program",
     "Usage": "parse",
     "WhyFault": "wcwhy, wcwhy_failing",
     "ProgramFault": "wcplan, wcplan_failing",
     "NoCommand": "parse_wcplan",
-    "MessageFault": "plan_into, world_into, validate_into, record_into",
+    "MessageFault": "plan_into, world_into, validate_into, record_into, message_fault",
     "ComponentFault": "component_paths_into, component_imports_into",
 }
 # The enums of other faults that such calls answer too.
@@ -81,9 +81,9 @@ STATED = {
 # The calls that list the texts of all faults of an enum.
 LISTS = {
     "read_faults": "ReadFault", "write_faults": "WriteFault", "dedupe_faults": "DedupeFault", "gc_faults": "GcFault",
-    "command_faults": "CommandFault", "resolve_faults": "ResolveFault", "encoder_faults": "EncoderFault", "json_faults": "JsonFault",
+    "command_faults": "ToolFault", "resolve_faults": "ResolveFault", "encoder_faults": "EncoderFault", "json_faults": "JsonFault",
     "validate_faults": "ValidateFault", "world_faults": "WorldFault", "plan_faults": "PlanFault", "request_faults": "RequestFault",
-    "selection_faults": "SelectionFault", "message_faults": "MessageFault",
+    "selection_faults": "SelectionFault",
 }
 # The faults that no such call can make.
 UNLISTED = {("ValidateFault", "AdapterModuleDidNotExport")}
@@ -92,7 +92,6 @@ BARRED = listed({
     "a section, or a body, of 2^32 bytes": "WriteFault::TooLarge",
     "a section of 2^32 bytes": "DedupeFault::TooLarge GcFault::TooLarge",
     "of the arguments of a name the first counts": "ValidateFault::WholeDiffers ValidateFault::Mixed",
-    "a row is text": "MessageFault::NotText",
     "none but memory is known to come of an adapter that was trimmed": "ProgramFault::Ways ComponentFault::Ways",
 })
 FAILED = "where an allocation fails"
@@ -121,7 +120,7 @@ def faults():
     found = dict(STATED)
     for (enum, crate), variants in texts_of_faults().items():
         found[enum] = (crate, variants)
-    crates = libraries()
+    crates = product_crates()
     return dict(sorted(found.items(), key=lambda it: crates.index(it[1][0])))
 
 
@@ -153,7 +152,7 @@ def rows():
             if word in ("row", "fixture"):
                 if row and row[2]:
                     yield row
-                row = (path.name, rest, [], [])
+                row = (str(path.relative_to(TOP)), rest, [], [])
             elif row and word == "call":
                 row[2].extend(rest.split())
             elif row and word == "out":
@@ -172,7 +171,7 @@ def texts_in_buffer(lines):
 
 def texts(call, lines):
     """The texts of faults among a row's lines of answer."""
-    if CALLS[call] in ("MessageFault", "ComponentFault"):
+    if call.endswith("_into"):
         yield from texts_in_buffer(lines)
         return
     for line in lines:

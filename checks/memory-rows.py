@@ -5,11 +5,12 @@ function is called at all.
     memory-rows.py [--from FUNCTION]
 
 Such a function answers AllocError or a fault, and could be proved if it answered Memory always; a row with ample memory
-that calls it refuses that. Which functions the program of rows reaches is found in the sources: from its `main`, each
-function that the text of one names, then what these name. A name means the function of its file's crate, or of the crate that
-the file has it from; after a type's name a function of that type or trait; after a point any method of that name. So what is
-not reached is called by no row; that a row goes through a call which is in the text, it doesn't say. Besides, each call of
-rows has a row whose answer begins with no fault (FAULTS names the others). UNREACHED names what no row reaches, and why.
+that calls it refuses that. Which functions rows reach is found in the sources: from the `main` of the program of rows and of
+the programs, and from the calls of the library that tests/rows.py asks (`ask("why", ..)`), each function that the text of one
+names, then what these name. A name means the function of its file's crate, or of the crate that the file has it from; after a
+type's name a function of that type or trait; after a point any method of that name. So what is not reached is called by no
+row; that a row goes through a call which is in the text, it doesn't say. Besides, each call of rows has a row whose answer
+begins with no fault (FAULTS names the others). UNREACHED names what no row reaches, and why.
 
 Each public function of the libraries is also named by something: by the rows, by a program, or by a call from C; laws aside,
 which do nothing. And `args` of the program of rows has each file of rows, and its `stdout` how many rows are in each.
@@ -23,14 +24,17 @@ import re
 import sys
 
 sys.path.append(str(pathlib.Path(__file__).resolve().parent.parent / "tools"))
-from repository import exports_of_crate, files_of, functions_of, libraries, read, row_files, used_by_crates
+from repository import ROW_FOLDERS, TOP, exports_of_crate, files_of, functions_of, libraries, read, row_files, used_by_crates
 
-ROWS = "wc_tests"
+# The program of rows, the programs, and the library, which tests/rows.py asks.
+ROWS, PROGRAMS, LIBRARY = "wc_tests", ("wctrim", "wcwhy", "wcplan"), "nuigatre"
 # What no row reaches, and why.
-UNREACHED = {"wc_calls::planned_world": "tests of the Rust crate call it"}
+UNREACHED = {}
 # Calls of rows that have no answer but a fault, and why.
 FAULTS = {
     "no_such_call": "no call has this name",
+    "message_fault": "the fault is what it is for",
+    "resolve_build_with": "the fault is what it is for",
     "plan_without_lowerings": "the plan's fault is what it is for",
     "plan_failing": "the sink fails",
 }
@@ -179,10 +183,15 @@ def calls_without_answer():
     return [call for call, is_answered in answers.items() if not is_answered]
 
 
+def texts_of_scripts():
+    """The texts in quotes in the scripts that ask rows: those of calls of the library among them."""
+    return {text for path in (TOP / "tests").glob("*.py") for text in re.findall(r'"(\w+)"', path.read_text(encoding="utf-8"))}
+
+
 def wrong_counts():
     """What is wrong with the list of the files of rows, and with their counts."""
     listed, lines = read("crates/wc_tests/args").split(), read("crates/wc_tests/stdout").splitlines()
-    for path in row_files():
+    for path in row_files(ROW_FOLDERS[0]):
         count = len(re.findall(r"^row ", path.read_text(), re.M))
         if path.name not in listed:
             yield "crates/wc_tests/args lacks " + path.name
@@ -195,10 +204,12 @@ def main():
     parser.add_argument("--from", dest="of", metavar="FUNCTION")
     given = parser.parse_args()
     graph = Graph(list(CRATES))
-    found = graph.reached([it for it in graph.nodes if it.crate == ROWS and it.name == "main"])
+    asked = texts_of_scripts()
+    mains = [it for it in graph.nodes if it.crate in (ROWS, *PROGRAMS) and it.name == "main"]
+    found = graph.reached(mains + [it for it in graph.nodes if it.crate == LIBRARY and it.name.removeprefix(LIBRARY + "_") in asked])
     # what is called without its name: texts of faults, for one
     implied = [it for it in graph.nodes if it.trait and it.name in IMPLIED]
-    named = graph.reached([it for it in graph.nodes if it.name == "main" or it.crate == "nuigatre"] + implied)
+    named = graph.reached([it for it in graph.nodes if it.name == "main" or it.crate == LIBRARY] + implied)
     if given.of:
         for it in [it for it in found if str(it) == given.of]:
             while it:

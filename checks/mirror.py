@@ -27,7 +27,7 @@ REASONS = {
     "the first part that breaks a rule: `Refusals` has what is answered, `Explain` what a place says": "wc_resolve/validate/first",
     "the texts of numbers, types and imports are one definition over another, in `Text`": "wc_write/imports wc_write/numbers wc_write/types",
     "a part of what another source file defines or tests, beside the rest of it":
-        "wc_read/distinct wc_read/section_contents wc_write/inits wc_resolve/canonical_ids wc_resolve/flattening wc_resolve/functions wc_resolve/validate/order "
+        "wc_read/distinct wc_read/section_contents wc_read/stops wc_write/inits wc_resolve/canonical_ids wc_resolve/flattening wc_resolve/functions wc_resolve/validate/order "
         "wc_resolve/validate/type_test wc_resolve/walk wc_write/contents wc_write/module_sections wc_encoder/well_formed wc_names/payloads "
         "wc_names/standard wc_validate/exports/first_singles wc_validate/name_fault wc_validate/signatures wc_gc/assemble wc_gc/ranks "
         "wc_paths/counts wc_paths/graph wc_paths/names wc_world/import_map wc_plan/lowerings wc_ways/forms wc_ways/found_adapters "
@@ -35,14 +35,16 @@ REASONS = {
         "wc_ways/found_libraries wc_ways/found_main wc_ways/main_ways wc_ways/paths wc_ways/recorded wc_ways/typed_forms",
     "the tree of what was found, part by part, is in `TypedFound`, `TreeFrom` and `MainEnds`, its marks in `MarkedTree`": "wc_ways/main_tree wc_ways/tree wc_ways/tree_marks wc_ways/typed_ends",
     "what was found is in `Found`, items one after another in `FoundItems`, and the tree of it in `FoundTree`":
-        "wc_component_tree/found_adapters wc_component_tree/main_tree wc_component_tree/tree",
+        "wc_tree/found_adapters wc_tree/main_tree",
     "what all parts of imports answer, and the kinds of these, are in `Functions` and `Kinds`":
         "wc_validate/imports/environment wc_validate/imports/root wc_validate/imports/scheme",
-    "the stages of the program are in `Program`, in their order, what private functions answer in `Private/Runs`":
-        "wcplan_command/documents wcplan_command/explained wcplan_command/outputs",
-    "what arguments say, and so what they give, is in `Reading`": "wc_options/given wcplan_command/arguments",
+    "the stages of the program are in `Program` and `Inputs`, in their order, what private functions answer in `Private/Runs` and `Private/Causes`":
+        "wcplan_inputs/documents wcplan/outputs",
+    "what arguments say, and so what they give, is in `Reading`": "wc_options/given wcplan_inputs/arguments",
     "named after what it defines: the parts of an encoder, arguments, texts of faults, what was put, what is found, lists of renames":
         "wc_encoder/encoder nuigatre/lib wc_texts/fault_text wc_texts/pieces wc_dedupe/rename_list",
+    "the chains of a search's tree are in `ShortestChains`": "wc_graph/tree",
+    "the chains of an adapter's items are in `LiveChains`": "wc_gc/finders wc_gc/import_chains",
     "the path to an import is in `JsonPaths`, and of which module in `Followed`":
         "wc_import_paths/import_paths",
 }

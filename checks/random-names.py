@@ -2,13 +2,26 @@
 """Writes rows with random names, made of the naming schemes' own pieces, to standard output.
 
     checks/random-names.py [COUNT] [SEED] | ./wctests -
+    checks/random-names.py --classified [COUNT] [SEED]
 
-Each name is asked of both schemes: on its own, in a world and in an interface, and as the name of a module; and it is
-classified as an import, by name and by module. The same count and seed make the same rows. Nothing is expected of the answers but that each call returns.
+Each name is asked of both schemes: on its own, in a world and in an interface, and as the name of a module. With --classified
+the library is asked instead for modules that import it, by name and by module. The same count and seed make the same names.
+Nothing is expected of the answers but that each call returns.
 """
 import argparse
+import json
+import pathlib
 import random
 import sys
+import tempfile
+import types
+
+TOP = pathlib.Path(__file__).resolve().parent.parent
+sys.path.append(str(TOP / "tests"))
+import library
+from messages import CALLS
+from row_format import LeftOut, Row
+from worlds import encoder_of
 
 PIECES = [
     "[async-lower]", "[async-lift]", "[async-lift-stackful]", "[callback]", "[export]", "[cancellable]",
@@ -28,30 +41,30 @@ PIECES = [
 ]
 
 # Functions, a resource, and futures and streams, of a world and of an interface; versions of two kinds.
-WORLD = """fixture world
-in type t0 = stream u8
-in type t1 = future t0
-in type t2 r = resource
-in type t3 s in i0 = resource
-in type t4 = borrow t3
-in interface i0 host of p0
-in   type s t3
-in   func both: (a: t1) -> t0
-in   func [method]s.m: method t3 (self: t4)
-in interface i1
-in interface i2 c of p1
-in package p0 my:demo
-in   interface host i0
-in package p1 a:b@1.2.3
-in   interface c i2
-in world w0 foo
-in   import i0: interface i0
-in   import i2: interface i2
-in   import plain: interface i1
-in   import host: func (a: t1)
-in   import r: type t2
-in   export guest: func () -> t1
-in   export i2: interface i2
+WORLD = """\
+type t0 = stream u8
+type t1 = future t0
+type t2 r = resource
+type t3 s in i0 = resource
+type t4 = borrow t3
+interface i0 host of p0
+  type s t3
+  func both: (a: t1) -> t0
+  func [method]s.m: method t3 (self: t4)
+interface i1
+interface i2 c of p1
+package p0 my:demo
+  interface host i0
+package p1 a:b@1.2.3
+  interface c i2
+world w0 foo
+  import i0: interface i0
+  import i2: interface i2
+  import plain: interface i1
+  import host: func (a: t1)
+  import r: type t2
+  export guest: func () -> t1
+  export i2: interface i2
 """
 
 NAMES_IN_A_ROW = 1000
@@ -77,14 +90,13 @@ def random_name(source):
 
 
 def quoted(name):
-    """A name as a word of a row. A line can't hold a carriage return at its end, so none is made."""
-    name = name.replace("\r", "").replace("\\", "\\\\").replace('"', '\\"').replace("\n", "\\n")
-    return '"' + name + '"'
+    """A name as a word of a row, which is JSON. A line can't hold a carriage return at its end, so none is made."""
+    return json.dumps(name.replace("\r", ""), ensure_ascii=False)
 
 
 def row(number, call, scheme, lines, fixture=False):
     print("row %s %s %d" % (call, scheme, number))
-    print("call %s" % call if call == "classify" else "call %s %s" % (call, scheme))
+    print("call %s %s" % (call, scheme))
     if fixture:
         print("with world")
     for line in lines:
@@ -92,27 +104,52 @@ def row(number, call, scheme, lines, fixture=False):
     print()
 
 
+def put_rows(number, names):
+    """Writes the rows of these names."""
+    names = list(map(quoted, names))
+    for scheme in ("standard", "legacy hook"):
+        row(number, "names", scheme, names)
+        row(number, "function_names", scheme, names)
+        row(number, "env_import", scheme, [name + " i32 -> i64" for name in names])
+        for where in ("do imports ", "do exports ", "do imports of i0 under i0 "):
+            row(number, "payload_intrinsic", scheme, [where + name for name in names], True)
+            row(number, "payload_lookup", scheme, [where + name for name in names], True)
+        for where in ("do imports ", "do exports "):
+            row(number, "module_to_interface", scheme, [where + name for name in names], True)
+
+
+def classified(source, names, doors):
+    """How many imports of these names the library classifies, and how many it refuses."""
+    words = ['"%s"' % name.replace("\r", "").replace("\\", "\\\\").replace('"', '\\"').replace("\n", "\\n") for name in names]
+    asked = Row("of random names")
+    asked.input = WORLD.splitlines() + ["do %s %s i32 -> i32" % (source.choice(MODULES), word) for word in words]
+    asked.input += ["do %s f ->" % word for word in words]
+    lines = CALLS["classify"](asked, doors)
+    refused = sum(": fault " in line for line in lines)
+    return len(lines) - refused, refused
+
+
 def main():
     parser = argparse.ArgumentParser(description=__doc__, formatter_class=argparse.RawDescriptionHelpFormatter)
+    parser.add_argument("--classified", action="store_true")
     parser.add_argument("count", nargs="?", type=int, default=100_000, help="how many names: 100,000, if none is given")
     parser.add_argument("seed", nargs="?", type=int, default=1)
     arguments = parser.parse_args()
     count, source = arguments.count, random.Random(arguments.seed)
     sys.stdout.reconfigure(encoding="utf-8", newline="\n")
-    print(WORLD)
-    for number in range(0, count, NAMES_IN_A_ROW):
-        names = [quoted(random_name(source)) for _ in range(min(NAMES_IN_A_ROW, count - number))]
-        lines = ["do %s %s i32 -> i32" % (source.choice(MODULES), name) for name in names]
-        row(number, "classify", "in modules", lines + ["do %s f ->" % name for name in names], True)
-        for scheme in ("standard", "legacy hook"):
-            row(number, "names", scheme, names)
-            row(number, "function_names", scheme, names)
-            row(number, "env_import", scheme, [name + " i32 -> i64" for name in names])
-            for where in ("do imports ", "do exports ", "do imports of i0 under i0 "):
-                row(number, "payload_intrinsic", scheme, [where + name for name in names], True)
-                row(number, "payload_lookup", scheme, [where + name for name in names], True)
-            for where in ("do imports ", "do exports "):
-                row(number, "module_to_interface", scheme, [where + name for name in names], True)
+    batches = ((number, [random_name(source) for _ in range(min(NAMES_IN_A_ROW, count - number))]) for number in range(0, count, NAMES_IN_A_ROW))
+    if not arguments.classified:
+        print("fixture world\nin %s\n" % json.dumps(encoder_of(WORLD.splitlines()).resolve))
+        for number, names in batches:
+            put_rows(number, names)
+        return
+    with tempfile.TemporaryDirectory(prefix="nuigatre.") as folder:
+        try:
+            doors = types.SimpleNamespace(library=library.library(pathlib.Path(folder)))
+        except LeftOut as why:
+            sys.exit(str(why))
+        totals = [sum(it) for it in zip(*(classified(source, names, doors) for _, names in batches))]
+    print("%d imports are classified, %d refused" % tuple(totals))
 
 
 if __name__ == "__main__":

@@ -158,21 +158,21 @@ class Trim(Checked):
     def check_refused_by_system(self):
         """Files that can't be read or written, though they are there."""
         for command, more in (("dedupe", []), ("trim", ["f"])):
-            for path in ("folder: is a directory", "gone: not found", "/proc/self/mem"):
-                self.check_fault([command, path.partition(": ")[0], "out", *more], "wctrim: cannot read " + path)
-            for path in ("folder: is a directory", "function/out: not a directory", "/dev/full: no space left on device"):
-                self.check_fault([command, "function", path.partition(": ")[0], *more], "wctrim: cannot write " + path)
-        self.check_fault(["scan", "folder"], "wctrim: cannot read folder: is a directory")
-        self.check_fault(["scan", "gone"], "wctrim: cannot read gone: not found")
-        self.check(["dedupe", "three", "/dev/full"], 1, LINES + "wctrim: cannot write /dev/full: no space left on device\n")
+            for path in ("folder", "gone", "/proc/self/mem"):
+                self.check_fault([command, path, "out", *more], "wctrim: cannot read " + path)
+            for path in ("folder", "function/out", "/dev/full"):
+                self.check_fault([command, "function", path, *more], "wctrim: cannot write " + path)
+        self.check_fault(["scan", "folder"], "wctrim: cannot read folder")
+        self.check_fault(["scan", "gone"], "wctrim: cannot read gone")
+        self.check(["dedupe", "three", "/dev/full"], 1, LINES + "wctrim: cannot write /dev/full\n")
         self.folder.chmod(0o777)
         (self.folder / "locked").chmod(0)
         for words in (["dedupe", "locked", "out"], ["trim", "locked", "out", "f"], ["scan", "locked"]):
             found = (*self.run(words, **USER)[:2], self.out.exists())
-            if found != (1, "wctrim: cannot read locked: permission denied\n", False):
-                self.differs(words, found, "cannot read locked: permission denied")
+            if found != (1, "wctrim: cannot read locked\n", False):
+                self.differs(words, found, "cannot read locked")
         (self.folder / "locked").chmod(0o444)
-        words, wanted = ["dedupe", "three", "locked"], (1, LINES + "wctrim: cannot write locked: permission denied\n")
+        words, wanted = ["dedupe", "three", "locked"], (1, LINES + "wctrim: cannot write locked\n")
         with self.unchanged(words):
             found = self.run(words, **USER)[:2]
         if found != wanted:
@@ -202,21 +202,21 @@ class Trim(Checked):
         self.check(["dedupe", "component", "out"], 0, "", FILES["component"])
         self.check(["scan", "three"], 0, "import a f func\n" * 3)
         self.check(["trim", "function", "out", "f"], 0, "", FILES["function"])
-        self.check(["dedupe", "three", "none/out"], 1, LINES + "wctrim: cannot write none/out: not found\n")
+        self.check(["dedupe", "three", "none/out"], 1, LINES + "wctrim: cannot write none/out\n")
         for words, fault in {
-            "dedupe none out": "cannot read none: not found",
-            "dedupe text out": "Dedupe: Read: NotWasm\n  byte 0",
-            "dedupe cut out": "Dedupe: Read: Truncated\n  byte 12",
-            "scan component": "Read: Component\n  byte 4",
-            "scan text": "Read: NotWasm\n  byte 0",
-            "scan none": "cannot read none: not found",
-            "scan cut": "Read: Truncated\n  byte 12",
-            "trim none out f": "cannot read none: not found",
-            "trim function none/out f": "cannot write none/out: not found",
-            "trim text out f": "Trim: Read: NotWasm\n  byte 0",
-            "trim component out f": "Trim: Read: Component\n  byte 4",
-            "trim cut out f": "Trim: Read: Truncated\n  byte 12",
-            "trim data out f": "Trim: UnsupportedSection\n  data section",
+            "dedupe none out": "cannot read none",
+            "dedupe text out": "Dedupe: Read: NotWasm",
+            "dedupe cut out": "Dedupe: Read: Truncated",
+            "scan component": "Read: Component",
+            "scan text": "Read: NotWasm",
+            "scan none": "cannot read none",
+            "scan cut": "Read: Truncated",
+            "trim none out f": "cannot read none",
+            "trim function none/out f": "cannot write none/out",
+            "trim text out f": "Trim: Read: NotWasm",
+            "trim component out f": "Trim: Read: Component",
+            "trim cut out f": "Trim: Read: Truncated",
+            "trim data out f": "Trim: UnsupportedSection",
             "trim table out f": "Trim: LiveTable",
         }.items():
             self.check(words.split(), 1, f"wctrim: {fault}\n")
@@ -228,15 +228,15 @@ class Trim(Checked):
             self.check_unprinted(words.split())
         # IN is OUT: it stays where it is refused
         self.check(["dedupe", "out", "out"], 0, LINES, RENAMED, THREE)
-        self.check(["dedupe", "out", "out"], 1, "wctrim: Dedupe: Read: NotWasm\n  byte 0\n", b"(module)", b"(module)")
-        self.check(["trim", "out", "out", "f"], 1, "wctrim: Trim: Read: NotWasm\n  byte 0\n", b"(module)", b"(module)")
+        self.check(["dedupe", "out", "out"], 1, "wctrim: Dedupe: Read: NotWasm\n", b"(module)", b"(module)")
+        self.check(["trim", "out", "out", "f"], 1, "wctrim: Trim: Read: NotWasm\n", b"(module)", b"(module)")
         # what was in OUT stays where the fault comes before it is written, and is replaced where all is well
         self.check(["dedupe", "three", "out"], 0, LINES, RENAMED, b"longer than what is written: " + 9 * THREE)
-        self.check_fault(["dedupe", "text", "out"], "wctrim: Dedupe: Read: NotWasm\n  byte 0")
+        self.check_fault(["dedupe", "text", "out"], "wctrim: Dedupe: Read: NotWasm")
         self.check_fault(["trim", "table", "out", "f"], "wctrim: Trim: LiveTable")
-        self.check_vanishing(["dedupe", "pipe", "out"], THREE[:12], "wctrim: Dedupe: Read: Truncated\n  byte 12")
-        self.check_vanishing(["trim", "pipe", "out", "f"], THREE[:12], "wctrim: Trim: Read: Truncated\n  byte 12")
-        self.check_vanishing(["scan", "pipe"], b"", "wctrim: Read: NotWasm\n  byte 0")
+        self.check_vanishing(["dedupe", "pipe", "out"], THREE[:12], "wctrim: Dedupe: Read: Truncated")
+        self.check_vanishing(["trim", "pipe", "out", "f"], THREE[:12], "wctrim: Trim: Read: Truncated")
+        self.check_vanishing(["scan", "pipe"], b"", "wctrim: Read: NotWasm")
         self.check_refused_by_system()
 
 
@@ -373,7 +373,7 @@ class Plan(Checked):
             script = subprocess.run([TOP / "wcplan", asked], stdout=subprocess.PIPE, text=True, check=False).stdout
             if script != printed:
                 self.differs([asked], script, printed)
-        self.check(["--version"], 0, "wcplan 0.262.0\n", "")
+        self.check(["--version"], 0, "wcplan 0.5.0 (wit-component 0.262.0)\n", "")
         for given, wrong in {
             tuple(words[:1]): "missing MAIN.wasm",
             ("--out", *words[:2]): "missing MAIN.wasm",

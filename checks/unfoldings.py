@@ -5,7 +5,7 @@
 
 An unfolding says what an item is without its indices, and below it, one step to the right, the same of each item that it
 names, in their order, down to a depth; `..` is where the depth ends. The modules that were trimmed are those of the rows of
-`trim` in crates/wc_tests/data, so the merge gate compares them with what the program makes. Reading and unfolding are this
+`trim` in tests/rows, so the merge gate compares them with what the program makes. Reading and unfolding are this
 script's own; the shapes of operators are those of the rows of `forms`. FILE, checks/unfoldings.rows unless another is
 named, has rows of these calls, each with a module:
 

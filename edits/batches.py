@@ -536,7 +536,7 @@ def chosen_crates(given):
     having = [crate for crate in used_by_crates() if any(True for _ in edits_of(crate))]
     unknown = [crate for crate in given.crates if crate not in having]
     if unknown:
-        sys.exit(f"batches.py: no edits of a crate {unknown[0]}")
+        sys.exit(f"batches.py: crate {unknown[0]} has no edits")
     return given.crates or having
 
 

@@ -39,6 +39,8 @@ ghost use Rattle.wc_component_calls.specs.ImportsCall.{AreComponentImports, IsIm
 ghost use Rattle.wc_component_calls.specs.PathsCall.{IsComponentPaths, IsPathsFault as IsComponentPathsFault};
 ghost use Rattle.nuigatre.specs.Arguments.{optional_name, settings_of};
 
+mod call_example;
+
 use std::alloc::Global;
 use wc_calls::{
     Answer, dedupe, fault_text, paths, plan, planned_world, scan, trim, validate, validated_module,

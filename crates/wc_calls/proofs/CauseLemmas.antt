@@ -1,5 +1,5 @@
 -- Causes of faults, step by step.
-use Rattle.std.proofs.Common.{◌≡◌, ◌∙◌, ℕ, ◌<◌, Bool, false, List, length, Option, None, Some, unwrap_or, ap, inl, inr, refl, subst, sym}
+use Rattle.std.proofs.Common.{◌≡◌, ◌∙◌, ◌++◌, ℕ, ◌<◌, Bool, false, List, length, Option, None, Some, unwrap_or, ap, inl, inr, refl, subst, sym}
 use Rattle.std.specs.Str.{IsUtf8}
 use Rattle.json.specs.Json.{document}
 use Rattle.std.specs.Option.{option_map}
@@ -215,12 +215,13 @@ module _ (m : MessageView) (modules main others : List ℕ) (world : ℕ) (chose
       refused_for m modules x (of_encoder f) None fault none (encoder_cause e f made h) (encoder_placed m modules f)
 
 -- the parts of an encoder
-pub parts_of : (m : MessageView) (modules main others : List ℕ) (world : ℕ) (wasm : List ℕ) (renames : Option (List RenameView)) (resolve : ResolveView)
+pub parts_of : (m : MessageView) (modules main others : List ℕ) (world : ℕ) (wasm given : List ℕ) (renames : Option (List RenameView)) (resolve : ResolveView)
     (keys : List KeyView) (adapters : List (List ℕ × AdapterView)) (rejects grows : Bool) (hook : List ℕ) → AreChosen m modules world main others
-    → IsDeduped main wasm (renames_in renames) → resolve ≡ m.document.parts → AreExporters resolve world m.exports m.adapters others keys adapters
+    → given ≡ main → IsDeduped main wasm (renames_in renames) → resolve ≡ m.document.parts → AreExporters resolve world m.exports m.adapters others keys adapters
     → rejects ≡ unwrap_or m.reject_legacy_names false → grows ≡ unwrap_or m.realloc_via_memory_grow false → hook ≡ unwrap_or m.task_hook no_task_hook
     → IsPartsOf m modules (record {
       module_bytes = wasm;
+      given_bytes = given;
       module_import_map = renames;
       resolve = resolve;
       world = world;
@@ -230,12 +231,11 @@ pub parts_of : (m : MessageView) (modules main others : List ℕ) (world : ℕ) 
       realloc_via_memory_grow = grows;
       task_hook = hook;
     })
-parts_of m modules main others world wasm renames resolve keys adapters rejects grows hook chosen deduped resolved exporting rejecting growing hooked = record {
-  main = main;
+parts_of m modules main others world wasm given renames resolve keys adapters rejects grows hook chosen is deduped resolved exporting rejecting growing hooked = record {
   others = others;
-  cut = chosen.cut;
-  size = chosen.size;
-  renamed = deduped;
+  cut = chosen.cut ∙ ap (λ (bytes : List ℕ). bytes ++ others) (sym is);
+  size = ap length is ∙ chosen.size;
+  renamed = subst (λ (bytes : List ℕ). IsDeduped bytes wasm (renames_in renames)) (sym is) deduped;
   resolve = resolved;
   world = chosen.named;
   exporters = subst (λ (r : ResolveView). AreExporters r world m.exports m.adapters others keys adapters) resolved exporting;

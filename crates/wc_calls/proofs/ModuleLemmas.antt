@@ -17,7 +17,7 @@ use Rattle.wc_validate.specs.declared.fault.ValidateFault.{ValidateFault}
 use Rattle.wc_world.specs.Trimming.{validation_input_of}
 use Rattle.wc_world.specs.Causes.{IsRefused}
 use Rattle.wc_world.specs.Places.{IsInAdapter, IsValidationPlace}
-use Rattle.wc_world.specs.Refused.{IsAdapterRefusal, IsMainRefusal, IsMemoryRefusal, RefusedWorld}
+use Rattle.wc_world.specs.Refused.{IsAdapterRefusal, IsGivenRefusal, IsMainRefusal, IsMemoryRefusal, RefusedWorld}
 use Rattle.wc_world.specs.World.{IsMainRecord}
 use Rattle.wc_world.specs.declared.fault.WorldFault.TheVariants.{Main, Adapter}
 use Rattle.wc_world.specs.declared.places.ModulePlace.TheVariants as place
@@ -168,18 +168,18 @@ input_answered g x a old new h answered =
 
 -- the main module is refused
 
-module _ (e : EncoderView) (renames : Option (List RenameView)) (bytes : List ℕ) (m : RefusedModule) (r : RefusedWorld) (x : RefusedMessage)
+module _ (e : EncoderView) (renames : Option (List RenameView)) (bytes : List ℕ) (m y : RefusedModule) (r : RefusedWorld) (x : RefusedMessage)
     (same : renames ≡ e.module_import_map) (is : bytes ≡ e.module_bytes) (cause : IsValidateCause (main_input e renames) bytes m.fault)
-    (at : IsRefusedAt (IsPlace (main_input e renames) bytes) m) (own : IsMainRefusal m r) (passed_on : IsRefusalOf of_world place_as.World r x) where
+    (at : IsRefusedAt (IsPlace (main_input e renames) bytes) m) (given : IsGivenRefusal e m y) (own : IsMainRefusal y r) (passed_on : IsRefusalOf of_world place_as.World r x) where
   pub main_cause : IsMainCause e x.fault
   main_cause =
       refusal_fault (IsMainCause e) of_world place_as.World r x passed_on
-      (subst (λ f. IsMainCause e (of_world f)) (sym own.0) (main_refusal_of e renames bytes m same is cause at).0)
+      (subst (λ f. IsMainCause e (of_world f)) (sym own.0) (main_refusal_of e renames bytes m y same is cause at given).0)
 
   pub main_place : IsPlacedFor e x.fault x.place
   main_place =
       refusal_as (IsPlacedFor e) of_world place_as.World r x passed_on
-      (world_at e r.fault r.place (main_placed e m r (main_refusal_of e renames bytes m same is cause at) own))
+      (world_at e r.fault r.place (main_placed e y r (main_refusal_of e renames bytes m y same is cause at given) own))
 
 main_fault : (e : EncoderView) (name : Option (List ℕ)) (f : MessageFault) → is_memory f ≡ false → IsMainCause e f → IsModuleFault e name f
 main_fault e name Memory other h = tt

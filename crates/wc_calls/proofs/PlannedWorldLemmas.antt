@@ -4,7 +4,7 @@ use Rattle.wc_encoder.specs.EncoderParts.{EncoderView}
 use Rattle.wc_plan.specs.Fault.{HasNoFault}
 use Rattle.wc_plan.specs.Plans.{plan_of}
 use Rattle.wc_record.specs.Texts.{planned_world_text}
-use Rattle.wc_uses.specs.Views.{UseView}
+use Rattle.wc_plan.specs.Views.{UseView}
 use Rattle.wc_world.specs.Options.{OptionsOf}
 use Rattle.wc_world.specs.Views.{ComponentWorldView}
 use Rattle.wc_world.specs.World.{IsWorldOf}

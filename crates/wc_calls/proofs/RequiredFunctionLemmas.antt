@@ -20,7 +20,7 @@ use Rattle.wc_read.specs.declared.types.FuncType.{FuncType}
 use Rattle.wc_read.proofs.ContentsLemmas.{func_type_meets}
 use Rattle.wc_read.proofs.MeetsLemmas.{Made, Meets, bind_meets, made_at, made_meets, one_value, same_meets, vector_meets}
 use Rattle.wc_read.proofs.TypesLemmas.{name_meets}
-use Rattle.wc_resolve.proofs.SearchLemmas.{contains_cons, contains_head, contains_none, contains_tail}
+use Rattle.wc_maps.proofs.ListLemmas.{contains_cons, contains_head, contains_none, contains_tail}
 use Rattle.wc_validate.specs.Imports.Map.{required_entry}
 use Rattle.wc_calls.specs.RequiredFunctions.{AreRequired, IsNotRequired, SpellsFunction, names_in}
 use Rattle.wc_calls.specs.Private.RequiredFunctions.{function_at, function_view}

@@ -60,14 +60,13 @@ pub record AreChosen (m : MessageView) (modules : List ℕ) (world : ℕ) (main 
   pub size : length main ≡ m.size
   pub named : IsWorldNamed m.document m.world world
 
--- the parts of an encoder: the main module's bytes are before those of the adapters, and its repeated imports are renamed. Where
--- the message has no task hook, no export is taken for it
+-- the parts of an encoder: the main module's bytes, as they were given, are before those of the adapters, and its repeated imports
+-- are renamed. Where the message has no task hook, no export is taken for it
 pub record IsPartsOf (m : MessageView) (modules : List ℕ) (e : EncoderView) : Type 0 where
-  pub main : List ℕ
   pub others : List ℕ
-  pub cut : modules ≡ main ++ others
-  pub size : length main ≡ m.size
-  pub renamed : IsDeduped main e.module_bytes (renames_in e.module_import_map)
+  pub cut : modules ≡ e.given_bytes ++ others
+  pub size : length e.given_bytes ≡ m.size
+  pub renamed : IsDeduped e.given_bytes e.module_bytes (renames_in e.module_import_map)
   pub resolve : e.resolve ≡ m.document.parts
   pub world : IsWorldNamed m.document m.world e.world
   pub exporters : AreExporters m.document.parts e.world m.exports m.adapters others e.main_module_exports e.adapters

@@ -38,7 +38,7 @@ use Rattle.wc_selection.specs.KeyNames.{count_unversioned}
 use Rattle.wc_selection.specs.Keys.{NamedKey, export_keys, texts_of}
 use Rattle.wc_selection.specs.ModuleKeys.{AreKeysThere}
 use Rattle.wc_selection.specs.Requests.{RequestValue, given_keys}
-use Rattle.wc_selection.specs.Texts.{IsFirstMissing, IsFirstRepeated, is_in}
+use Rattle.wc_maps.specs.Texts.{IsFirstMissing, IsFirstRepeated, is_in}
 use Rattle.wc_selection.specs.Worlds.{ArePackagesIn, AreSeveralWorlds, IsNoWorld}
 use Rattle.wc_calls.specs.AskedKeys.{keys_in, request_of}
 use Rattle.wc_calls.specs.Encoders.{AreChosen, AreExporters, AreOptionsOf, IsEncoderOf, IsMessage, IsPartsOf, IsWorldNamed}

@@ -7,7 +7,7 @@ ghost use Rattle.wc_selection.specs.KeyNames.{indexed_keys};
 ghost use Rattle.wc_selection.specs.Keys.{AreKeysApart, export_keys, named_key, texts_of};
 ghost use Rattle.wc_selection.specs.ModuleKeys.{AreKeysThere};
 ghost use Rattle.wc_selection.specs.Requests.{given_keys, request_value};
-ghost use Rattle.wc_selection.specs.Texts.{text_of, text_pair};
+ghost use Rattle.wc_maps.specs.Texts.{text_of, text_pair};
 ghost use Rattle.wc_calls.specs.AskedKeys.{adapter_keys, adapter_texts, gives_none, key_texts, main_keys, main_texts};
 ghost use Rattle.wc_calls.specs.MessageFault.{IsAskedCause};
 ghost use Rattle.wc_calls.specs.Private.AskedKeys.{IsAsked, IsAskedCauseFor, IsAskedCauseIn, IsAskedFor, IsKeyFault};

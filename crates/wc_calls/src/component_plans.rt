@@ -1,7 +1,8 @@
 //! The call that makes the plan of a component.
 
 ghost use Rattle.std.specs.Prelude.{◌≡◌, ◌≢◌, ◌≤◌, IfErr, IfOk, OnOk};
-ghost use Rattle.wc_plan.specs.Fault.{AreNameable, HasNoFault};
+ghost use Rattle.wc_plan.specs.Fault.{HasNoFault};
+ghost use Rattle.wc_world.specs.Nameable.{AreNameable};
 ghost use Rattle.wc_plan.specs.Plans.{plan_of};
 ghost use Rattle.wc_record.specs.Texts.{plan_text};
 ghost use Rattle.wc_world.specs.WorldViews.{world_view};

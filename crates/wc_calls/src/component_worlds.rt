@@ -136,7 +136,8 @@ fn world_for(alloc: Global, input: &WorldInput, out: &mut [u8]) -> Answer
 ///   is about, but for `NotText`, `Lengths`, `PackageRange` and `Encoder`. Both have `length` bytes, and are in the front of
 ///   `out`, if `out` has so many. Its member `kind` says which it is, and these calls of `wc_record` list the others:
 ///   `json_place_to_json`, `worlds_to_json`, `part_to_json`, `key_to_json`, `adapter_to_json`, `read_place_to_json` of the
-///   main module, `world_place_to_json`, and where a fault of trimming has no place `trim_fault_to_json`.
+///   main module, `world_place_to_json`, and where a fault of trimming has no place `trim_fault_to_json`. A byte of the
+///   main module is one of `modules`, though its imports are renamed.
 /// - `MEMORY`: an allocation failed, at whichever step.
 ///
 /// It is never `SAME` or `BAD_ARGUMENT`. `out` is as it was but for what is said here, and then after the first `length`

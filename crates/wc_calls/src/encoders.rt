@@ -3,6 +3,7 @@
 ghost use Rattle.std.specs.Prelude.{◌≡◌, ◌++◌, ◌<◌, IfErr, IfNone, IfOk, IfSome, List, Some, length, map, string_bytes, unwrap_or, ℕ};
 ghost use Rattle.std.specs.Option.{option_map};
 ghost use Rattle.wc_adapters.specs.Adapters.{adapter_entry, adapter_view, library_view};
+ghost use Rattle.wc_encoder.specs.EncoderParts.{given_in};
 ghost use Rattle.wc_encoder.specs.WellFormed.{IsWellFormed};
 ghost use Rattle.wc_json.specs.Document.{document_view};
 ghost use Rattle.wc_json.specs.Messages.{adapter_message_view, exports_view, message_view, world_name_view};
@@ -275,6 +276,7 @@ fn resolve_of(alloc: Global, parts: Parts) -> Result<Resolve, RefusedMessage>
 fn main_module(alloc: Global, wasm: &[u8]) -> Result<MainModule, RefusedMessage>
     ensures dedupe { IfOk result (λ m. IsDeduped wasm.now m.wasm.items
         (renames_in m.import_map)) }
+    ensures given { IfOk result (λ m. given_in m.given m.wasm.items ≡ wasm.now) }
     ensures fault { IfErr result (IsMainRefused wasm.now) }
 {
     match MainModule::new_explained(alloc, CowSlice::Borrowed(wasm)) {
@@ -319,6 +321,8 @@ fn module_parts(
         (map key_view p.exporters.main.keys) (map adapter_entry p.exporters.adapters.entries)) }
     ensures main { IfOk result (λ p. IsDeduped bytes.entry.main.now p.main.wasm.items
         (renames_in p.main.import_map)) }
+    ensures given { IfOk result (λ p.
+        given_in p.main.given p.main.wasm.items ≡ bytes.entry.main.now) }
     ensures hook { IfOk result (λ p. string_bytes p.hook
         ≡ unwrap_or (option_map string_bytes given.hook) no_task_hook) }
     ensures fault { IfErr result (IsModulesRefusal world.entry.resolve.now world.entry.world.0
@@ -378,6 +382,7 @@ fn encoder_for(
     let made = module_parts(alloc, seed, asked, given, bytes)?;
     let rejects = reject_legacy_names.unwrap_or(false);
     let grows = realloc_via_memory_grow.unwrap_or(false);
+    let original = made.main.given;
     let parts = EncoderParts {
         module: made.main.wasm,
         module_import_map: made.main.import_map,
@@ -388,7 +393,7 @@ fn encoder_for(
         realloc_via_memory_grow: grows,
         task_hook: made.hook,
     };
-    match ComponentEncoder::build(alloc, parts) {
+    match ComponentEncoder::build_given(alloc, parts, original) {
         Ok(encoder) => Ok(encoder),
         Err(fault) => Err(Refused::without_place(MessageFault::from(fault))),
     }

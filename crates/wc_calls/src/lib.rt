@@ -25,7 +25,7 @@
 //! }
 //! ```
 //!
-//! This function is proved in `wc_tests`, as `call_example::trim_to_write`.
+//! This function is proved in `nuigatre`, as `call_example::trim_to_write`.
 #![tactic(auto)]
 
 mod answers;

@@ -1,9 +1,9 @@
 //! The call that makes a component's world and its plan.
 
 ghost use Rattle.std.specs.Prelude.{◌≡◌, ◌≢◌, ◌++◌, ◌≤◌, IfErr, IfOk, length};
-ghost use Rattle.wc_uses.specs.PlanViews.{plan_view};
+ghost use Rattle.wc_plan.specs.PlanViews.{plan_view};
 ghost use Rattle.wc_world.specs.WorldViews.{world_view};
-ghost use Rattle.wc_plan.specs.Fault.{AreNameable};
+ghost use Rattle.wc_world.specs.Nameable.{AreNameable};
 ghost use Rattle.wc_record.specs.Texts.{planned_world_text};
 ghost use Rattle.wc_calls.specs.Answers.{AreOthersOfTextZero, IsPut, IsTextStatus, IsTooLong, bad_argument, done, failed, same, too_small};
 ghost use Rattle.wc_calls.specs.ComponentWorlds.{IsFaultOf, modules_text};

@@ -26,7 +26,7 @@ use wc_encoder::{Adapter, ComponentEncoder};
 use wc_maps::{Map, Seed};
 use wc_read::FuncType;
 use wc_validate::{ValidatedModule, validate_adapter_module_explained, validate_module_explained};
-use wc_world::{adapter_refusal, main_refusal};
+use wc_world::{adapter_refusal, as_given, main_refusal};
 
 /// An adapter or a library, and the functions that it has to export.
 #[derive(Clone, Copy)]
@@ -57,7 +57,7 @@ fn main_validated(
     let import_map = encoder.module_import_map();
     match validate_module_explained(alloc, encoder, bytes, import_map) {
         Ok(module) => Ok(module),
-        Err(refused) => Err(world_refusal(main_refusal(refused))),
+        Err(refused) => Err(world_refusal(main_refusal(as_given(alloc, encoder, refused)))),
     }
 }
 

@@ -1,7 +1,7 @@
 //! Calls on the world of a component, which other crates define: what they have in common.
 
 ghost use Rattle.std.specs.Prelude.{ℕ, List};
-ghost use Rattle.wc_plan.specs.Fault.{AreNameable};
+ghost use Rattle.wc_world.specs.Nameable.{AreNameable};
 ghost use Rattle.wc_world.specs.Views.{ComponentWorldView};
 ghost use Rattle.wc_world.specs.WorldViews.{world_view};
 ghost use Rattle.wc_calls.specs.WorldCalls.{IsAnsweredForWorld};

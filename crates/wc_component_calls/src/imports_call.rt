@@ -2,7 +2,7 @@
 
 ghost use Rattle.std.specs.Prelude.{◌≡◌, ◌≢◌, ◌≤◌, IfErr, IfOk};
 ghost use Rattle.wc_calls.specs.Answers.{AreOthersOfTextZero, IsPut, IsTooLong, bad_argument, done, failed, same, too_small};
-ghost use Rattle.wc_plan.specs.Fault.{AreNameable};
+ghost use Rattle.wc_world.specs.Nameable.{AreNameable};
 ghost use Rattle.wc_world.specs.WorldViews.{world_view};
 ghost use Rattle.wc_ways.specs.Imports.{IsImportsJson};
 ghost use Rattle.wc_component_calls.specs.ImportsCall.{AreComponentImports, IsImportsCause, IsImportsFault};

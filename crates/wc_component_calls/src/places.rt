@@ -4,7 +4,7 @@ ghost use Rattle.std.specs.Prelude.{◌≡◌, ◌∷◌, IfOk, OnOk, codes, map
 ghost use Rattle.json.specs.Json.{string};
 ghost use Rattle.json.specs.Token.{key};
 ghost use Rattle.json.specs.Tree.{json_tokens};
-ghost use Rattle.wc_json.specs.Shapes.{array_of};
+ghost use Rattle.wc_texts.specs.Shapes.{array_of};
 ghost use Rattle.wc_record.specs.Texts.{text_of};
 ghost use Rattle.wc_why.specs.Private.Tokens.{Puts};
 ghost use Rattle.wc_component_calls.specs.ComponentFault.{fault_place};

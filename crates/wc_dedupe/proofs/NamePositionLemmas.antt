@@ -20,6 +20,7 @@ use Rattle.std.proofs.lemmas.List.Sorted.{searchable_from_sorted, Contains-permu
 use Rattle.std.proofs.lemmas.Map.Text.{is_eq-slice_cmp}
 use Rattle.std.proofs.lemmas.Option.{slice_get-map, slice_get-get_or, slice_get_within, get_or_from_slice_get}
 use Rattle.std.proofs.lemmas.Slice.Eq.{bytes_eq-Decides}
+use Rattle.wc_maps.proofs.ListLemmas.{slice_get_last}
 use Rattle.wc_dedupe.specs.Private.NamePositions.{Texts, named, names_of, NameEntry, entry_name, names_cmp, entries_cmp, Ascend, AreEntries, PushesNew, HavePositions}
 use Rattle.wc_dedupe.specs.Renaming.{ImportName}
 
@@ -61,10 +62,6 @@ pub slice_get_more : {X : Type 0} (xs ys : List X) (i : ℕ) (x : X) → slice_g
 slice_get_more [] ys i x e = cc
 slice_get_more (y ∷ xs) ys zero x e = e
 slice_get_more (y ∷ xs) ys (suc i) x e = slice_get_more xs ys i x e
-
-pub slice_get_last : {X : Type 0} (xs : List X) (x : X) → slice_get (xs ++ x ∷ []) (length xs) ≡ Some x
-slice_get_last [] x = refl
-slice_get_last (y ∷ xs) x = slice_get_last xs x
 
 -- the order of names
 

@@ -31,7 +31,7 @@
 //! }
 //! ```
 //!
-//! This function is proved in `wc_example_rows`, as `examples::dedupe::original_name`.
+//! This function is proved in `wc_tests`, as `examples::dedupe::original_name`.
 #![tactic(auto)]
 
 mod dedupe;

@@ -7,7 +7,7 @@ use Rattle.wc_resolve.specs.Views.{KeyView, ItemView, item_view, world_entry}
 use Rattle.wc_resolve.specs.Kinds.{ResolveView}
 use Rattle.wc_encoder.specs.Dependencies.{AreDependenciesBefore, DependsOn, IsIndependent}
 use Rattle.wc_adapters.specs.Entries.{Entries}
-use Rattle.wc_adapters.proofs.PairLemmas.{pairs_head, pairs_step}
+use Rattle.wc_maps.proofs.PairLemmas.{pairs_head, pairs_step}
 
 -- the exports that are left come after so many others, and dependencies come before in all where they do in these
 pub record IsDependencyWalk (r : ResolveView) (all_items left : List (WorldKey × WorldItem)) (index : ℕ) : Type 0 where

@@ -12,7 +12,7 @@ use Rattle.wc_resolve.specs.declared.worlds.WorldItem.{WorldItem}
 use Rattle.wc_resolve.specs.Dependencies.{direct_dependencies}
 use Rattle.wc_resolve.specs.Views.{KeyView, plain_key, interface_key, ItemView, interface_item, key_view, world_entry}
 use Rattle.wc_resolve.specs.Kinds.{ResolveView}
-use Rattle.wc_resolve.proofs.SearchLemmas.{contains_cons, contains_head, contains_none, contains_tail}
+use Rattle.wc_maps.proofs.ListLemmas.{contains_cons, contains_head, contains_none, contains_tail}
 use Rattle.wc_encoder.specs.Dependencies.{DependsOn}
 use Rattle.wc_adapters.specs.Entries.{Entries, entry_keys}
 use Rattle.wc_encoder.specs.Exported.{IsExported}

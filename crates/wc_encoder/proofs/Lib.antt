@@ -1,5 +1,5 @@
 pub mod DependencyWalkLemmas
 pub mod EntriesAfterLemmas
+pub mod GivenLemmas
 pub mod LookupLemmas
-pub mod SeenLemmas
 pub mod WorldLemmas

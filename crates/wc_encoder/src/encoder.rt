@@ -3,7 +3,7 @@
 ghost use Rattle.std.specs.Prelude.{◌≡◌, IfErr, IfOk, map, option_copied};
 ghost use Rattle.wc_resolve.specs.Views.{key_view};
 ghost use Rattle.wc_adapters.specs.Adapters.{adapter_entry};
-ghost use Rattle.wc_encoder.specs.EncoderParts.{parts_view};
+ghost use Rattle.wc_encoder.specs.EncoderParts.{given_view, parts_view};
 ghost use Rattle.wc_encoder.specs.Fault.{IsEncoderCause};
 ghost use Rattle.wc_encoder.specs.WellFormed.{IsWellFormed};
 
@@ -23,6 +23,8 @@ use wc_resolve::WorldKey;
 #[derive(Drop)]
 pub struct ComponentEncoder {
     parts: EncoderParts,
+    /// The main module's bytes as they were given, where some of its imports were renamed after that.
+    given: Option<Vec<u8>>,
 }
 
 impl Model for ComponentEncoder {
@@ -30,12 +32,12 @@ impl Model for ComponentEncoder {
 
     ghost Value = { EncoderView };
 
-    ghost use Rattle.wc_encoder.specs.EncoderParts.{parts_view};
+    ghost use Rattle.wc_encoder.specs.EncoderParts.{given_view};
     ghost use Rattle.wc_encoder.specs.WellFormed.{IsWellFormed};
 
-    ghost view = { λ e. parts_view e.parts };
+    ghost view = { λ e. given_view e.given e.parts };
 
-    ghost invariant = { λ e. IsWellFormed (parts_view e.parts) };
+    ghost invariant = { λ e. IsWellFormed (given_view e.given e.parts) };
 }
 
 impl ComponentEncoder {
@@ -59,8 +61,27 @@ impl ComponentEncoder {
         ensures formed { IfOk result IsWellFormed }
         ensures fault { IfErr result (IsEncoderCause (parts_view parts)) }
     {
+        ComponentEncoder::build_given(alloc, parts, None)
+    }
+
+    /// As `build`; and the main module was given as other bytes, before its repeated imports were renamed. These bytes
+    /// are not read. A fault of reading the main module is about a byte of them. `None`: no import was renamed.
+    ///
+    /// # Errors
+    ///
+    /// Those of `build`.
+    #[tactic(auto, using(crate::proofs::GivenLemmas::given_cause, crate::proofs::GivenLemmas::given_formed))]
+    pub fn build_given(
+        alloc: Global,
+        parts: EncoderParts,
+        given: Option<Vec<u8>>,
+    ) -> Result<ComponentEncoder, EncoderFault>
+        ensures ok { IfOk result (λ e. e ≡ given_view given parts) }
+        ensures formed { IfOk result IsWellFormed }
+        ensures fault { IfErr result (IsEncoderCause (given_view given parts)) }
+    {
         check(alloc, &parts)?;
-        Ok(ComponentEncoder { parts })
+        Ok(ComponentEncoder { parts, given })
     }
 
     /// Says that the parts are well-formed, to proofs of callers. It does nothing when it runs.
@@ -75,6 +96,16 @@ impl ComponentEncoder {
         ensures { result.now ≡ self.now.module_bytes }
     {
         &self.parts.module
+    }
+
+    /// The main module's bytes as they were given: before its repeated imports were renamed.
+    pub fn given_module(&self) -> &[u8]
+        ensures { result.now ≡ self.now.given_bytes }
+    {
+        match &self.given {
+            Some(given) => given,
+            None => &self.parts.module,
+        }
     }
 
     /// The original names of the main module's renamed imports, where some were renamed.

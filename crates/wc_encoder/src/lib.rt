@@ -37,7 +37,7 @@
 //! }
 //! ```
 //!
-//! This function is proved in `wc_example_rows`, as `examples::encoder::encoder_for`.
+//! This function is proved in `wc_tests`, as `examples::encoder::encoder_for`.
 #![tactic(auto)]
 
 mod dependencies;

@@ -1,25 +1,23 @@
 //! Live types: a script, whose lines begin with `do `.
 
-use crate::functions::complete_function;
-use crate::members::world_entry;
-use crate::name_calls::put_type_ids;
-use crate::resolve_calls::put_answer;
-use crate::stop::Stop;
-use crate::types::{type_id, wit_type};
-use crate::words::Words;
+use crate::read::{cut, from_json, id_of, made};
+use crate::resolve_calls::{is_usable, put_answer, put_type_ids};
 use std::alloc::{AllocError, Global};
+use wc_lines::input::{Stop, bad_row};
 use wc_lines::lines::Lines;
-use wc_resolve::{LiveTypes, Resolve, ResolveFault, TypeId, WitType, WorldItem};
+use wc_resolve::{Function, LiveTypes, Resolve, ResolveFault, TypeId, WitType, WorldItem};
 
-fn add_type_id<'a>(
+/// `add_type_id TYPE-ID`. Where memory runs out, what is kept begins with what was there, and the whole with what is kept.
+fn add_type_id(
     alloc: Global,
     resolve: &Resolve,
     live: &mut LiveTypes,
-    words: &mut Words,
-) -> Result<(), Stop<'a>> {
-    let id = type_id(words)?;
+    word: &str,
+    out: &mut Lines,
+) -> Result<(), Stop> {
+    let id = TypeId(id_of(out, 't', word)?);
     if !resolve.has_type(id) {
-        return Err(Stop::Missing("no such type"));
+        return Err(bad_row(out, "no such type", word));
     }
     let old = ids_of(alloc, live)?;
     if live.add_type_id(resolve, id).is_ok() {
@@ -28,16 +26,10 @@ fn add_type_id<'a>(
     let kept = ids_of(alloc, live)?;
     live.add_type_id(resolve, id)?;
     let whole = ids_of(alloc, live)?;
-    Err(memory_ran_out(&old, &kept, &whole))
-}
-
-/// Why the types are not all there, which were `old`, are `kept`, and were to become `whole`: memory ran out, if `kept`
-/// begins with `old`, and `whole` with `kept`.
-fn memory_ran_out<'a>(old: &[TypeId], kept: &[TypeId], whole: &[TypeId]) -> Stop<'a> {
-    if begins_with(kept, old) && begins_with(whole, kept) {
-        Stop::Resolve(ResolveFault::Memory)
+    if begins_with(&kept, &old) && begins_with(&whole, &kept) {
+        made(Err(ResolveFault::Memory), out)
     } else {
-        Stop::Missing("types were lost")
+        Err(bad_row(out, "types were lost", word))
     }
 }
 
@@ -53,122 +45,127 @@ fn ids_of(alloc: Global, live: &LiveTypes) -> Result<Vec<TypeId>, AllocError> {
     Ok(ids)
 }
 
-fn add_type<'a>(
+/// Adds a type, as JSON.
+fn add_type(
+    alloc: Global,
     resolve: &Resolve,
     live: &mut LiveTypes,
-    words: &mut Words,
-) -> Result<(), Stop<'a>> {
-    let ty = wit_type(words)?;
+    text: &str,
+    out: &mut Lines,
+) -> Result<(), Stop> {
+    let ty: WitType = from_json(alloc, text, out)?;
     let is_there = match ty {
         WitType::Id(id) => resolve.has_type(id),
         _ => true,
     };
     if !is_there {
-        return Err(Stop::Missing("no such type"));
+        return Err(bad_row(out, "no such type", text));
     }
-    live.add_type(resolve, ty)?;
-    Ok(())
+    Ok(live.add_type(resolve, ty)?)
 }
 
-fn add_func<'a>(
+/// Adds the types of a function, as JSON.
+fn add_func(
+    alloc: Global,
     resolve: &Resolve,
     live: &mut LiveTypes,
-    words: &mut Words,
-) -> Result<(), Stop<'a>> {
-    let function = complete_function(words)?;
-    if !resolve.has_function(&function) {
-        return Err(Stop::Missing("a function that is not usable"));
-    }
-    live.add_func(resolve, &function)?;
-    Ok(())
-}
-
-/// Adds the types of an item of a world; where types are known, beside them.
-fn add_world_item<'a>(
-    resolve: &Resolve,
-    known: Option<&LiveTypes>,
-    live: &mut LiveTypes,
-    words: &mut Words,
-) -> Result<(), Stop<'a>> {
-    let (_key, item) = world_entry(words)?;
-    let is_there = match &item {
-        WorldItem::Interface { id, .. } => resolve.has_interface(*id),
-        WorldItem::Function(function) => resolve.has_function(function),
-        WorldItem::TypeItem { id } => resolve.has_type(*id),
-    };
-    if !is_there {
-        return Err(Stop::Missing("an item of what is not there"));
-    }
-    match known {
-        Some(known) => live.add_world_item_beside(known, resolve, &item)?,
-        None => live.add_world_item(resolve, &item)?,
-    }
-    Ok(())
-}
-
-/// A line of the script, after `do`, about one list.
-fn step<'a>(
-    resolve: &Resolve,
-    live: &mut LiveTypes,
-    words: &mut Words,
+    text: &str,
     out: &mut Lines,
-) -> Result<(), Stop<'a>> {
-    if words.take("add_type_id") {
-        add_type_id(words.alloc, resolve, live, words)?;
-    } else if words.take("add_type") {
-        add_type(resolve, live, words)?;
-    } else if words.take("add_func") {
-        add_func(resolve, live, words)?;
-    } else if words.take("add_world_item") {
-        add_world_item(resolve, None, live, words)?;
-    } else if words.take("clear") {
-        live.clear();
-    } else if words.take("contains") {
-        put_answer(out, live.contains(type_id(words)?));
-    } else if words.take("ids") {
-        put_type_ids(out, &ids_of(words.alloc, live)?);
-    } else if words.take("count") {
-        let count = live.iter().count();
-        writeln!(out, "{count}");
-    } else {
-        return Err(Stop::Missing("no line of a script"));
+) -> Result<(), Stop> {
+    let function: Function = from_json(alloc, text, out)?;
+    if !resolve.has_function(&function) {
+        return Err(bad_row(out, "a function that is not usable", text));
     }
-    words.end()?;
+    Ok(live.add_func(resolve, &function)?)
+}
+
+/// The lists of a script: the types that it adds to, and those that are known.
+#[derive(Drop)]
+struct Lists {
+    known: LiveTypes,
+    live: LiveTypes,
+}
+
+/// `add_world_item ITEM`, or `add_world_item_beside ITEM`, beside the known types: the types of an item of a world, as JSON.
+fn add_world_item(
+    alloc: Global,
+    resolve: &Resolve,
+    lists: &mut Lists,
+    line: &str,
+    out: &mut Lines,
+) -> Result<(), Stop> {
+    let (word, text) = cut(line);
+    let item: WorldItem = from_json(alloc, text, out)?;
+    if !is_usable(resolve, &item) {
+        return Err(bad_row(out, "an item of what is not there", text));
+    }
+    if word == "add_world_item" {
+        lists.live.add_world_item(resolve, &item)?;
+    } else {
+        lists
+            .live
+            .add_world_item_beside(&lists.known, resolve, &item)?;
+    }
     Ok(())
 }
 
 /// A line of the script, after `do`: about the known types after the word `known`, and else about the others.
-fn answer_line<'a>(
+fn step(
+    alloc: Global,
     resolve: &Resolve,
-    known: &mut LiveTypes,
-    live: &mut LiveTypes,
-    words: &mut Words,
+    lists: &mut Lists,
+    line: &str,
     out: &mut Lines,
-) -> Result<(), Stop<'a>> {
-    if words.take("known") {
-        return step(resolve, known, words, out);
+) -> Result<(), Stop> {
+    let (word, rest) = cut(line);
+    match word {
+        "known" => put_step(alloc, resolve, &mut lists.known, rest, out),
+        "add_world_item" | "add_world_item_beside" => {
+            add_world_item(alloc, resolve, lists, line, out)
+        }
+        _ => put_step(alloc, resolve, &mut lists.live, line, out),
     }
-    if words.take("add_world_item_beside") {
-        add_world_item(resolve, Some(known), live, words)?;
-        words.end()?;
-        return Ok(());
+}
+
+/// A line about one list.
+fn put_step(
+    alloc: Global,
+    resolve: &Resolve,
+    live: &mut LiveTypes,
+    line: &str,
+    out: &mut Lines,
+) -> Result<(), Stop> {
+    let (word, rest) = cut(line);
+    match word {
+        "add_type_id" => add_type_id(alloc, resolve, live, rest, out)?,
+        "add_type" => add_type(alloc, resolve, live, rest, out)?,
+        "add_func" => add_func(alloc, resolve, live, rest, out)?,
+        "clear" => live.clear(),
+        "contains" => {
+            let id = TypeId(id_of(out, 't', rest)?);
+            put_answer(out, live.contains(id));
+        }
+        "ids" => put_type_ids(out, &ids_of(alloc, live)?),
+        "count" => out.number_line("", live.iter().count() as u64),
+        _ => return Err(bad_row(out, "no line of a script", line)),
     }
-    step(resolve, live, words, out)
+    Ok(())
 }
 
 /// The answers of the script's lines.
-pub fn live_call<'a>(
+pub(crate) fn live_call(
     alloc: Global,
     resolve: &Resolve,
-    input: &[&'a str],
+    input: &[&str],
     out: &mut Lines,
-) -> Result<(), Stop<'a>> {
-    let mut known = LiveTypes::new(alloc);
-    let mut live = LiveTypes::new(alloc);
+) -> Result<(), Stop> {
+    let mut lists = Lists {
+        known: LiveTypes::new(alloc),
+        live: LiveTypes::new(alloc),
+    };
     for line in input {
         if let Some(line) = line.strip_prefix("do ") {
-            let mut words = Words::of(alloc, line, 0)?;
-            answer_line(resolve, &mut known, &mut live, &mut words, out)?;
+            step(alloc, resolve, &mut lists, line, out)?;
         }
     }
     Ok(())

@@ -1,36 +1,23 @@
-//! The calls on a `Resolve`: building one, and what is at an index.
+//! The calls on a `Resolve`: building one, what is at an index, and queries.
 
-use crate::fixture::fixture_of;
-use crate::functions::complete_function;
+ghost use Rattle.std.specs.Prelude.{IsTrue};
+ghost use Rattle.wc_resolve.specs.Ranges.{IsItemIn};
+ghost use Rattle.wc_resolve.specs.Views.{item_view};
+
 use crate::live_calls::live_call;
-use crate::members::package_name;
-use crate::name_calls::name_call;
-use crate::shown_names::put_id;
+use crate::read::{asked_of, id_of, json_text, key_of, made, name_of, resolve_of};
+use crate::shown_names::{put_id, put_name, put_optional_name, put_package_name};
 use crate::shown_worlds::{put_interface, put_package, put_type_def, put_world};
-use crate::signature_calls::wasm_signature;
-use crate::stop::{Stop, put_answered};
-use crate::types::type_id;
-use crate::words::Words;
+use crate::signature_calls::{abi_of, put_signature};
 use std::alloc::Global;
+use wc_json::{Document, document_from_json};
+use wc_lines::input::{Stop, bad_row, number_of};
 use wc_lines::lines::Lines;
 use wc_lines::rows::Row;
-use wc_resolve::{InterfaceId, PackageId, Resolve, WorldId};
-
-/// The words after a call, as a line.
-pub fn argument_words<'a>(alloc: Global, row: &Row<'_>) -> Result<Words, Stop<'a>> {
-    let mut line = String::new(alloc);
-    for word in &row.arguments {
-        line.push_str(word)?;
-        line.push(' ')?;
-    }
-    Ok(Words::of(alloc, &line, 0)?)
-}
-
-/// Builds the `Resolve` of a row's lines. Its fault stops the row.
-pub fn resolve_of<'a>(alloc: Global, input: &[&'a str]) -> Result<Resolve, Stop<'a>> {
-    let (parts, _draft) = fixture_of(alloc, input)?.into_parts();
-    Ok(Resolve::build(alloc, parts)?)
-}
+use wc_lines::seeds::row_seed;
+use wc_resolve::{
+    Function, InterfaceId, PackageId, PackageName, Resolve, TypeId, WorldId, WorldItem, WorldKey,
+};
 
 /// A line `true` or `false`.
 pub fn put_answer(out: &mut Lines, holds: bool) {
@@ -38,120 +25,260 @@ pub fn put_answer(out: &mut Lines, holds: bool) {
 }
 
 /// An id, or `none`, on a line.
-pub fn put_found(out: &mut Lines, letter: char, index: Option<u32>) {
+pub(crate) fn put_found(out: &mut Lines, letter: char, index: Option<u32>) {
     match index {
         Some(index) => put_id(out, letter, index),
         None => out.push_str("none"),
     }
-    out.push('\n');
+    out.end();
 }
 
-fn build<'a>(resolve: &Resolve, out: &mut Lines) -> Result<(), Stop<'a>> {
+/// A text, or `none`, on a line.
+fn put_text(out: &mut Lines, text: &Option<String>) {
+    put_optional_name(out, text);
+    out.end();
+}
+
+/// The ids of types, on a line.
+pub(crate) fn put_type_ids(out: &mut Lines, ids: &[TypeId]) {
+    out.push_str("ids");
+    for id in ids {
+        out.push(' ');
+        put_id(out, 't', id.0);
+    }
+    out.end();
+}
+
+fn put_built(resolve: &Resolve, out: &mut Lines) {
     resolve.well_formedness();
     resolve.listings_unique();
     resolve.futures_unique();
     resolve.flat_types_unique();
     out.push_str("ok\n");
-    Ok(())
 }
 
-/// The type, the interface, the package or the world of the next word, which is an id.
-fn put_part<'a>(resolve: &Resolve, words: &mut Words, out: &mut Lines) -> Result<(), Stop<'a>> {
-    if let Some(index) = words.take_id('i') {
+/// The id after a letter, which is the word's first.
+fn after(word: &str, letter: char) -> Option<u32> {
+    word.strip_prefix(letter)?.parse::<u32>().ok()
+}
+
+/// The type, the interface, the package or the world of an id.
+fn put_part(resolve: &Resolve, word: &str, out: &mut Lines) -> Result<(), Stop> {
+    if let Some(index) = after(word, 'i') {
         if resolve.has_interface(InterfaceId(index)) {
             put_interface(out, index, resolve.interface(InterfaceId(index)));
             return Ok(());
         }
-    } else if let Some(index) = words.take_id('p') {
+    } else if let Some(index) = after(word, 'p') {
         if resolve.has_package(PackageId(index)) {
             put_package(out, index, resolve.package(PackageId(index)));
             return Ok(());
         }
-    } else if let Some(index) = words.take_id('w') {
+    } else if let Some(index) = after(word, 'w') {
         if resolve.has_world(WorldId(index)) {
             put_world(out, index, resolve.world(WorldId(index)));
             return Ok(());
         }
     } else {
-        let id = type_id(words)?;
+        let id = TypeId(id_of(out, 't', word)?);
         if resolve.has_type(id) {
             put_type_def(out, id.0, resolve.type_def(id));
             return Ok(());
         }
     }
-    Err(Stop::Missing("no such part"))
+    Err(bad_row(out, "no such part", word))
 }
 
-/// Whether there is something at an index, or a function is usable.
-fn has<'a>(resolve: &Resolve, words: &mut Words, out: &mut Lines) -> Result<(), Stop<'a>> {
-    let holds = if words.is_at("func") {
-        resolve.has_function(&complete_function(words)?)
-    } else if let Some(index) = words.take_id('i') {
-        resolve.has_interface(InterfaceId(index))
-    } else if let Some(index) = words.take_id('p') {
-        resolve.has_package(PackageId(index))
-    } else if let Some(index) = words.take_id('w') {
-        resolve.has_world(WorldId(index))
+/// Whether there is something at an index.
+fn has(resolve: &Resolve, word: &str, out: &mut Lines) -> Result<bool, Stop> {
+    if let Some(index) = after(word, 'i') {
+        Ok(resolve.has_interface(InterfaceId(index)))
+    } else if let Some(index) = after(word, 'p') {
+        Ok(resolve.has_package(PackageId(index)))
+    } else if let Some(index) = after(word, 'w') {
+        Ok(resolve.has_world(WorldId(index)))
     } else {
-        resolve.has_type(type_id(words)?)
-    };
-    put_answer(out, holds);
-    Ok(())
-}
-
-fn package_named<'a>(
-    resolve: &Resolve,
-    words: &mut Words,
-    out: &mut Lines,
-) -> Result<(), Stop<'a>> {
-    let name = package_name(words)?;
-    let found = resolve.package_named(&name);
-    put_found(out, 'p', found.map(|id| id.0));
-    Ok(())
-}
-
-/// Puts the answer to a call on a `Resolve`, but for live types.
-fn resolve_call<'a>(
-    call: &str,
-    resolve: &Resolve,
-    words: &mut Words,
-    out: &mut Lines,
-) -> Result<(), Stop<'a>> {
-    match call {
-        "resolve_build" => build(resolve, out),
-        "has" => has(resolve, words, out),
-        "type_def" | "interface" | "package" | "world" => put_part(resolve, words, out),
-        "package_named" => package_named(resolve, words, out),
-        "wasm_signature" => wasm_signature(resolve, words, out),
-        _ => name_call(call, resolve, words, out),
+        Ok(resolve.has_type(TypeId(id_of(out, 't', word)?)))
     }
 }
 
-fn answered<'a>(alloc: Global, row: &'a Row<'a>, out: &mut Lines) -> Result<(), Stop<'a>> {
-    let mut words = argument_words(alloc, row)?;
-    let resolve = resolve_of(alloc, &row.input)?;
-    if row.call == "live_types" {
-        live_call(alloc, &resolve, &row.input, out)?;
-    } else {
-        resolve_call(row.call, &resolve, &mut words, out)?;
+/// The names of an interface's package and of itself, or `none`.
+fn put_qualified(named: Option<(&PackageName, &str)>, out: &mut Lines) {
+    match named {
+        Some((package, name)) => {
+            put_package_name(out, package);
+            out.push(' ');
+            put_name(out, name);
+            out.end();
+        }
+        None => out.push_str("none\n"),
     }
-    words.end()?;
-    Ok(())
 }
 
-/// Builds the `Resolve` that a row describes, and answers its call on it; or says why there is none. False where a row has
-/// another call.
-pub(crate) fn answer(alloc: Global, row: &Row<'_>, out: &mut Lines) -> bool {
+fn put_interface_ids(out: &mut Lines, ids: &[InterfaceId]) {
+    out.push_str("ids");
+    for id in ids {
+        out.push(' ');
+        put_id(out, 'i', id.0);
+    }
+    out.end();
+}
+
+/// The calls on an interface, whose id is the first argument.
+fn put_of_interface(
+    alloc: Global,
+    resolve: &Resolve,
+    row: &Row<'_>,
+    out: &mut Lines,
+) -> Result<(), Stop> {
+    let id = InterfaceId(id_of(out, 'i', row.argument(0))?);
+    if !resolve.has_interface(id) {
+        return Err(bad_row(out, "no such interface", row.argument(0)));
+    }
     match row.call {
-        "resolve_build" | "has" | "type_def" | "interface" | "package" | "world" => {}
-        "package_named" | "wasm_signature" | "live_types" => {}
-        "id_of" | "canonicalized_id_of" | "name_world_key" | "qualified_name" => {}
-        "implements_interface" | "external_id_value" | "interface_direct_deps" => {}
-        "find_futures_and_streams" | "nth_future_or_stream" | "is_canonical_id" => {}
-        _ => return false,
+        "id_of" => put_text(out, &resolve.id_of(alloc, id)?),
+        "canonicalized_id_of" => put_text(out, &resolve.canonicalized_id_of(alloc, id)?),
+        "is_canonical_id" => {
+            let text = name_of(alloc, row.argument(1), out)?;
+            put_answer(out, resolve.is_canonical_id(id, &text));
+        }
+        "interface_direct_deps" => {
+            put_interface_ids(out, &resolve.interface_direct_deps(alloc, id)?)
+        }
+        _ => put_qualified(resolve.qualified_name(id), out),
     }
-    let mut lines = Lines::new(alloc);
-    let answered = answered(alloc, row, &mut lines);
-    put_answered(out, answered, &lines);
-    true
+    Ok(())
+}
+
+/// The text of a key. That of an interface has to have an id.
+fn put_key_name(
+    alloc: Global,
+    resolve: &Resolve,
+    key: &WorldKey,
+    out: &mut Lines,
+) -> Result<(), Stop> {
+    if let WorldKey::Interface(id) = key {
+        if !resolve.has_interface(*id) || resolve.id_of(alloc, *id)?.is_none() {
+            return Err(bad_row(out, "an interface without an id", ""));
+        }
+    }
+    put_name(out, &resolve.name_world_key(alloc, key)?);
+    out.end();
+    Ok(())
+}
+
+/// The calls on an item of a world, which is asked about. Its key is the first argument.
+fn put_of_item(
+    alloc: Global,
+    resolve: &Resolve,
+    row: &Row<'_>,
+    out: &mut Lines,
+) -> Result<(), Stop> {
+    let key = key_of(alloc, row.argument(0), out)?;
+    let item: WorldItem = asked_of(alloc, row, out)?;
+    if row.call == "external_id_value" {
+        put_text(out, &resolve.external_id_value(alloc, &key, &item)?);
+        return Ok(());
+    }
+    if !is_usable(resolve, &item) {
+        return Err(bad_row(out, "an item of what is not there", row.call));
+    }
+    let found = resolve.implements_interface(&key, &item);
+    put_found(out, 'i', found.map(|id| id.0));
+    Ok(())
+}
+
+/// Whether what an item is of is there.
+pub(crate) fn is_usable(resolve: &Resolve, item: &WorldItem) -> bool
+    ensures { IsTrue result → IsItemIn resolve.now (item_view item.now) }
+{
+    match item {
+        WorldItem::Interface { id, .. } => resolve.has_interface(*id),
+        WorldItem::Function(function) => resolve.has_function(function),
+        WorldItem::TypeItem { id } => resolve.has_type(*id),
+    }
+}
+
+/// The calls on a function, which is asked about.
+fn put_of_function(
+    alloc: Global,
+    resolve: &Resolve,
+    row: &Row<'_>,
+    out: &mut Lines,
+) -> Result<(), Stop> {
+    let function: Function = asked_of(alloc, row, out)?;
+    if !resolve.has_function(&function) {
+        return Err(bad_row(out, "a function that is not usable", row.call));
+    }
+    match row.call {
+        "find_futures_and_streams" => {
+            put_type_ids(out, &function.find_futures_and_streams(alloc, resolve)?);
+        }
+        "nth_future_or_stream" => {
+            let n = number_of(out, "no number", row.argument(0))?;
+            let found = function.nth_future_or_stream(resolve, n);
+            put_found(out, 't', found.map(|id| id.0));
+        }
+        _ => {
+            let abi = abi_of(row.argument(0), out)?;
+            put_signature(out, &resolve.wasm_signature(alloc, abi, &function)?);
+        }
+    }
+    Ok(())
+}
+
+/// The answer to a call on a `Resolve`.
+fn put_of_resolve(
+    alloc: Global,
+    resolve: &Resolve,
+    row: &Row<'_>,
+    out: &mut Lines,
+) -> Result<(), Stop> {
+    match row.call {
+        "resolve_build" => put_built(resolve, out),
+        "has" => {
+            let holds = has(resolve, row.argument(0), out)?;
+            put_answer(out, holds);
+        }
+        "has_function" => {
+            let function: Function = asked_of(alloc, row, out)?;
+            put_answer(out, resolve.has_function(&function));
+        }
+        "type_def" | "interface" | "package" | "world" => {
+            put_part(resolve, row.argument(0), out)?;
+        }
+        "package_named" => {
+            let name: PackageName = asked_of(alloc, row, out)?;
+            put_found(out, 'p', resolve.package_named(&name).map(|id| id.0));
+        }
+        "name_world_key" => {
+            put_key_name(alloc, resolve, &key_of(alloc, row.argument(0), out)?, out)?;
+        }
+        "implements_interface" | "external_id_value" => put_of_item(alloc, resolve, row, out)?,
+        "find_futures_and_streams" | "nth_future_or_stream" | "wasm_signature" => {
+            put_of_function(alloc, resolve, row, out)?;
+        }
+        "live_types" => live_call(alloc, resolve, &row.input, out)?,
+        _ => put_of_interface(alloc, resolve, row, out)?,
+    }
+    Ok(())
+}
+
+/// Builds the `Resolve` of a row, and answers its call on it; or says why there is none.
+pub(crate) fn on_resolve(alloc: Global, row: &Row<'_>, out: &mut Lines) -> Result<(), Stop> {
+    let resolve = resolve_of(alloc, &row.input, out)?;
+    put_of_resolve(alloc, &resolve, row, out)
+}
+
+/// `resolve_build_with KEY`: builds the `Resolve` of a row, of which the first world imports under a key what is asked about.
+pub(crate) fn build_with(alloc: Global, row: &Row<'_>, out: &mut Lines) -> Result<(), Stop> {
+    let key = key_of(alloc, row.argument(0), out)?;
+    let item: WorldItem = asked_of(alloc, row, out)?;
+    let text = json_text(alloc, &row.input, out)?;
+    let Document { mut parts, .. } = made(document_from_json(alloc, row_seed(), &text), out)?;
+    if let Some(world) = parts.worlds.first_mut() {
+        world.imports.insert(key, item)?;
+    }
+    put_built(&made(Resolve::build(alloc, parts), out)?, out);
+    Ok(())
 }

@@ -1,7 +1,7 @@
-//! Names, types and keys, as fixtures write them.
+//! Names, ids and keys, as lines show them.
 
 use wc_lines::lines::Lines;
-use wc_resolve::{PackageName, TypeOwner, WitType, WorldKey};
+use wc_resolve::{PackageName, WorldKey};
 
 fn is_plain_character(c: char) -> bool {
     c.is_ascii_alphanumeric()
@@ -73,62 +73,11 @@ pub fn put_id(out: &mut Lines, letter: char, index: u32) {
     write!(out, "{letter}{index}");
 }
 
-fn primitive(ty: WitType) -> &'static str {
-    match ty {
-        WitType::Bool => "bool",
-        WitType::U8 => "u8",
-        WitType::U16 => "u16",
-        WitType::U32 => "u32",
-        WitType::U64 => "u64",
-        WitType::S8 => "s8",
-        WitType::S16 => "s16",
-        WitType::S32 => "s32",
-        WitType::S64 => "s64",
-        WitType::F32 => "f32",
-        WitType::F64 => "f64",
-        WitType::Char => "char",
-        WitType::String => "string",
-        WitType::ErrorContext => "error-context",
-        WitType::Id(_) => "",
-    }
-}
-
-/// Appends the id of a type, or the word of a primitive one.
-pub fn put_type(out: &mut Lines, ty: WitType) {
-    match ty {
-        WitType::Id(id) => put_id(out, 't', id.0),
-        _ => out.push_str(primitive(ty)),
-    }
-}
-
-/// Appends a type, or `_` where there is none.
-pub fn put_payload(out: &mut Lines, ty: Option<WitType>) {
-    match ty {
-        Some(ty) => put_type(out, ty),
-        None => out.push_str("_"),
-    }
-}
-
 /// Appends a world's key: a name, or the id of an interface.
 pub fn put_key(out: &mut Lines, key: &WorldKey) {
     match key {
         WorldKey::Name(name) => put_name(out, name),
         WorldKey::Interface(id) => put_id(out, 'i', id.0),
-    }
-}
-
-/// Appends ` in ID`; nothing of a type without an owner.
-pub fn put_owner(out: &mut Lines, owner: TypeOwner) {
-    match owner {
-        TypeOwner::None => {}
-        TypeOwner::World(id) => {
-            out.push_str(" in ");
-            put_id(out, 'w', id.0);
-        }
-        TypeOwner::Interface(id) => {
-            out.push_str(" in ");
-            put_id(out, 'i', id.0);
-        }
     }
 }
 

@@ -1,11 +1,9 @@
-//! The calls on core signatures.
+//! Core signatures.
 
-use crate::bad::Bad;
-use crate::functions::complete_function;
-use crate::stop::Stop;
-use crate::words::Words;
+use wc_lines::input::{Stop, bad_row};
 use wc_lines::lines::Lines;
-use wc_resolve::{AbiVariant, Resolve, WasmSignature, WasmType};
+use wc_lines::table::named;
+use wc_resolve::{AbiVariant, WasmSignature, WasmType};
 
 /// The words of the variants.
 const VARIANTS: [(&str, AbiVariant); 5] = [
@@ -19,14 +17,12 @@ const VARIANTS: [(&str, AbiVariant); 5] = [
     ),
 ];
 
-/// Takes the word of a variant of the ABI.
-pub fn abi_variant(words: &mut Words) -> Result<AbiVariant, Bad> {
-    for (word, abi) in VARIANTS {
-        if words.take(word) {
-            return Ok(abi);
-        }
+/// The variant of the ABI that a word names.
+pub fn abi_of(word: &str, out: &mut Lines) -> Result<AbiVariant, Stop> {
+    match named(&VARIANTS, word) {
+        Some(abi) => Ok(abi),
+        None => Err(bad_row(out, "no AbiVariant", word)),
     }
-    Err(Bad::Line("no AbiVariant"))
 }
 
 fn core_word(ty: WasmType) -> &'static str {
@@ -51,7 +47,7 @@ fn put_core(out: &mut Lines, word: &str, types: &[WasmType]) {
 }
 
 /// The parameters and the results, a line each, and a line for each flag that is set.
-fn put_signature(out: &mut Lines, signature: &WasmSignature) {
+pub(crate) fn put_signature(out: &mut Lines, signature: &WasmSignature) {
     put_core(out, "params", &signature.params);
     put_core(out, "results", &signature.results);
     if signature.indirect_params {
@@ -60,20 +56,4 @@ fn put_signature(out: &mut Lines, signature: &WasmSignature) {
     if signature.retptr {
         out.push_str("retptr\n");
     }
-}
-
-/// The core signature of a function.
-pub fn wasm_signature<'a>(
-    resolve: &Resolve,
-    words: &mut Words,
-    out: &mut Lines,
-) -> Result<(), Stop<'a>> {
-    let abi = abi_variant(words)?;
-    let function = complete_function(words)?;
-    if !resolve.has_function(&function) {
-        return Err(Stop::Missing("a function that is not usable"));
-    }
-    let signature = resolve.wasm_signature(words.alloc, abi, &function)?;
-    put_signature(out, &signature);
-    Ok(())
 }

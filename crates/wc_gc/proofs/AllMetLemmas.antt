@@ -15,7 +15,7 @@ use Rattle.wc_gc.specs.Exports.{export_names, is_exported, kept_exports, missing
 use Rattle.wc_gc.proofs.ChainLemmas.{same_names as equal}
 use Rattle.wc_gc.proofs.ExportLemmas.{all_kept, differ as tests}
 use Rattle.wc_gc.proofs.KeptExportLemmas.{names_of_pairs, pairs_kept, pairs_named}
-use Rattle.wc_gc.proofs.LiveItemLemmas.{contains_mapped}
+use Rattle.wc_graph.proofs.ListLemmas.{contains_mapped}
 use Rattle.wc_gc.proofs.KeptOrderLemmas.{Differ, flip}
 use Rattle.wc_gc.proofs.RequiredExportLemmas.{kept_required}
 

@@ -9,7 +9,7 @@ use Rattle.std.proofs.lemmas.List.{get_or_past, get_or-set_same, get_or-set_othe
 use Rattle.std.proofs.lemmas.Nat.{pow_pos}
 use Rattle.wc_read.proofs.NumbersLemmas.{shl_without_overflow}
 use Rattle.wc_gc.specs.Bits.{bit_of}
-use Rattle.wc_gc.specs.Live.{Inserts}
+use Rattle.wc_graph.specs.Growth.{Inserts}
 
 -- a bit that is not set is zero under its mask
 mask_zero : (b p : ℕ) → b < 2 → 0 < p → (b * p == 0) ≡ not (b == 1)

@@ -21,8 +21,8 @@ use Rattle.wc_read.specs.declared.items.Def.TheVariants.{Import, Local}
 use Rattle.wc_read.specs.declared.items.Item.{Item}
 use Rattle.wc_read.specs.declared.operators.Space.TheVariants.{Memories}
 use Rattle.wc_write.specs.Operators.{instr_text}
-use Rattle.wc_write.specs.BuiltValues.{def_seen}
-use Rattle.wc_gc.specs.Decoded.{func_code}
+use Rattle.wc_read.specs.Items.{def_seen}
+use Rattle.wc_read.specs.Decoded.{func_code}
 use Rattle.wc_gc.specs.Image.{renumber_code}
 use Rattle.wc_gc.specs.Private.BodyCuts.{Adds, AreCut, AreCutAt, AreCutTo, AreWithin, IsBodyCut, IsCutIfKept, IsFuncCut, IsFuncCutIfKept, IsOpenAt, Passes, ReadFuncs, operator_after, stretch_text, stretches_in, text_left}
 use Rattle.wc_gc.specs.Private.KeptBodies.{AreBodiesCut, IsCutAt, IsFuncCutAt, stretches_at}
@@ -30,6 +30,7 @@ use Rattle.wc_gc.specs.declared.body_cuts.BodyCut.{BodyCut}
 use Rattle.wc_gc.specs.declared.body_cuts.BodyCuts.{BodyCuts}
 use Rattle.wc_gc.specs.declared.body_cuts.Stretch.{Stretch}
 use Rattle.wc_gc.proofs.RewriteLemmas.{passed_text_left}
+use Rattle.wc_graph.proofs.ListLemmas.{get_set_other}
 
 -- no operators, and those that are left
 pub none_run : (left : Option (List InstrValue)) → left ≡ run_and_left [] left
@@ -130,13 +131,6 @@ get_set_same : {X : Type 0} (xs : List X) (n : ℕ) (x y : X) → slice_get (set
 get_set_same [] n x y e = absurd cc
 get_set_same (z ∷ xs) zero x y e = sym (same_Some x y e)
 get_set_same (z ∷ xs) (suc n) x y e = get_set_same xs n x y e
-
-pub get_set_other : {X : Type 0} (xs : List X) (n k : ℕ) (x : X) → k ≢ n → slice_get (set xs n x) k ≡ slice_get xs k
-get_set_other [] n k x d = refl
-get_set_other (z ∷ xs) zero zero x d = absurd (d refl)
-get_set_other (z ∷ xs) zero (suc k) x d = refl
-get_set_other (z ∷ xs) (suc n) zero x d = refl
-get_set_other (z ∷ xs) (suc n) (suc k) x d = get_set_other xs n k x (λ e. d (ap suc e))
 
 -- stretches that are there stay where they are
 part_stays : (a b : List Stretch) (from count : ℕ) → from + count ≤ length a → take count (drop from (a ++ b)) ≡ take count (drop from a)

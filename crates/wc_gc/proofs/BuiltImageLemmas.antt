@@ -23,13 +23,14 @@ use Rattle.wc_read.specs.declared.operators.Space.TheVariants.{Types, Funcs, Tab
 use Rattle.wc_read.specs.declared.types.GlobalType.{GlobalType}
 use Rattle.wc_read.specs.declared.types.ImportType.TheVariants.{Func, Table, Memory, Global}
 use Rattle.wc_write.specs.Bodies.{body_text}
-use Rattle.wc_write.specs.BuiltValues.{def_seen, item_seen, written_module, IsExport, IsWritableMemory, IsInitialiser, HasInitialiser, HasImportsFirst, IsBuilt, IsWritable}
+use Rattle.wc_read.specs.Items.{def_seen, item_seen}
+use Rattle.wc_write.specs.BuiltValues.{written_module, IsExport, IsWritableMemory, IsInitialiser, HasInitialiser, HasImportsFirst, IsBuilt, IsWritable}
 use Rattle.wc_write.specs.Modules.{BuiltValue, built_imports, operators_text}
 use Rattle.wc_write.specs.Spaces.{imports_of, defined_contents}
 use Rattle.wc_write.specs.Values.{IsU32, IsBody, IsFuncType, IsImport, IsTable, IsValType}
 use Rattle.wc_write.proofs.SpaceLemmas.{map_again}
-use Rattle.wc_gc.specs.Decoded.{ItemIndex, decode, exported_item, is_in, space_of}
-use Rattle.wc_gc.specs.Entries.{Entry, def_refs, entry_at, entry_refs, func_entry, global_entry, init_refs, no_entry, refs_in, table_entry, type_entry, val_type_refs}
+use Rattle.wc_read.specs.Decoded.{ItemIndex, decode, exported_item, is_in, space_of}
+use Rattle.wc_read.specs.Entries.{Entry, def_refs, entry_at, entry_refs, func_entry, global_entry, init_refs, no_entry, refs_in, table_entry, type_entry, val_type_refs}
 use Rattle.wc_gc.specs.Image.{rank, kept_items, new_export, new_table}
 use Rattle.wc_gc.specs.Laws.{KeepsBits}
 use Rattle.wc_gc.specs.InRange.{is_item_in_range, is_def_in_range, is_entry_in_range}

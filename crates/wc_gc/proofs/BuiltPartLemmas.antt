@@ -18,7 +18,8 @@ use Rattle.wc_write.specs.Spaces.{imports_of, import_by, DefinedValue, defined, 
 use Rattle.wc_write.specs.Text.{FitsSize, global_text}
 use Rattle.wc_write.specs.Values.{IsImport, IsImportType}
 use Rattle.wc_write.specs.Modules.{BuiltValue, SizesFit, SizeFits, OptionalSection, optional_sections, operators_text, defined_global_text}
-use Rattle.wc_write.specs.BuiltValues.{def_seen, item_seen, is_import, is_imported, IsInitialiser, HasInitialiser}
+use Rattle.wc_read.specs.Items.{def_seen, item_seen}
+use Rattle.wc_write.specs.BuiltValues.{is_import, is_imported, IsInitialiser, HasInitialiser}
 use Rattle.wc_write.proofs.VectorTextLemmas.{back_shorter}
 use Rattle.wc_write.proofs.ContentLemmas.{all_item_sizes_fit}
 use Rattle.wc_gc.specs.Counts.{count_below}

@@ -1,29 +1,26 @@
 -- The exports that are kept are the required ones, so what is kept has a chain from one.
-use Rattle.std.proofs.Common.{◌≡◌, ◌≢◌, ℕ, ◌-◌, ◌<◌, ◌≤◌, List, [], ◌∷◌, length, map, get_or, refl, sym, ◌∙◌, ap, subst, Bool, true, false, ◌||◌, not, cond}
-use Rattle.std.proofs.Common.{Some, None, ltb-true, arith, inl, inr}
-use Rattle.std.specs.Prelude.{AllPairs, fold, filter, nat_lt, IsTrue, Contains, ◌↔◌}
+use Rattle.std.proofs.Common.{◌≡◌, ◌≢◌, ℕ, ◌-◌, ◌<◌, ◌≤◌, List, [], ◌∷◌, length, get_or, refl, sym, ◌∙◌, ap, subst, Bool, true, false, ◌||◌, not, cond, Some, None, ltb-true, arith, inl, inr}
+use Rattle.std.specs.Prelude.{AllPairs, fold, nat_lt, Contains, ◌↔◌}
 use Rattle.std.specs.List.{AllByRecursion, list_any, position_or_len, swap_remove}
 use Rattle.std.specs.Option.{option_map_or}
 use Rattle.std.specs.Str.{bytes_eq}
 use Rattle.std.proofs.lemmas.Bool.{cases_lt, ltb-false, true≢false, false_from_ne_true, or_parts}
 use Rattle.std.proofs.lemmas.Bool.Decides.{eqb_tells}
-use Rattle.std.proofs.lemmas.List.{get_or-map, length-map}
-use Rattle.std.proofs.lemmas.List.Elements.{All-contains, All-from_recursion, filter_passes, recursion_from_All}
+use Rattle.std.proofs.lemmas.List.Elements.{filter_passes, recursion_from_All}
 use Rattle.std.proofs.lemmas.List.Sums.{fails_before_first, passes_at_first}
-use Rattle.std.proofs.lemmas.Option.{get_or_from_slice_get}
 use Rattle.std.proofs.lemmas.Slice.Eq.{bytes_eq-Decides}
 use Rattle.wc_read.specs.Exports.{ExportValue}
 use Rattle.wc_read.specs.Modules.{IsModule, ModuleValue}
 use Rattle.wc_gc.specs.Chains.{HasChain, KeptExportsAreRequired, KeptItemsHaveChains}
-use Rattle.wc_gc.specs.Decoded.{ItemIndex, decode, exported_item}
-use Rattle.wc_gc.specs.Entries.{refs_in}
+use Rattle.wc_read.specs.Decoded.{ItemIndex, decode, exported_item}
+use Rattle.wc_read.specs.Entries.{refs_in}
 use Rattle.wc_gc.specs.Exports.{dropped_names, export_names, is_required, kept_exports, without}
 use Rattle.wc_gc.specs.LiveItems.{IsLive}
-use Rattle.wc_gc.specs.Reached.{IsPath}
+use Rattle.wc_graph.specs.Reached.{IsPath}
 use Rattle.wc_gc.proofs.BuiltPartLemmas.{each_weaker}
 use Rattle.wc_gc.proofs.KeptExportLemmas.{at_hole, at_other, bounded_after, pairs_named, pairs_without}
-use Rattle.wc_gc.proofs.KeptItemLemmas.{get_some}
-use Rattle.wc_gc.proofs.LiveItemLemmas.{contains_mapped, each_named}
+use Rattle.wc_graph.proofs.ListLemmas.{contains_mapped}
+use Rattle.wc_graph.proofs.ListLemmas.{in_all, in_filter, contains_unmapped}
 
 -- lists
 
@@ -34,19 +31,6 @@ any_fails p (x ∷ xs) h = let none = or_parts (p x) (list_any p xs) h in (none.
 pub fails_any : {A : Type 0} (p : A → Bool) (xs : List A) → AllByRecursion (λ x. p x ≡ false) xs → list_any p xs ≡ false
 fails_any p [] h = refl
 fails_any p (x ∷ xs) h = ap (λ b. b || list_any p xs) h.0 ∙ fails_any p xs h.1
-
-pub in_all : {A : Type 0} (P : A → Type 0) (xs : List A) (x : A) → AllByRecursion P xs → Contains xs x → P x
-in_all P xs x h c = All-contains P xs x (All-from_recursion P xs h) c
-
-pub in_filter : {A : Type 0} (p : A → Bool) (xs : List A) (x : A) → Contains xs x → p x ≡ true → Contains (filter p xs) x
-in_filter p xs x c h = in_all (λ y. IsTrue (p y) → Contains (filter p xs) y) xs x (each_named p (Contains (filter p xs)) xs (λ y k. k)) c h
-
-pub contains_unmapped : {A B : Type 0} (f : A → B) (xs : List A) (y : B) → Contains (map f xs) y → (x : A) × Contains xs x × (f x ≡ y)
-contains_unmapped f xs y c =
-    let below : c.0 < length xs = let l = length-map xs f in let h = c.1 in omega (arith, l, h) in
-    let x = get_some xs c.0 below in
-    let at = get_or_from_slice_get xs c.0 x.0 x.0 x.1 in
-    (x.0, (c.0, below, at), sym (ap f at) ∙ (sym (get_or-map f xs c.0 x.0 y below) ∙ c.2))
 
 -- names
 

@@ -9,11 +9,11 @@ use Rattle.wc_read.specs.Exports.{ExportValue}
 use Rattle.wc_read.specs.Modules.{ModuleValue}
 use Rattle.wc_read.specs.Types.{FuncTypeValue}
 use Rattle.wc_read.specs.declared.operators.Space.TheVariants.{Types, Funcs, Tables, Memories, Globals}
-use Rattle.wc_write.specs.BuiltValues.{item_seen}
+use Rattle.wc_read.specs.Items.{item_seen}
 use Rattle.wc_gc.specs.AddedCode.{empty_type, growing_body, realloc_type, stack_body}
-use Rattle.wc_gc.specs.Decoded.{FuncCode, ItemIndex, decode, is_in, is_code}
+use Rattle.wc_read.specs.Decoded.{FuncCode, ItemIndex, decode, is_in, is_code}
 use Rattle.wc_gc.specs.Edit.{EditedModule, called_realloc, growing_func, growing_position, import_func, lazy_func, lazy_position, memory_of, one_if, only_if, stack_of, start_func, start_position, state_of, types_added}
-use Rattle.wc_gc.specs.Entries.{body_refs, code_body_refs, func_refs, func_type_refs}
+use Rattle.wc_read.specs.Entries.{body_refs, code_body_refs, func_refs, func_type_refs}
 use Rattle.wc_gc.specs.Found.{FoundView, found_in, is_empty}
 use Rattle.wc_gc.specs.Parts.{SettingsView, first_of, is_any, is_lazy, last_of, parts_of}
 use Rattle.wc_gc.specs.Unfolding.{in_image}

@@ -15,12 +15,13 @@ use Rattle.wc_read.specs.Modules.{ModuleValue, IsModule, count_of}
 use Rattle.wc_read.specs.Types.{FuncTypeValue}
 use Rattle.wc_read.specs.declared.operators.Space.TheVariants.{Types, Funcs, Tables, Memories, Globals}
 use Rattle.wc_read.proofs.OptionsLemmas.{some_same}
-use Rattle.wc_write.specs.BuiltValues.{def_seen, item_seen, IsWritable}
+use Rattle.wc_read.specs.Items.{def_seen, item_seen}
+use Rattle.wc_write.specs.BuiltValues.{IsWritable}
 use Rattle.wc_write.proofs.WritableModuleLemmas.{spelled_writable}
 use Rattle.wc_gc.specs.Causes.{DecidesLive, has_page_size_at}
-use Rattle.wc_gc.specs.Decoded.{DecodedModule, FuncCode, ItemIndex, decode, exported_item, is_in, size_of, is_code}
+use Rattle.wc_read.specs.Decoded.{DecodedModule, FuncCode, ItemIndex, decode, exported_item, is_in, size_of, is_code}
 use Rattle.wc_gc.specs.Edit.{EditedModule, edit, edited_def, growing_code, is_exported_func, lazy_position, memory_of, one_if, replaced, with_call}
-use Rattle.wc_gc.specs.Entries.{body_refs, code_refs, def_refs, entry_at, entry_refs, func_entry, func_refs, memory_entry, no_entry, refs_in, table_entry, type_entry, val_type_refs, func_type_refs}
+use Rattle.wc_read.specs.Entries.{body_refs, code_refs, def_refs, entry_at, entry_refs, func_entry, func_refs, memory_entry, no_entry, refs_in, table_entry, type_entry, val_type_refs, func_type_refs}
 use Rattle.wc_gc.specs.Found.{FoundView, found_in, is_empty, is_realloc, is_realloc_at, main_module}
 use Rattle.wc_gc.specs.Exports.{kept_exports}
 use Rattle.wc_gc.specs.Parts.{SettingsView, adds_growing, is_any, parts_of}
@@ -34,17 +35,18 @@ use Rattle.wc_gc.proofs.EditedFuncLemmas.{empty_is}
 use Rattle.wc_gc.proofs.EditedIndexLemmas.{cond_has, edited_at, was_read}
 use Rattle.wc_gc.proofs.ExportLemmas.{all_kept}
 use Rattle.wc_gc.proofs.FoundLemmas.{realloc_seen}
-use Rattle.wc_gc.proofs.ImageUnfoldingLemmas.{back_at as get_back, image_unfolds}
+use Rattle.wc_graph.proofs.ListLemmas.{back_at as get_back}
+use Rattle.wc_gc.proofs.ImageUnfoldingLemmas.{image_unfolds}
 use Rattle.wc_gc.proofs.InitRefLemmas.{global_coded, global_names_there}
 use Rattle.wc_gc.proofs.InitTypeLemmas.{all-left, all-right}
-use Rattle.wc_gc.proofs.KeptItemLemmas.{get_some}
+use Rattle.wc_graph.proofs.ListLemmas.{get_some}
 use Rattle.wc_gc.proofs.NamedThereLemmas.{There, def_there, table_names_there, type_names_there}
 use Rattle.wc_gc.proofs.LiveItemLemmas.{live_named, named_kept}
 use Rattle.wc_gc.proofs.LivenessLemmas.{export_there}
 use Rattle.wc_gc.proofs.ReachLemmas.{there_from}
 use Rattle.wc_gc.proofs.SpelledItemLemmas.{all_joined}
 use Rattle.wc_gc.proofs.TrimmedTextLemmas.{live_in_range}
-use Rattle.wc_gc.proofs.TypedGlobalLemmas.{get_front}
+use Rattle.wc_graph.proofs.ListLemmas.{get_front}
 use Rattle.wc_gc.proofs.ClosedAddedLemmas.{AreParts, AreThere, Has, IsClosedFunc, added_types_name_none, added_closed, found, func_has, growing_names, live_has, memory_has, parts_are, with_added}
 
 -- what is live is there

@@ -12,10 +12,10 @@ use Rattle.wc_read.specs.Renumbering.{renumber_func_type}
 use Rattle.wc_read.specs.declared.operators.Space.TheVariants.{Types, Funcs, Tables, Memories, Globals}
 use Rattle.wc_write.specs.BuiltValues.{is_defined}
 use Rattle.wc_gc.specs.Causes.{IsFoundCause, called_reallocs, grows_memory, has_page_size, has_page_size_at, has_realloc_type, is_realloc_type_at}
-use Rattle.wc_gc.specs.Decoded.{DecodedModule, FuncCode, ItemIndex}
+use Rattle.wc_read.specs.Decoded.{DecodedModule, FuncCode, ItemIndex}
 use Rattle.wc_gc.specs.Edit.{edit}
 use Rattle.wc_gc.specs.EditedImage.{FitsBits, edited_image}
-use Rattle.wc_gc.specs.Entries.{entry_refs, func_entry, no_entry}
+use Rattle.wc_read.specs.Entries.{entry_refs, func_entry, no_entry}
 use Rattle.wc_gc.specs.Found.{FoundView, found_in, is_realloc_type}
 use Rattle.wc_gc.specs.Image.{rank}
 use Rattle.wc_gc.specs.Parts.{SettingsView, adds_growing, is_lazy, last_of}
@@ -30,7 +30,8 @@ use Rattle.wc_gc.proofs.AddedUnderLemmas.{last_has}
 use Rattle.wc_gc.proofs.BuiltPartLemmas.{each_weaker}
 use Rattle.wc_gc.proofs.CutFoundLemmas.{AreRanks, cut, cut_is, found_moved, parts_same, same_length, test_at, test_seen}
 use Rattle.wc_gc.proofs.CutImageLemmas.{image_is_of_cut, last_mapped}
-use Rattle.wc_gc.proofs.KeptItemLemmas.{get_some, rank_at}
+use Rattle.wc_graph.proofs.ListLemmas.{get_some}
+use Rattle.wc_gc.proofs.KeptItemLemmas.{rank_at}
 use Rattle.wc_gc.proofs.TypeTestLemmas.{realloc_type_under}
 
 -- lists

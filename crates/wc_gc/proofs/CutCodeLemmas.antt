@@ -21,9 +21,9 @@ use Rattle.wc_read.specs.declared.types.ValType.{ValType}
 use Rattle.wc_read.specs.declared.types.ValType.TheVariants.{I32, I64, F32, F64, V128, FuncRef, ExternRef, FuncRefNonNull, ExternRefNonNull, TypeRef}
 use Rattle.wc_read.specs.declared.types.GlobalType.{GlobalType}
 use Rattle.wc_read.specs.declared.types.TableType.{TableType}
-use Rattle.wc_write.specs.BuiltValues.{def_seen}
-use Rattle.wc_gc.specs.Decoded.{GlobalCode, ItemIndex}
-use Rattle.wc_gc.specs.Entries.{code_body_refs, code_refs, def_refs, func_type_refs, global_refs, init_refs, instr_refs, refs_list, type_items, val_type_refs}
+use Rattle.wc_read.specs.Items.{def_seen}
+use Rattle.wc_read.specs.Decoded.{GlobalCode, ItemIndex}
+use Rattle.wc_read.specs.Entries.{code_body_refs, code_refs, def_refs, func_type_refs, global_refs, init_refs, instr_refs, refs_list, type_items, val_type_refs}
 use Rattle.wc_gc.specs.Image.{new_global, new_init, new_table, renumber_body, renumber_code, renumber_locals}
 use Rattle.wc_gc.specs.Unfolding.{renumber_global}
 use Rattle.wc_gc.proofs.CutListLemmas.{split_all}

@@ -18,7 +18,7 @@ use Rattle.wc_read.specs.Renumbering.{renumber_func_type}
 use Rattle.wc_read.specs.declared.operators.Space.TheVariants.{Types, Funcs, Tables, Memories, Globals}
 use Rattle.wc_gc.specs.Counts.{count_below}
 use Rattle.wc_gc.specs.Cut.{cut_of, ranks_named, part_names}
-use Rattle.wc_gc.specs.Decoded.{DecodedModule, FuncCode, GlobalCode, ItemIndex}
+use Rattle.wc_read.specs.Decoded.{DecodedModule, FuncCode, GlobalCode, ItemIndex}
 use Rattle.wc_gc.specs.Found.{FoundView, allocation_state, found_in, has_name, is_empty_type, is_empty_type_at, is_mutable_i32, is_mutable_i32_at}
 use Rattle.wc_gc.specs.Found.{is_named_at, is_realloc, is_realloc_at, stack_pointer}
 use Rattle.wc_gc.specs.Image.{kept_items, kept_of, new_export, new_table, rank, renumber_body}
@@ -30,7 +30,8 @@ use Rattle.wc_gc.proofs.AddedUnderLemmas.{IsMember, members}
 use Rattle.wc_gc.proofs.BuiltPartLemmas.{each_weaker}
 use Rattle.wc_gc.proofs.CutListLemmas.{AreSameTests, and_of_true, filter_moved}
 use Rattle.wc_gc.proofs.FoundLemmas.{realloc_seen}
-use Rattle.wc_gc.proofs.KeptItemLemmas.{get_some, kept_count, rank_at}
+use Rattle.wc_graph.proofs.ListLemmas.{get_some}
+use Rattle.wc_gc.proofs.KeptItemLemmas.{kept_count, rank_at}
 use Rattle.wc_gc.proofs.RankLawLemmas.{counts_differ}
 use Rattle.wc_gc.proofs.TypeTestLemmas.{empty_type_under, mutable_under}
 

@@ -17,16 +17,16 @@ use Rattle.wc_read.specs.Renumbering.{Renumbering, renumber_func_type}
 use Rattle.wc_read.specs.declared.exports.ExportKind.{ExportKind}
 use Rattle.wc_read.specs.declared.exports.ExportKind.TheVariants.{Func, Table, Memory, Global}
 use Rattle.wc_read.specs.declared.operators.Space.TheVariants.{Types, Funcs, Tables, Memories, Globals}
-use Rattle.wc_write.specs.BuiltValues.{def_seen}
+use Rattle.wc_read.specs.Items.{def_seen}
 use Rattle.wc_gc.specs.AddedCode.{call, growing_body, stack_body}
-use Rattle.wc_gc.specs.Decoded.{DecodedModule, FuncCode, GlobalCode, ItemIndex, exported_item}
+use Rattle.wc_read.specs.Decoded.{DecodedModule, FuncCode, GlobalCode, ItemIndex, exported_item}
 use Rattle.wc_gc.specs.Edit.{EditedModule, added_imports, added_funcs, added_types, allocation_code, called_realloc, edit, edited_by, edited_def, edited_func}
 use Rattle.wc_gc.specs.Edit.{growing_code, growing_func, growing_position, import_func, is_exported_func, is_func, lazy_func, lazy_position}
 use Rattle.wc_gc.specs.Edit.{memory_of, only_if, replaced, stack_of, start_func, start_of, start_position, start_type, state_of, types_added}
 use Rattle.wc_gc.specs.Edit.{with_call}
 use Rattle.wc_gc.specs.EditedImage.{edited_image, edited_rank, is_kept_defined, is_kept_import}
-use Rattle.wc_gc.specs.Entries.{body_refs, code_body_refs, def_refs, entry_refs, func_entry, func_refs, func_type_refs, global_entry, global_refs}
-use Rattle.wc_gc.specs.Entries.{no_entry, table_entry, type_entry, val_type_refs}
+use Rattle.wc_read.specs.Entries.{body_refs, code_body_refs, def_refs, entry_refs, func_entry, func_refs, func_type_refs, global_entry, global_refs}
+use Rattle.wc_read.specs.Entries.{no_entry, table_entry, type_entry, val_type_refs}
 use Rattle.wc_gc.specs.Found.{FoundView, found_in, is_realloc, main_module}
 use Rattle.wc_gc.specs.Image.{kept_items, kept_of, new_body, new_export, new_global, new_table, rank, renumber_body}
 use Rattle.wc_gc.specs.Image.{new_func as func_under}

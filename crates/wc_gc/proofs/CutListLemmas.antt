@@ -9,7 +9,8 @@ use Rattle.std.proofs.lemmas.List.Elements.{filter-append}
 use Rattle.wc_gc.specs.Counts.{count_below}
 use Rattle.wc_gc.specs.Image.{kept_items}
 use Rattle.wc_gc.proofs.KeptItemLemmas.{kept_from, kept_is}
-use Rattle.wc_gc.proofs.RankLemmas.{one_more, range_more}
+use Rattle.wc_gc.proofs.RankLemmas.{one_more}
+use Rattle.wc_graph.proofs.ListLemmas.{range_more}
 
 abbrev unit_if : Bool → ℕ
 unit_if b = cond b 1 0

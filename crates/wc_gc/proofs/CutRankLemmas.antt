@@ -11,9 +11,10 @@ use Rattle.wc_read.specs.Bodies.{BodyValue}
 use Rattle.wc_read.specs.Exports.{ExportValue}
 use Rattle.wc_read.specs.Items.{DefValue, imported, local}
 use Rattle.wc_read.specs.declared.operators.Space.TheVariants.{Types, Funcs, Tables, Memories, Globals}
-use Rattle.wc_write.specs.BuiltValues.{def_seen, is_import}
+use Rattle.wc_read.specs.Items.{def_seen}
+use Rattle.wc_write.specs.BuiltValues.{is_import}
 use Rattle.wc_gc.specs.Counts.{count_below}
-use Rattle.wc_gc.specs.Decoded.{DecodedModule, FuncCode, ItemIndex}
+use Rattle.wc_read.specs.Decoded.{DecodedModule, FuncCode, ItemIndex}
 use Rattle.wc_gc.specs.Edit.{EditedModule, edited_by, edited_def, edited_func, growing_code, import_func, is_exported_func, only_if, replaced}
 use Rattle.wc_gc.specs.EditedImage.{added_func_rank, count_defined, count_imports, edited_rank, func_rank, is_kept_defined, is_kept_import}
 use Rattle.wc_gc.specs.Found.{FoundView, is_realloc, main_module}
@@ -25,7 +26,8 @@ use Rattle.wc_gc.specs.declared.parts.Parts.{Parts}
 use Rattle.wc_gc.proofs.CutFoundLemmas.{cut, funcs_kept, types_kept}
 use Rattle.wc_gc.proofs.CutListLemmas.{AreSameTests, and_of_true, count_all, count_moved}
 use Rattle.wc_gc.proofs.ImageLemmas.{enumerated_read}
-use Rattle.wc_gc.proofs.KeptItemLemmas.{get_some, rank_at}
+use Rattle.wc_graph.proofs.ListLemmas.{get_some}
+use Rattle.wc_gc.proofs.KeptItemLemmas.{rank_at}
 use Rattle.wc_gc.proofs.RankLawLemmas.{fewer_below}
 
 cond_same : {A B : Type 0} (f : A → B) (b : Bool) (x y z : A) → f x ≡ f y → f (cond b x z) ≡ f (cond b y z)

@@ -24,12 +24,13 @@ use Rattle.wc_write.specs.Text.{FitsSize, import_text, name_text, import_type_te
 use Rattle.wc_write.specs.Values.{AreBytes, IsU32, IsName, IsImport, IsBody}
 use Rattle.wc_write.specs.Spaces.{imports_of, import_by}
 use Rattle.wc_write.specs.Modules.{BuiltValue, SizesFit, SizeFits, OptionalSection, built_imports, optional_sections}
-use Rattle.wc_write.specs.BuiltValues.{def_seen, item_seen, is_imported, is_defined, HasImportsFirst, IsWritable}
+use Rattle.wc_read.specs.Items.{def_seen, item_seen}
+use Rattle.wc_write.specs.BuiltValues.{is_imported, is_defined, HasImportsFirst, IsWritable}
 use Rattle.wc_write.proofs.ContentLemmas.{all_item_sizes_fit}
 use Rattle.wc_write.proofs.ShortestBodyLemmas.{body_is}
 use Rattle.wc_write.proofs.VectorTextLemmas.{back_shorter, front_shorter}
 use Rattle.wc_gc.specs.AddedCode.{growing_body, stack_body, empty_type, realloc_type}
-use Rattle.wc_gc.specs.Decoded.{FuncCode, ItemIndex, decode}
+use Rattle.wc_read.specs.Decoded.{FuncCode, ItemIndex, decode}
 use Rattle.wc_gc.specs.Edit.{EditedModule, added_funcs, added_imports, added_types, called_realloc, edited_body, edited_def, growing_code, growing_func}
 use Rattle.wc_gc.specs.Edit.{growing_position, import_func, is_exported_func, lazy_func, lazy_position, memory_of, one_if, only_if, replaced, stack_of}
 use Rattle.wc_gc.specs.Edit.{start_func, start_of, start_position, start_type, state_of, types_added, with_call}
@@ -48,11 +49,12 @@ use Rattle.wc_gc.proofs.EditedIndexLemmas.{added_bounded, added_new, added_type,
 use Rattle.wc_gc.proofs.EditedIndexLemmas.{old_type, olds, was_read}
 use Rattle.wc_gc.proofs.EditedTextLemmas.{only_length as only_count}
 use Rattle.wc_gc.proofs.ImageLemmas.{all_kept}
-use Rattle.wc_gc.proofs.ImageUnfoldingLemmas.{back_at as get_back}
+use Rattle.wc_graph.proofs.ListLemmas.{back_at as get_back}
 use Rattle.wc_gc.proofs.InitTypeLemmas.{all-right}
-use Rattle.wc_gc.proofs.KeptItemLemmas.{kept_count, rank_at, two_kinds, get_some}
+use Rattle.wc_gc.proofs.KeptItemLemmas.{kept_count, rank_at, two_kinds}
+use Rattle.wc_graph.proofs.ListLemmas.{get_some}
 use Rattle.wc_gc.proofs.SpellableLemmas.{body_stays}
-use Rattle.wc_gc.proofs.TypedGlobalLemmas.{get_front}
+use Rattle.wc_graph.proofs.ListLemmas.{get_front}
 use Rattle.wc_gc.proofs.SpelledItemLemmas.{HasImport, IfLocal, HaveItems, all_give, all_given, all_joined}
 
 -- names of imports are short, where the contents of sections are

@@ -24,10 +24,11 @@ use Rattle.wc_read.specs.declared.types.TableType.{TableType}
 use Rattle.wc_read.specs.declared.types.MemoryType.{MemoryType}
 use Rattle.wc_read.specs.declared.operators.Space.{Space}
 use Rattle.wc_read.specs.declared.operators.Space.TheVariants.{Types, Funcs, Tables, Memories, Globals}
-use Rattle.wc_write.specs.BuiltValues.{is_defined, is_imported, item_seen}
+use Rattle.wc_write.specs.BuiltValues.{is_defined, is_imported}
+use Rattle.wc_read.specs.Items.{item_seen}
 use Rattle.wc_gc.specs.Bits.{bit_of}
 use Rattle.wc_gc.specs.Counts.{count_below}
-use Rattle.wc_gc.specs.Decoded.{FuncCode, ItemIndex, decoded_module, func_code, global_code, size_of}
+use Rattle.wc_read.specs.Decoded.{FuncCode, ItemIndex, decoded_module, func_code, global_code, size_of}
 use Rattle.wc_gc.specs.Edit.{EditedModule, added_funcs, added_imports, added_types, growing_code, edited_by, edited_func, edited_funcs, is_exported_func}
 use Rattle.wc_gc.specs.Edit.{start_of}
 use Rattle.wc_gc.specs.EditedImage.{edited_image, edited_rank, is_kept_defined, is_kept_import}

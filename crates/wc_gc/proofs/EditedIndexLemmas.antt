@@ -15,9 +15,10 @@ use Rattle.wc_read.specs.Items.{ItemValue, FuncValue}
 use Rattle.wc_read.specs.Modules.{ModuleValue}
 use Rattle.wc_read.specs.Renumbering.{Renumbering}
 use Rattle.wc_read.specs.declared.operators.Space.TheVariants.{Types, Funcs, Tables, Memories, Globals}
-use Rattle.wc_write.specs.BuiltValues.{item_seen, is_imported, is_defined}
+use Rattle.wc_read.specs.Items.{item_seen}
+use Rattle.wc_write.specs.BuiltValues.{is_imported, is_defined}
 use Rattle.wc_gc.specs.Counts.{AreDisjoint, count_below}
-use Rattle.wc_gc.specs.Decoded.{FuncCode, ItemIndex, decode}
+use Rattle.wc_read.specs.Decoded.{FuncCode, ItemIndex, decode}
 use Rattle.wc_gc.specs.Edit.{EditedModule, edited_by, edited_func, is_exported_func}
 use Rattle.wc_gc.specs.EditedImage.{count_defined, count_imports, edited_rank, func_rank, added_func_rank, is_kept_defined, is_kept_import}
 use Rattle.wc_gc.specs.Found.{FoundView}
@@ -27,7 +28,8 @@ use Rattle.wc_gc.specs.Parts.{SettingsView}
 use Rattle.wc_gc.specs.declared.parts.Parts.{Parts}
 use Rattle.wc_gc.proofs.BuiltImageLemmas.{AreNew}
 use Rattle.wc_gc.proofs.ImageLemmas.{enumerated}
-use Rattle.wc_gc.proofs.KeptItemLemmas.{get_some, kept_count, rank_below}
+use Rattle.wc_graph.proofs.ListLemmas.{get_some}
+use Rattle.wc_gc.proofs.KeptItemLemmas.{kept_count, rank_below}
 use Rattle.wc_gc.proofs.SpellableLemmas.{ranks_keep}
 use Rattle.wc_gc.proofs.RankLemmas.{both_below, bounded_below, more_below}
 

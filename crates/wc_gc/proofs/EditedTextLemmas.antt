@@ -8,7 +8,7 @@ use Rattle.std.specs.Option.{option_map_or}
 use Rattle.std.proofs.lemmas.List.{length-append, length-map}
 use Rattle.std.proofs.lemmas.List.Elements.{filter-append}
 use Rattle.std.proofs.lemmas.List.Sums.{length-filter}
-use Rattle.wc_gc.proofs.KeptItemLemmas.{get_some}
+use Rattle.wc_graph.proofs.ListLemmas.{get_some}
 use Rattle.wc_read.specs.Exports.{ExportValue}
 use Rattle.wc_read.specs.Renumbering.{renumber_func_type}
 use Rattle.wc_read.specs.declared.core_module.Module.{Module}
@@ -19,7 +19,7 @@ use Rattle.wc_write.specs.declared.fault.WriteFault.{WriteFault}
 use Rattle.wc_write.specs.declared.fault.WriteFault.TheVariants.{Memory as write_memory, TooLarge as write_too_large}
 use Rattle.wc_gc.specs.AddedCode.{empty_type, realloc_type}
 use Rattle.wc_gc.specs.Counts.{AreDisjoint, count_below}
-use Rattle.wc_gc.specs.Decoded.{DecodedModule, ItemIndex, decoded_module, func_code, size_of}
+use Rattle.wc_read.specs.Decoded.{DecodedModule, ItemIndex, decoded_module, func_code, size_of}
 use Rattle.wc_gc.specs.Edit.{EditedModule, added_types, edit, edited_by, growing_func, import_func, lazy_func, memory_of, one_if, only_if, start_func}
 use Rattle.wc_gc.specs.Edit.{start_position}
 use Rattle.wc_gc.specs.EditedImage.{FitsBits, count_defined, count_imports, edited_image, edited_rank, is_kept_defined, is_kept_import}
@@ -40,7 +40,8 @@ use Rattle.wc_gc.specs.declared.parts.Parts.{Parts}
 use Rattle.wc_gc.proofs.EditedImageLemmas.{edited_length}
 use Rattle.wc_gc.proofs.FoundLemmas.{size_is}
 use Rattle.wc_gc.proofs.ImageLemmas.{kept_yes, kept_no}
-use Rattle.wc_gc.proofs.RankLemmas.{one_more, range_more}
+use Rattle.wc_gc.proofs.RankLemmas.{one_more}
+use Rattle.wc_graph.proofs.ListLemmas.{range_more}
 
 -- what is added
 

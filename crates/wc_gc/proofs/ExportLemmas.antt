@@ -1,28 +1,22 @@
 -- Exports under their names, and one taken out.
-use Rattle.std.proofs.Common.{◌≡◌, ◌≢◌, ℕ, zero, suc, ◌+◌, ◌-◌, ◌<◌, List, [], ◌∷◌, ◌++◌, map, length, take, drop, get_or, set, refl, sym, ◌∙◌, ap, subst, Bool}
+use Rattle.std.proofs.Common.{◌≡◌, ◌≢◌, ℕ, zero, suc, ◌+◌, ◌-◌, ◌<◌, List, [], ◌∷◌, ◌++◌, map, length, take, drop, get_or, set, refl, sym, ◌∙◌, ap, subst, Bool, ◌||◌, String, Global}
 use Rattle.std.proofs.Common.{true, false, cond, not, Option, Some, None, arith}
-use Rattle.std.specs.Prelude.{All, AllPairs, fold, position}
-use Rattle.std.specs.List.{AllByRecursion, swap_remove}
-use Rattle.std.proofs.lemmas.List.Elements.{recursion_from_All, All-take, All-set, All-head}
-use Rattle.std.proofs.lemmas.List.{nil_from_length, length-map, map-set}
+use Rattle.std.specs.Prelude.{All, AllPairs, fold, position, string_bytes, is_some}
+use Rattle.std.specs.List.{AllByRecursion, swap_remove, list_any}
+use Rattle.std.proofs.lemmas.List.Elements.{recursion_from_All, All-take, All-set, All-head, All-from_recursion}
+use Rattle.std.proofs.lemmas.List.{nil_from_length, length-map, map-set, length-take-le, take_more, take-append-drop}
 use Rattle.std.specs.Option.{option_map_or}
 use Rattle.std.specs.Str.{bytes_eq}
 use Rattle.std.specs.Bool.{Decides}
 use Rattle.std.proofs.lemmas.Slice.Eq.{bytes_eq-Decides}
-use Rattle.std.proofs.lemmas.List.{length-take-le, take_more, take-append-drop}
 use Rattle.std.specs.Borrow.{Bor}
 use Rattle.indexmap.specs.IndexMap.{insert_entry}
 use Rattle.wc_read.specs.Exports.{ExportValue, export_value}
 use Rattle.wc_read.specs.declared.exports.Export.{Export}
-use Rattle.wc_read.specs.declared.exports.ExportKind.TheVariants.{Func}
-use Rattle.std.proofs.Common.{◌||◌, String, Global}
-use Rattle.std.specs.Prelude.{string_bytes}
-use Rattle.std.specs.List.{list_any}
 use Rattle.std.proofs.Math.Seq.{drop-cons}
-use Rattle.std.proofs.lemmas.List.Elements.{All-from_recursion}
 use Rattle.std.specs.Map.{lookup}
-use Rattle.std.specs.Prelude.{is_some}
 use Rattle.wc_gc.specs.Exports.{kept_exports, dropped_names, missing_name, is_exported, without, export_entries, AreNamed, is_required, by_name}
+use Rattle.wc_read.proofs.EntryLemmas.{no_export}
 
 -- swapping and mapping
 
@@ -78,10 +72,6 @@ required_is name (k ∷ keys) = ap (λ (b : Bool). bytes_eq name (string_bytes k
 pub drop_more : (es : List Export) (i : ℕ) (d : Export) → i < length es
     → map export_value (drop i es) ≡ export_value (get_or es i d) ∷ map export_value (drop (i + 1) es)
 drop_more es i d h = ap (map export_value) (drop-cons es i d h ∙ ap (λ (n : ℕ). get_or es i d ∷ drop n es) (let e : suc i ≡ i + 1 = omega arith in e))
-
--- a read past the end
-abbrev pub no_export : Export
-no_export = record { name = record { ref_ptr = (0, 0); now = [] }; kind = Func; index = 0 }
 
 -- a turn of the loop
 

@@ -4,15 +4,15 @@ use Rattle.std.proofs.Common.{append_assoc, append-nil}
 use Rattle.std.specs.Prelude.{Contains, ◌↔◌}
 use Rattle.std.proofs.lemmas.Bool.{cases_lt}
 use Rattle.std.proofs.lemmas.List.{get_or_append_left, get_or-append_right, get_or-replicate, get_or_default}
-use Rattle.wc_gc.specs.Decoded.{DecodedModule, ItemIndex}
-use Rattle.wc_gc.specs.Entries.{refs_in}
-use Rattle.wc_gc.specs.Reached.{IsReachedFrom}
-use Rattle.wc_gc.specs.Private.Finders.{AreFound, IsOrdered, IsTree}
-use Rattle.wc_gc.specs.Private.Search.{HasGrown, IsTied}
+use Rattle.wc_read.specs.Decoded.{DecodedModule, ItemIndex}
+use Rattle.wc_read.specs.Entries.{refs_in}
+use Rattle.wc_graph.specs.Reached.{IsReachedFrom}
+use Rattle.wc_graph.specs.Finders.{AreFound, IsOrdered, IsTree}
+use Rattle.wc_graph.specs.Growth.{HasGrown, IsTied}
 use Rattle.wc_gc.proofs.ReachLemmas.{IsAt, reached_at}
-use Rattle.wc_gc.proofs.SearchLemmas.{search_start}
-use Rattle.wc_gc.proofs.ShortestLemmas.{deeper, shortest_start, shortest_step}
-use Rattle.wc_gc.proofs.OrderLemmas.{order_start, order_step}
+use Rattle.wc_graph.proofs.GrowthLemmas.{search_start}
+use Rattle.wc_graph.proofs.ShortestLemmas.{deeper, shortest_start, shortest_step}
+use Rattle.wc_graph.proofs.OrderLemmas.{order_start, order_step}
 
 -- what is in a search is what was found from it
 pub grown_itself : {X : Type 0} (has : X → Bool) (found : List X) → IsTied has found → HasGrown [] has found found

@@ -13,8 +13,8 @@ use Rattle.wc_read.specs.BodyOperators.{body_in, init_in}
 use Rattle.wc_read.specs.declared.items.Item.{Item}
 use Rattle.wc_read.specs.declared.types.GlobalType.{GlobalType}
 use Rattle.wc_read.specs.declared.core_module.Module.{Module}
-use Rattle.wc_write.specs.BuiltValues.{def_seen, item_seen}
-use Rattle.wc_gc.specs.Decoded.{FuncCode, GlobalCode, ItemIndex, func_code, decoded_module, size_of}
+use Rattle.wc_read.specs.Items.{def_seen, item_seen}
+use Rattle.wc_read.specs.Decoded.{FuncCode, GlobalCode, ItemIndex, func_code, decoded_module, size_of}
 use Rattle.wc_gc.specs.Found.{allocation_state, found_in, has_name, is_empty_type_at, is_named_at, is_realloc, is_realloc_at, stack_pointer}
 use Rattle.wc_read.specs.declared.operators.Space.TheVariants.{Types, Funcs, Tables, Memories, Globals}
 use Rattle.wc_read.specs.declared.operators.Space.{Space}

@@ -7,7 +7,7 @@ use Rattle.std.specs.Borrow.{Bor}
 use Rattle.std.proofs.lemmas.Option.{slice_get_past}
 use Rattle.std.proofs.Math.Bool.{and-true, and-false, or-false}
 use Rattle.wc_read.specs.declared.items.Item.{Item}
-use Rattle.wc_gc.specs.Decoded.{FuncCode, func_code}
+use Rattle.wc_read.specs.Decoded.{FuncCode, func_code}
 use Rattle.wc_gc.specs.Private.FuncGroups.{has_func}
 
 -- filled in up to an index

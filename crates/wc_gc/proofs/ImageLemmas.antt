@@ -12,11 +12,11 @@ use Rattle.wc_read.specs.Items.{DefValue, imported, local}
 use Rattle.wc_read.specs.declared.core_module.Module.{Module}
 use Rattle.wc_read.specs.declared.items.Item.{Item}
 use Rattle.wc_read.specs.declared.operators.Space.TheVariants.{Funcs}
-use Rattle.wc_gc.specs.Decoded.{DecodedModule, decoded_module, func_code, is_code}
+use Rattle.wc_read.specs.Decoded.{DecodedModule, decoded_module, func_code, is_code}
 use Rattle.wc_gc.specs.Image.{kept_items}
 use Rattle.wc_gc.specs.InRange.{is_item_in_range, is_def_in_range, is_entry_in_range}
-use Rattle.wc_gc.proofs.ReachLemmas.{func_at}
-use Rattle.wc_gc.proofs.RankLemmas.{range_more}
+use Rattle.wc_read.proofs.EntryLemmas.{func_at}
+use Rattle.wc_graph.proofs.ListLemmas.{range_more}
 
 -- one more index
 

@@ -12,10 +12,10 @@ use Rattle.wc_read.specs.Spaces.{imported_items}
 use Rattle.wc_read.specs.declared.operators.Space.{Space}
 use Rattle.wc_read.specs.declared.types.ImportType.{ImportType}
 use Rattle.wc_write.specs.BuiltValues.{is_import, is_imported}
-use Rattle.wc_gc.specs.RestrictionLaws.{is_in_space, positions_from}
+use Rattle.wc_read.specs.ImportItems.{is_in_space, positions_from}
 use Rattle.wc_gc.proofs.BuiltPartLemmas.{all_at}
 use Rattle.wc_gc.proofs.KeptItemLemmas.{kept_from}
-use Rattle.wc_gc.proofs.TypedGlobalLemmas.{get_front}
+use Rattle.wc_graph.proofs.ListLemmas.{get_front}
 
 -- two lists, item by item
 

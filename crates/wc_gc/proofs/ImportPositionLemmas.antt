@@ -1,25 +1,26 @@
 -- Each import is one item, and each item one import.
-use Rattle.std.proofs.Common.{◌≡◌, ◌≢◌, ℕ, zero, suc, ◌+◌, ◌<◌, ◌≤◌, List, [], ◌∷◌, ◌++◌, length, map, take, drop, get_or, refl, sym, ◌∙◌, ap, subst, Bool, true, false, cond, inl, inr, arith}
+use Rattle.std.proofs.Common.{◌≡◌, ◌≢◌, ℕ, zero, suc, ◌+◌, ◌<◌, ◌≤◌, List, [], ◌∷◌, ◌++◌, length, map, take, drop, refl, sym, ◌∙◌, ap, subst, Bool, true, false, cond, inl, inr, arith}
 use Rattle.std.proofs.Common.{Option, Some, None, set, append-nil}
 use Rattle.std.specs.Prelude.{Contains, IfSome, MatchOption}
 use Rattle.std.specs.List.{slice_get}
 use Rattle.std.specs.Option.{option_map_or}
 use Rattle.std.proofs.lemmas.Bool.{true≢false}
 use Rattle.std.proofs.lemmas.Bool.Decides.{eqb_tells}
-use Rattle.std.proofs.lemmas.List.{get_or-set_same, length-set, take_all, take_more}
+use Rattle.std.proofs.lemmas.List.{length-set, take_all, take_more}
 use Rattle.std.proofs.lemmas.List.Elements.{Contains-push_cases}
-use Rattle.std.proofs.lemmas.Option.{get_or_from_slice_get, same_Some, slice_get-get_or, slice_get_within}
+use Rattle.std.proofs.lemmas.Option.{get_or_from_slice_get, same_Some, slice_get_within}
 use Rattle.wc_read.specs.Imports.{ImportValue, import_value}
 use Rattle.wc_read.specs.declared.types.Import.{Import}
 use Rattle.wc_read.specs.declared.types.ImportType.{ImportType}
 use Rattle.wc_read.specs.declared.types.ImportType.TheVariants.{Func, Table, Memory, Global}
 use Rattle.wc_read.specs.declared.operators.Space.{Space}
 use Rattle.wc_read.specs.declared.operators.Space.TheVariants.{Types, Funcs, Tables, Memories, Globals}
-use Rattle.wc_gc.specs.Decoded.{ItemIndex}
-use Rattle.wc_gc.specs.RestrictionLaws.{IsImportItem, is_in_space, positions_from}
+use Rattle.wc_read.specs.Decoded.{ItemIndex}
+use Rattle.wc_read.specs.ImportItems.{IsImportItem, is_in_space, positions_from}
 use Rattle.wc_gc.specs.Private.ImportPositions.{AreBySpace, import_at}
 use Rattle.wc_gc.specs.declared.import_positions.ImportSpaces.{ImportSpaces}
-use Rattle.wc_gc.proofs.BodyCutLemmas.{get_set_other as set_other}
+use Rattle.wc_graph.proofs.ListLemmas.{get_set_other as set_other}
+use Rattle.wc_graph.proofs.ListLemmas.{set_same}
 
 -- positions are of imports
 
@@ -129,9 +130,6 @@ at_by_space is s (Memories, n) r = ap (λ z. slice_get z n) r.memories
 at_by_space is s (Globals, n) r = ap (λ z. slice_get z n) r.globals
 
 -- lists in which one element is put
-
-pub set_same : {A : Type 0} (xs : List A) (i : ℕ) (v : A) → i < length xs → slice_get (set xs i v) i ≡ Some v
-set_same xs i v h = slice_get-get_or (set xs i v) i v (let l = length-set xs i v in omega (arith, l, h)) ∙ ap Some (get_or-set_same xs i v v h)
 
 -- where the items of imports are, among the first so many of some items
 

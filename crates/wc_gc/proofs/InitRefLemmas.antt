@@ -29,10 +29,11 @@ use Rattle.wc_read.specs.declared.inits.ValueClass.{ValueClass}
 use Rattle.wc_read.specs.declared.inits.ValueClass.TheVariants.{Func as FuncClass}
 use Rattle.wc_read.proofs.DecodingLemmas.{init_found}
 use Rattle.wc_read.proofs.OptionsLemmas.{some_same}
-use Rattle.wc_write.specs.BuiltValues.{def_seen, item_seen, HasInitialiser, IsInitialiser, IsWritable}
+use Rattle.wc_read.specs.Items.{def_seen, item_seen}
+use Rattle.wc_write.specs.BuiltValues.{HasInitialiser, IsInitialiser, IsWritable}
 use Rattle.wc_write.specs.Values.{HasForm, IsInstr}
-use Rattle.wc_gc.specs.Decoded.{ItemIndex, decode, is_in, is_code}
-use Rattle.wc_gc.specs.Entries.{code_refs, def_refs, global_refs, init_refs, instr_refs, val_type_refs}
+use Rattle.wc_read.specs.Decoded.{ItemIndex, decode, is_in, is_code}
+use Rattle.wc_read.specs.Entries.{code_refs, def_refs, global_refs, init_refs, instr_refs, val_type_refs}
 use Rattle.wc_gc.proofs.BuiltPartLemmas.{all_at}
 use Rattle.wc_gc.proofs.InitTypeLemmas.{all-left, all-right, func_code, func_form, global_code, global_form, named_by}
 use Rattle.wc_gc.proofs.NamedThereLemmas.{There, global_type_there}

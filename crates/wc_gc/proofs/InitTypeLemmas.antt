@@ -26,8 +26,8 @@ use Rattle.wc_read.specs.declared.inits.Constant.{Constant}
 use Rattle.wc_read.specs.declared.inits.Constant.TheVariants.{Value, Null, Func, Global, Integer}
 use Rattle.wc_read.proofs.OptionsLemmas.{some_same}
 use Rattle.wc_write.specs.Values.{HasForm, IsInstr}
-use Rattle.wc_gc.specs.Decoded.{ItemIndex}
-use Rattle.wc_gc.specs.Entries.{instr_refs}
+use Rattle.wc_read.specs.Decoded.{ItemIndex}
+use Rattle.wc_read.specs.Entries.{instr_refs}
 use Rattle.wc_gc.specs.Image.{renumber_code}
 
 -- what an initialiser may name: each type and each function that it may name has an index of one in the new scope, and

@@ -10,7 +10,7 @@ use Rattle.std.proofs.lemmas.List.Elements.{All-map, All-weaker, All-contains}
 use Rattle.std.proofs.lemmas.List.{length-map, get_or_default}
 use Rattle.wc_read.specs.declared.operators.Space.{Space}
 use Rattle.wc_read.specs.declared.operators.Space.TheVariants.{Types, Funcs, Tables, Memories, Globals}
-use Rattle.wc_gc.specs.Decoded.{DecodedModule, ItemIndex, size_of}
+use Rattle.wc_read.specs.Decoded.{DecodedModule, ItemIndex, size_of}
 use Rattle.wc_gc.proofs.ExportLemmas.{get-map}
 
 -- the items of all spaces, one space after another

@@ -1,6 +1,5 @@
 -- Kept items, one after another: their ranks, and imports before other items.
-use Rattle.std.proofs.Common.{◌≡◌, ℕ, zero, suc, ◌+◌, ◌<◌, ◌≤◌, List, [], ◌∷◌, ◌++◌, length, map, refl, sym, ◌∙◌, ap, subst, Bool, true, false, cond, not}
-use Rattle.std.proofs.Common.{Option, Some, append-nil, arith}
+use Rattle.std.proofs.Common.{◌≡◌, ℕ, zero, suc, ◌+◌, ◌<◌, ◌≤◌, List, [], ◌∷◌, ◌++◌, length, map, refl, sym, ◌∙◌, ap, subst, Bool, true, false, cond, not, Option, Some, append-nil, arith}
 use Rattle.std.specs.Prelude.{filter}
 use Rattle.std.specs.List.{range_with_len, filter_map, slice_get, cons_option, count_by, AllByRecursion}
 use Rattle.std.proofs.lemmas.List.{map-append}
@@ -12,12 +11,7 @@ use Rattle.wc_read.specs.Items.{ItemValue}
 use Rattle.wc_write.specs.BuiltValues.{is_imported, is_defined, HasImportsFirst}
 use Rattle.wc_gc.specs.Counts.{count_below}
 use Rattle.wc_gc.specs.Image.{kept_items}
-
--- there is an item at each index below the length
-pub get_some : {A : Type 0} (xs : List A) (n : ℕ) → n < length xs → (x : A) × (slice_get xs n ≡ Some x)
-get_some [] n h = absurd (omega arith)
-get_some (x ∷ xs) zero h = (x, refl)
-get_some (x ∷ xs) (suc n) h = get_some xs n (omega arith)
+use Rattle.wc_graph.proofs.ListLemmas.{get_some}
 
 -- the items that are kept, the first of them at an index
 abbrev pub kept_from : {A : Type 0} → (ℕ → Bool) → ℕ → List A → List A

@@ -16,7 +16,8 @@ use Rattle.wc_read.specs.declared.exports.Export.{Export}
 use Rattle.wc_gc.specs.Exports.{export_names, without}
 use Rattle.wc_gc.specs.Private.KeptOrder.{HasPosition}
 use Rattle.wc_gc.specs.declared.kept_order.KeptOrder.{KeptOrder}
-use Rattle.wc_gc.proofs.ExportLemmas.{differ as tests, drop_more, kept_from, map-swap_remove, no_export, required_is, step_dropped}
+use Rattle.wc_gc.proofs.ExportLemmas.{differ as tests, drop_more, kept_from, map-swap_remove, required_is, step_dropped}
+use Rattle.wc_read.proofs.EntryLemmas.{no_export}
 use Rattle.wc_gc.proofs.KeptExportLemmas.{pairs_named, pairs_without}
 
 -- exports of different names

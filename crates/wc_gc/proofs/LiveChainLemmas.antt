@@ -12,21 +12,21 @@ use Rattle.wc_read.specs.Imports.{import_value, import_values}
 use Rattle.wc_read.specs.Modules.{IsModule, ModuleValue, module_value}
 use Rattle.wc_read.specs.declared.core_module.Module.{Module}
 use Rattle.wc_read.specs.declared.types.Import.{Import}
-use Rattle.wc_gc.specs.Decoded.{ItemIndex, decode, decoded_module, exported_item, is_in}
-use Rattle.wc_gc.specs.Entries.{refs_in}
+use Rattle.wc_read.specs.Decoded.{ItemIndex, decode, decoded_module, exported_item, is_in}
+use Rattle.wc_read.specs.Entries.{refs_in}
 use Rattle.wc_gc.specs.InRange.{is_item_in_range}
 use Rattle.wc_gc.specs.Exports.{kept_exports}
 use Rattle.wc_gc.specs.LiveChains.{AreImportChains, IsChainTo, IsFirstName, items_named}
 use Rattle.wc_gc.specs.LiveItems.{HasLiveBody, IsLive}
-use Rattle.wc_gc.specs.Reached.{IsReachedFrom}
-use Rattle.wc_gc.specs.RestrictionLaws.{IsImportItem}
-use Rattle.wc_gc.specs.ImportChains.{IsFinderChain}
-use Rattle.wc_gc.specs.Private.Finders.{AreFound}
+use Rattle.wc_graph.specs.Reached.{IsReachedFrom}
+use Rattle.wc_read.specs.ImportItems.{IsImportItem}
+use Rattle.wc_graph.specs.ShortestChains.{IsFinderChain}
+use Rattle.wc_graph.specs.Finders.{AreFound}
 use Rattle.wc_gc.specs.Private.Roots.{HaveFirstNames}
-use Rattle.wc_gc.specs.Private.Search.{HasGrown}
+use Rattle.wc_graph.specs.Growth.{HasGrown}
 use Rattle.wc_gc.specs.declared.import_chains.Chain.{Chain}
 use Rattle.wc_gc.specs.declared.import_chains.ImportChains.{ImportChains}
-use Rattle.wc_gc.proofs.FinderChainLemmas.{IsWalked, begins_at, finder_chains, found_from_list, in_list, reached_from_list}
+use Rattle.wc_graph.proofs.FinderChainLemmas.{IsWalked, begins_at, finder_chains, found_from_list, in_list, reached_from_list}
 use Rattle.wc_gc.proofs.LivenessLemmas.{roots_there}
 use Rattle.wc_gc.proofs.RootLemmas.{kept_named, named_kept, old_of}
 

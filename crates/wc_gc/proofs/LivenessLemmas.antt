@@ -16,11 +16,11 @@ use Rattle.wc_read.specs.declared.core_module.Module.{Module}
 use Rattle.wc_read.specs.declared.fault.ReadFault.{ReadFault}
 use Rattle.wc_read.specs.declared.fault.ReadFault.TheVariants.{Memory as read_memory, Component}
 use Rattle.wc_read.proofs.ModulesLemmas.{modules_one}
-use Rattle.wc_gc.specs.Decoded.{ItemIndex, decode, decoded_module, exported_item, is_in, size_of, space_of}
-use Rattle.wc_gc.specs.Entries.{refs_in}
+use Rattle.wc_read.specs.Decoded.{ItemIndex, decode, decoded_module, exported_item, is_in, size_of, space_of}
+use Rattle.wc_read.specs.Entries.{refs_in}
 use Rattle.wc_gc.specs.Fault.{of_read}
 use Rattle.wc_gc.specs.Exports.{kept_exports, missing_name}
-use Rattle.wc_gc.specs.Reached.{IsReachedFrom}
+use Rattle.wc_graph.specs.Reached.{IsReachedFrom}
 use Rattle.wc_gc.specs.InRange.{is_item_in_range}
 use Rattle.wc_gc.specs.LiveItems.{IsCount, HasLiveBody, HasUnsupported, IsSupported, IsLive, IsLivenessOf, IsFaultOf, TrimInput, IsLivenessCause, IsFault}
 use Rattle.wc_gc.specs.LiveItems.{order_of}

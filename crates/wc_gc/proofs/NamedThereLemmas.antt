@@ -12,8 +12,8 @@ use Rattle.wc_read.specs.Operators.{InstrValue}
 use Rattle.wc_read.specs.References.{names_segment}
 use Rattle.wc_read.specs.Types.{FuncTypeValue, HasTypeIndex, HaveTypeIndices, type_index, type_indices}
 use Rattle.wc_read.specs.declared.types.ValType.{ValType}
-use Rattle.wc_gc.specs.Decoded.{DecodedModule, FuncCode, ItemIndex, decode, is_in}
-use Rattle.wc_gc.specs.Entries.{body_refs, code_refs, def_refs, entry_refs, func_refs, instr_refs, no_entry, table_entry, type_entry, type_items, val_type_refs}
+use Rattle.wc_read.specs.Decoded.{DecodedModule, FuncCode, ItemIndex, decode, is_in}
+use Rattle.wc_read.specs.Entries.{body_refs, code_refs, def_refs, entry_refs, func_refs, instr_refs, no_entry, table_entry, type_entry, type_items, val_type_refs}
 use Rattle.wc_gc.specs.InRange.{is_operator_in_range, is_body_in_range, is_code_in_range, is_def_in_range}
 use Rattle.wc_gc.proofs.BuiltPartLemmas.{all_at}
 use Rattle.wc_gc.proofs.SpelledItemLemmas.{all_joined}

@@ -12,8 +12,8 @@ use Rattle.wc_read.specs.Types.{FuncTypeValue, HasTypeIndex, HaveTypeIndices, ty
 use Rattle.wc_read.specs.declared.operators.Space.TheVariants.{Types, Tables}
 use Rattle.wc_read.specs.declared.types.ValType.{ValType}
 use Rattle.wc_read.specs.declared.types.ValType.TheVariants.{I32, I64, F32, F64, V128, FuncRef, ExternRef, FuncRefNonNull, ExternRefNonNull, TypeRef}
-use Rattle.wc_gc.specs.Decoded.{ItemIndex, decode}
-use Rattle.wc_gc.specs.Entries.{entry_at, func_type_refs, no_entry, table_entry, type_entry, type_items, val_type_refs}
+use Rattle.wc_read.specs.Decoded.{ItemIndex, decode}
+use Rattle.wc_read.specs.Entries.{entry_at, func_type_refs, no_entry, table_entry, type_entry, type_items, val_type_refs}
 use Rattle.wc_gc.proofs.InitTypeLemmas.{all-left, all-right}
 
 pub type_at : (m : ModuleValue) (n : ℕ) (t : FuncTypeValue) → slice_get m.types n ≡ Some t → entry_at (decode m) (Types, n) ≡ type_entry t

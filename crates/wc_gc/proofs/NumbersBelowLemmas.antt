@@ -9,13 +9,13 @@ use Rattle.std.proofs.lemmas.Bool.Decides.{eqb_tells, nat_tests}
 use Rattle.std.proofs.lemmas.List.Elements.{filter-append, All-from_recursion}
 use Rattle.std.proofs.lemmas.List.Folds.{list_any-append}
 use Rattle.wc_read.specs.declared.items.Item.{Item}
-use Rattle.wc_gc.specs.Decoded.{FuncCode}
+use Rattle.wc_read.specs.Decoded.{FuncCode}
 use Rattle.wc_gc.specs.Private.FuncGroups.{has_func}
 use Rattle.wc_gc.specs.Ranges.{in_ranges, AreRanges}
 use Rattle.wc_gc.proofs.GroupLemmas.{filled_more, none_past}
 use Rattle.wc_gc.proofs.RangeLemmas.{ends_before}
 use Rattle.wc_gc.proofs.RangeRankLemmas.{EndBefore, BeginAt, between, first_before, inside, starts}
-use Rattle.wc_gc.proofs.RankLemmas.{range_more}
+use Rattle.wc_graph.proofs.ListLemmas.{range_more}
 
 abbrev pub below : (ℕ → Bool) → ℕ → List ℕ
 below has n = filter has (range_with_len 0 n)

@@ -5,7 +5,7 @@ use Rattle.std.specs.Option.{option_map_or}
 use Rattle.std.proofs.lemmas.Option.{slice_get_within}
 use Rattle.wc_read.specs.Types.{FuncTypeValue}
 use Rattle.wc_read.specs.declared.operators.Space.TheVariants.{Funcs}
-use Rattle.wc_gc.specs.Decoded.{DecodedModule, FuncCode}
+use Rattle.wc_read.specs.Decoded.{DecodedModule, FuncCode}
 use Rattle.wc_gc.specs.Edit.{edit, edited_by, edited_func, edited_funcs, is_exported_func}
 use Rattle.wc_gc.specs.Found.{FoundView, found_in, is_realloc, is_realloc_at}
 use Rattle.wc_gc.specs.TraceLaws.{AddsNothing}

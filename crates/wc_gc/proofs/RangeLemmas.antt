@@ -5,7 +5,7 @@ use Rattle.std.proofs.lemmas.Bool.Decides.{eqb_tells, nat_tests}
 use Rattle.std.proofs.lemmas.List.{get_or_default}
 use Rattle.wc_gc.specs.Ranges.{is_within, in_ranges, AreRanges}
 use Rattle.wc_gc.specs.Private.RangeSet.{IsCut, joined_at}
-use Rattle.wc_gc.specs.Live.{Inserts}
+use Rattle.wc_graph.specs.Growth.{Inserts}
 
 -- sorted ranges that neither overlap nor touch, from a number on
 abbrev pub AreFrom : ℕ → List (ℕ × ℕ) → Type 0

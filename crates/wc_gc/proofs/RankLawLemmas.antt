@@ -8,11 +8,11 @@ use Rattle.std.proofs.lemmas.Option.{slice_get_within}
 use Rattle.wc_read.specs.declared.operators.Space.TheVariants.{Types, Funcs, Tables, Memories, Globals}
 use Rattle.wc_write.specs.BuiltValues.{is_imported, is_defined}
 use Rattle.wc_gc.specs.Counts.{count_below}
-use Rattle.wc_gc.specs.Decoded.{FuncCode}
+use Rattle.wc_read.specs.Decoded.{FuncCode}
 use Rattle.wc_gc.specs.Edit.{EditedModule}
 use Rattle.wc_gc.specs.EditedImage.{count_defined, count_imports, edited_rank, func_rank, added_func_rank, is_kept_defined, is_kept_import}
 use Rattle.wc_gc.specs.RankLaws.{is_in_image, RanksKeepOrder, RanksDiffer}
-use Rattle.wc_gc.proofs.KeptItemLemmas.{get_some}
+use Rattle.wc_graph.proofs.ListLemmas.{get_some}
 use Rattle.wc_gc.proofs.RankLemmas.{more_below, one_more}
 
 -- fewer of a set are below one of its numbers than below a greater number

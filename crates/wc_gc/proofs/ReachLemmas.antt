@@ -1,29 +1,17 @@
 -- A search in an adapter.
-use Rattle.std.proofs.Common.{◌≡◌, ℕ, ◌+◌, ◌-◌, ◌<◌, ◌≤◌, List, [], ◌∷◌, ◌++◌, map, take, length, get_or, subst, sym, ◌∙◌, ap, refl, Bool, true, false, ◌⊎◌}
+use Rattle.std.proofs.Common.{◌≡◌, ℕ, ◌+◌, ◌-◌, ◌<◌, ◌≤◌, List, [], ◌∷◌, ◌++◌, take, length, get_or, subst, sym, ◌∙◌, ap, refl, Bool, true, false, ◌⊎◌, ltb-true}
 use Rattle.std.proofs.Common.{inl, inr, arith, ◌&&◌, Option, Some, None, append_assoc, append-nil}
-use Rattle.std.proofs.Common.{ltb-true}
-use Rattle.std.proofs.lemmas.Bool.{ltb-false}
-use Rattle.std.specs.Prelude.{not, is_some, IsTrue, nat_lt, Contains, All, ◌↔◌, Result, Ok, Err, OnOk, ⊤}
+use Rattle.std.specs.Prelude.{not, is_some, IsTrue, Contains, All, ◌↔◌, Result, Ok, Err, OnOk}
 use Rattle.std.proofs.lemmas.List.{take_more, take_all, get_or_append_left, map-append}
 use Rattle.std.proofs.lemmas.List.Elements.{filter-append, filter_passes, All-contains, Contains-get_or}
-use Rattle.std.specs.List.{slice_get, cons_option, list_all}
-use Rattle.std.specs.Borrow.{Bor}
-use Rattle.std.proofs.lemmas.Option.{slice_get-map, slice_get_past}
-use Rattle.wc_read.specs.BodyOperators.{body_in, body_of, init_in}
+use Rattle.std.specs.List.{cons_option, list_all}
+use Rattle.wc_read.specs.BodyOperators.{body_of}
 use Rattle.wc_read.specs.InitOperators.{index_instr}
 use Rattle.wc_read.specs.Inits.{end_value}
 use Rattle.wc_read.specs.declared.init_operators.InitIndex.{InitIndex}
-use Rattle.wc_read.specs.Items.{TableValue, func_value, global_value, table_value}
-use Rattle.wc_read.specs.declared.core_module.Module.{Module}
-use Rattle.wc_read.specs.declared.items.Item.{Item}
-use Rattle.wc_read.specs.declared.types.FuncType.{FuncType}
-use Rattle.wc_read.specs.declared.types.TableType.{TableType}
-use Rattle.wc_read.specs.declared.types.GlobalType.{GlobalType}
 use Rattle.wc_read.specs.declared.types.ValType.{ValType}
-use Rattle.wc_read.specs.declared.operators.Space.{Space}
-use Rattle.wc_read.specs.declared.operators.Space.TheVariants.{Types, Funcs, Tables, Memories, Globals}
-use Rattle.wc_write.specs.BuiltValues.{item_seen}
-use Rattle.std.specs.Option.{option_map, option_map_or, option_to_list}
+use Rattle.wc_read.specs.declared.operators.Space.TheVariants.{Types, Memories}
+use Rattle.std.specs.Option.{option_map, option_to_list}
 use Rattle.std.proofs.lemmas.List.Folds.{list_all-append}
 use Rattle.std.proofs.lemmas.Grind.{flat_map-append}
 use Rattle.std.proofs.Math.Bool.{and-false}
@@ -35,20 +23,20 @@ use Rattle.wc_read.specs.declared.operators.Index.{Index}
 use Rattle.wc_read.specs.Bodies.{BodyValue, local_types}
 use Rattle.wc_read.specs.declared.bodies.Locals.{Locals}
 use Rattle.wc_read.specs.References.{is_segment, reference, refs_of, type_reference, type_refs_of}
-use Rattle.wc_read.specs.Types.{FuncTypeValue, func_type_value, type_index, type_indices}
+use Rattle.wc_read.specs.Types.{type_index, type_indices}
 use Rattle.wc_read.specs.Passing.{ArePassable, IsPassable, IsPassableCode, run_and_left}
 use Rattle.wc_read.specs.declared.operators.Refs.{Refs}
 use Rattle.wc_read.specs.declared.operators.Instr.{Instr}
-use Rattle.wc_gc.specs.Decoded.{DecodedModule, FuncCode, GlobalCode, ItemIndex, decoded_module, func_code, is_in, size_of}
-use Rattle.wc_gc.specs.Entries.{no_entry, type_entry, func_entry, table_entry, global_entry, entry_in, refs_in, entry_refs, entry_at}
-use Rattle.wc_gc.specs.Reached.{IsPath, IsReachedFrom}
-use Rattle.wc_gc.specs.Private.Search.{IsTied, HasGrown, IsGrown}
+use Rattle.wc_read.specs.Decoded.{DecodedModule, ItemIndex, is_in, size_of}
+use Rattle.wc_read.specs.Entries.{refs_in, entry_refs, entry_at, present, refs_list, type_items, val_type_refs, instr_refs, code_refs, init_refs, body_refs}
+use Rattle.wc_graph.specs.Reached.{IsPath, IsReachedFrom}
+use Rattle.wc_graph.specs.Growth.{IsTied, HasGrown, IsGrown}
+use Rattle.wc_gc.specs.Private.Search.{FindsItems, IsKnownCode, finds}
 use Rattle.wc_gc.specs.InRange.{is_operator_in_range, is_code_in_range, is_body_in_range, is_item_in_range}
 use Rattle.wc_gc.specs.LiveItems.{IsCount}
-use Rattle.wc_gc.specs.Private.Search.{FindsItems, IsKnownCode, finds}
 use Rattle.wc_gc.specs.declared.search.Search.{Search}
-use Rattle.wc_gc.specs.Entries.{present, refs_list, type_items, val_type_refs, instr_refs, code_refs, init_refs, body_refs}
-use Rattle.wc_gc.proofs.SearchLemmas.{IsSearched, grown_none, grown_old, items_decided, only_if_tied, search_start, search_step, search_end}
+use Rattle.wc_graph.proofs.GrowthLemmas.{IsSearched, grown_none, grown_old, only_if_tied, search_start, search_step, search_end}
+use Rattle.wc_gc.proofs.SearchLemmas.{items_decided}
 
 -- what was found, of which so many were passed and are in range
 pub record IsAt (m : DecodedModule) (roots : List ItemIndex) (has : ItemIndex → Bool) (found : List ItemIndex) (next : ℕ) : Type 0 where
@@ -142,9 +130,6 @@ all_there m roots has found next small s = λ k d h.
     let x = get_or found k d in
     let r = s.searched.are_reached x (Contains-get_or found k d h) in
     ltb-true x.1 (size_of m x.0) (there_from m r.0 r.2 x (All-contains (λ (v : ItemIndex). IsTrue (is_in m v)) roots r.0 small r.1) r.3)
-
-pub falls_by : (total next found : ℕ) → next < found → found ≤ total → total - (next + 1) < total - next
-falls_by total next found h k = omega arith
 
 -- searches
 
@@ -406,58 +391,6 @@ finds_no_init has m a (Some is) none = absurd cc
 
 -- items of a module that was read
 
-pub type_at : (a : Module) (x : ItemIndex) (o : Option FuncType) → x.0 ≡ Types → slice_get a.types.items x.1 ≡ o
-    → entry_at (decoded_module a) x ≡ option_map_or type_entry (option_map func_type_value o) no_entry
-unfolding decoded_module
-type_at a x o s e =
-    ap (λ (z : Space). entry_in (decoded_module a) z x.1) s
-    ∙ ap (λ (t : Option FuncTypeValue). option_map_or type_entry t no_entry)
-    (slice_get-map func_type_value a.types.items x.1 ∙ ap (option_map func_type_value) e)
-
-pub table_at : (a : Module) (x : ItemIndex) (o : Option (Item TableType ⊤)) → x.0 ≡ Tables → slice_get a.tables.items x.1 ≡ o
-    → entry_at (decoded_module a) x ≡ option_map_or table_entry (option_map table_value o) no_entry
-unfolding decoded_module
-table_at a x o s e =
-    ap (λ (z : Space). entry_in (decoded_module a) z x.1) s
-    ∙ ap (λ (t : Option TableValue). option_map_or table_entry t no_entry)
-    (slice_get-map table_value a.tables.items x.1 ∙ ap (option_map table_value) e)
-
-pub func_at : (a : Module) (x : ItemIndex) (f : Item ℕ (Bor (List ℕ))) → x.0 ≡ Funcs → slice_get a.funcs.items x.1 ≡ Some f
-    → entry_at (decoded_module a) x ≡ func_entry (func_code f)
-unfolding decoded_module
-func_at a x f s e =
-    ap (λ (z : Space). entry_in (decoded_module a) z x.1) s
-    ∙ ap (λ (o : Option FuncCode). option_map_or func_entry o no_entry)
-    (slice_get-map (item_seen body_in) (map func_value a.funcs.items) x.1
-    ∙ (ap (option_map (item_seen body_in)) (slice_get-map func_value a.funcs.items x.1) ∙ ap (λ o. option_map (item_seen body_in) (option_map func_value o)) e))
-
-pub no_func_at : (a : Module) (x : ItemIndex) → x.0 ≡ Funcs → slice_get a.funcs.items x.1 ≡ None → entry_at (decoded_module a) x ≡ no_entry
-unfolding decoded_module
-no_func_at a x s e =
-    ap (λ (z : Space). entry_in (decoded_module a) z x.1) s
-    ∙ ap (λ (o : Option FuncCode). option_map_or func_entry o no_entry)
-    (slice_get-map (item_seen body_in) (map func_value a.funcs.items) x.1
-    ∙ (ap (option_map (item_seen body_in)) (slice_get-map func_value a.funcs.items x.1) ∙ ap (λ o. option_map (item_seen body_in) (option_map func_value o)) e))
-
-pub global_at : (a : Module) (x : ItemIndex) (g : Item GlobalType (Bor (List ℕ))) → x.0 ≡ Globals → slice_get a.globals.items x.1 ≡ Some g
-    → entry_at (decoded_module a) x ≡ global_entry (item_seen init_in (global_value g))
-unfolding decoded_module
-global_at a x g s e =
-    ap (λ (z : Space). entry_in (decoded_module a) z x.1) s
-    ∙ ap (λ (o : Option GlobalCode). option_map_or global_entry o no_entry)
-    (slice_get-map (item_seen init_in) (map global_value a.globals.items) x.1
-    ∙ (ap (option_map (item_seen init_in)) (slice_get-map global_value a.globals.items x.1)
-    ∙ ap (λ o. option_map (item_seen init_in) (option_map global_value o)) e))
-
-pub no_global_at : (a : Module) (x : ItemIndex) → x.0 ≡ Globals → slice_get a.globals.items x.1 ≡ None → entry_at (decoded_module a) x ≡ no_entry
-unfolding decoded_module
-no_global_at a x s e =
-    ap (λ (z : Space). entry_in (decoded_module a) z x.1) s
-    ∙ ap (λ (o : Option GlobalCode). option_map_or global_entry o no_entry)
-    (slice_get-map (item_seen init_in) (map global_value a.globals.items) x.1
-    ∙ (ap (option_map (item_seen init_in)) (slice_get-map global_value a.globals.items x.1)
-    ∙ ap (λ o. option_map (item_seen init_in) (option_map global_value o)) e))
-
 -- of a last step, where it is Ok
 pub finds_present_then : {L E : Type 0} (has : L → ℕ → Bool) (m : DecodedModule) (a b c : Search L) (xs ys : List ItemIndex) (r : Result Unit E)
     → FindsItems has a b (present m xs) → OnOk r (FindsItems has b c (present m ys)) → OnOk r (FindsItems has a c (present m (xs ++ ys)))
@@ -471,9 +404,6 @@ pub finds_global_then : {L E : Type 0} (has : L → ℕ → Bool) (m : DecodedMo
 finds_global_then has m a b c t ys r p q =
     subst (λ (z : List ItemIndex). OnOk r (FindsItems has a c (present m (z ++ ys)))) (sym (type_alone t))
     (finds_present_then has m a b c (option_to_list (type_reference t)) ys r p q)
-
-pub no_item : {X : Type 0} (xs : List X) (i : ℕ) → false ≡ nat_lt i (length xs) → slice_get xs i ≡ None
-no_item xs i e = slice_get_past xs i (ltb-false i (length xs) (sym e))
 
 -- an operator of one index
 

@@ -17,7 +17,7 @@ use Rattle.wc_read.specs.Exports.{ExportValue}
 use Rattle.wc_gc.specs.Exports.{dropped_names, export_names, is_required, kept_exports, without}
 use Rattle.wc_gc.proofs.ExportLemmas.{all_fold, all_kept}
 use Rattle.wc_gc.proofs.KeptExportLemmas.{pairs_without}
-use Rattle.wc_gc.proofs.LiveItemLemmas.{contains_mapped}
+use Rattle.wc_graph.proofs.ListLemmas.{contains_mapped}
 
 abbrev HaveOtherNames : ExportValue → ExportValue → Type 0
 HaveOtherNames x y = x.name ≢ y.name

@@ -20,33 +20,36 @@ use Rattle.wc_read.specs.declared.exports.ExportKind.{ExportKind}
 use Rattle.wc_read.specs.declared.exports.ExportKind.TheVariants as export
 use Rattle.wc_read.specs.declared.operators.Space.TheVariants.{Types, Funcs, Tables, Memories, Globals}
 use Rattle.wc_write.specs.Bodies.{body_text}
-use Rattle.wc_write.specs.BuiltValues.{item_seen, written_module}
+use Rattle.wc_read.specs.Items.{item_seen}
+use Rattle.wc_write.specs.BuiltValues.{written_module}
 use Rattle.wc_write.specs.Modules.{BuiltValue, operators_text}
 use Rattle.wc_write.specs.Values.{AreBytes}
 use Rattle.wc_gc.specs.Causes.{DecidesLive}
 use Rattle.wc_gc.specs.Counts.{count_below}
-use Rattle.wc_gc.specs.Decoded.{FuncCode, ItemIndex, decode, is_in, space_of}
+use Rattle.wc_read.specs.Decoded.{FuncCode, ItemIndex, decode, is_in, space_of}
 use Rattle.wc_gc.specs.Edit.{EditedModule, added_types}
 use Rattle.wc_gc.specs.EditedImage.{count_imports, is_kept_defined, is_kept_import}
-use Rattle.wc_gc.specs.Entries.{entry_refs}
+use Rattle.wc_read.specs.Entries.{entry_refs}
 use Rattle.wc_gc.specs.Found.{FoundView, found_in}
 use Rattle.wc_gc.specs.Image.{new_export, new_func, new_table, rank}
 use Rattle.wc_gc.specs.Exports.{dropped_names, export_names, is_required, kept_exports, without}
 use Rattle.wc_gc.specs.Parts.{SettingsView, parts_of}
 use Rattle.wc_gc.specs.RestrictionLaws.{AreSameTypesButIndices, IsNewExport, IsOldExport, export_type, func_item, global_item, memory_item, table_item}
 use Rattle.wc_gc.specs.declared.parts.Parts.{Parts}
-use Rattle.wc_gc.proofs.ImageUnfoldingLemmas.{back_at as get_back}
+use Rattle.wc_graph.proofs.ListLemmas.{back_at as get_back}
 use Rattle.wc_gc.proofs.SameButIndicesLemmas.{same_under, func_item_under, item_under}
 use Rattle.wc_gc.proofs.BuiltImageLemmas.{func_at, kept_in}
 use Rattle.wc_gc.proofs.BuiltPartLemmas.{all_at, global_written}
 use Rattle.wc_gc.proofs.EditedIndexLemmas.{cond_has, edited, edited_at, import_or_defined, kept_defined, kept_imports, new, old_at, old_new, old_type, olds}
 use Rattle.wc_gc.proofs.ExportLemmas.{all_kept}
-use Rattle.wc_gc.proofs.KeptItemLemmas.{get_some, kept_count, rank_at}
+use Rattle.wc_graph.proofs.ListLemmas.{get_some}
+use Rattle.wc_gc.proofs.KeptItemLemmas.{kept_count, rank_at}
 use Rattle.wc_gc.proofs.KeptExportLemmas.{pairs_named}
-use Rattle.wc_gc.proofs.LiveItemLemmas.{contains_mapped, named_kept}
+use Rattle.wc_graph.proofs.ListLemmas.{contains_mapped}
+use Rattle.wc_gc.proofs.LiveItemLemmas.{named_kept}
 use Rattle.wc_gc.proofs.RequiredExportLemmas.{kept_required}
 use Rattle.wc_gc.proofs.TrimmedTextLemmas.{edited_value, live_are_kept}
-use Rattle.wc_gc.proofs.TypedGlobalLemmas.{get_front}
+use Rattle.wc_graph.proofs.ListLemmas.{get_front}
 
 -- an export of a required name is kept
 

@@ -19,29 +19,32 @@ use Rattle.wc_read.specs.Spaces.{func_of}
 use Rattle.wc_read.specs.Types.{FuncTypeValue}
 use Rattle.wc_read.specs.declared.operators.Space.TheVariants.{Types, Funcs}
 use Rattle.wc_read.specs.declared.types.ImportType.TheVariants.{Func}
-use Rattle.wc_write.specs.BuiltValues.{def_seen, is_import, is_imported, is_defined, item_seen}
+use Rattle.wc_read.specs.Items.{def_seen, item_seen}
+use Rattle.wc_write.specs.BuiltValues.{is_import, is_imported, is_defined}
 use Rattle.wc_write.specs.Modules.{BuiltValue}
 use Rattle.wc_write.specs.Spaces.{import_by, imports_of}
 use Rattle.wc_write.specs.Values.{AreBytes}
 use Rattle.wc_gc.specs.AddedCode.{empty_type, realloc_type}
 use Rattle.wc_gc.specs.Causes.{DecidesLive}
-use Rattle.wc_gc.specs.Decoded.{FuncCode, ItemIndex, decode}
+use Rattle.wc_read.specs.Decoded.{FuncCode, ItemIndex, decode}
 use Rattle.wc_gc.specs.Edit.{EditedModule, added_types, edited_def, growing_code, growing_func, import_func, is_exported_func, lazy_func, only_if, replaced}
 use Rattle.wc_gc.specs.Edit.{start_func}
 use Rattle.wc_gc.specs.EditedImage.{is_kept_defined, is_kept_import}
 use Rattle.wc_gc.specs.Found.{FoundView, is_empty, is_realloc, is_realloc_at, main_module}
 use Rattle.wc_gc.specs.Image.{new_body, new_func}
 use Rattle.wc_gc.specs.Parts.{SettingsView, is_any}
-use Rattle.wc_gc.specs.RestrictionLaws.{HasOrigin, IsMainImport, func_item, positions_from}
+use Rattle.wc_gc.specs.RestrictionLaws.{HasOrigin, IsMainImport, func_item}
+use Rattle.wc_read.specs.ImportItems.{positions_from}
 use Rattle.wc_gc.specs.declared.parts.Parts.{Parts}
-use Rattle.wc_gc.proofs.ImageUnfoldingLemmas.{back_at as get_back}
+use Rattle.wc_graph.proofs.ListLemmas.{back_at as get_back}
 use Rattle.wc_gc.proofs.SameButIndicesLemmas.{same_under, func_item_under}
 use Rattle.wc_gc.proofs.BuiltImageLemmas.{kept_in}
 use Rattle.wc_gc.proofs.BuiltPartLemmas.{seen_imported}
 use Rattle.wc_gc.proofs.EditedIndexLemmas.{added_type, edited_at, kept_defined, kept_imports, old_at, olds, was_read}
 use Rattle.wc_gc.proofs.ImageLemmas.{all_kept}
 use Rattle.wc_gc.proofs.ImportOriginLemmas.{HasSpace, from_at, imported_item_at, kept_pairs, kept_there, kept_zip, origins_of, rising}
-use Rattle.wc_gc.proofs.KeptItemLemmas.{get_some, kept_count, kept_is}
+use Rattle.wc_graph.proofs.ListLemmas.{get_some}
+use Rattle.wc_gc.proofs.KeptItemLemmas.{kept_count, kept_is}
 use Rattle.wc_gc.proofs.RestrictedExportLemmas as restricted
 use Rattle.wc_gc.proofs.RestrictedImportLemmas.{AreDistinct, HasOriginIn, IsPart, func_kind, func_space, import_is, imports_mapped, none_imported, none_or}
 use Rattle.wc_gc.proofs.RestrictedImportLemmas.{origins_differ, origin_from}

@@ -16,9 +16,10 @@ use Rattle.wc_write.specs.BuiltValues.{is_import, is_imported}
 use Rattle.wc_write.specs.Spaces.{import_by, imports_of}
 use Rattle.wc_write.specs.Values.{AreBytes}
 use Rattle.wc_gc.specs.Causes.{DecidesLive}
-use Rattle.wc_gc.specs.Decoded.{ItemIndex}
+use Rattle.wc_read.specs.Decoded.{ItemIndex}
 use Rattle.wc_gc.specs.Parts.{SettingsView}
-use Rattle.wc_gc.specs.RestrictionLaws.{AreSameTypesButIndices, HasOrigin, IsKeptImport, SameImport, import_type, is_in_space, is_realloc_item, positions_from}
+use Rattle.wc_gc.specs.RestrictionLaws.{AreSameTypesButIndices, HasOrigin, IsKeptImport, SameImport, import_type, is_realloc_item}
+use Rattle.wc_read.specs.ImportItems.{is_in_space, positions_from}
 use Rattle.wc_gc.proofs.BuiltImageLemmas.{kept_in}
 use Rattle.wc_gc.proofs.ImportOriginLemmas.{HasSpace, IsFrom, from_at, imported_item_at, kept_pairs, kept_there, kept_zip, origins_of, rising}
 use Rattle.wc_gc.proofs.KeptItemLemmas.{kept_is}

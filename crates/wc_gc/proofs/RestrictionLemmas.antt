@@ -15,17 +15,20 @@ use Rattle.wc_read.specs.declared.operators.Space.{Space}
 use Rattle.wc_read.specs.declared.operators.Space.TheVariants.{Types, Funcs, Tables, Memories, Globals}
 use Rattle.wc_read.specs.declared.types.ImportType.{ImportType}
 use Rattle.wc_read.specs.declared.types.ImportType.TheVariants.{Func, Table, Memory, Global}
-use Rattle.wc_write.specs.BuiltValues.{def_seen, written_module}
+use Rattle.wc_read.specs.Items.{def_seen}
+use Rattle.wc_write.specs.BuiltValues.{written_module}
 use Rattle.wc_write.specs.Modules.{BuiltValue}
 use Rattle.wc_write.specs.Spaces.{import_by, imports_of}
 use Rattle.wc_write.specs.Values.{AreBytes}
 use Rattle.wc_gc.specs.Causes.{DecidesLive}
-use Rattle.wc_gc.specs.Decoded.{ItemIndex}
+use Rattle.wc_read.specs.Decoded.{ItemIndex}
 use Rattle.wc_gc.specs.Edit.{only_if}
 use Rattle.wc_gc.specs.Image.{new_func, new_init, new_table}
 use Rattle.wc_gc.specs.Parts.{SettingsView}
-use Rattle.wc_gc.specs.RestrictionLaws.{HasOrigin, IsKeptImport, IsRestriction, TrimmedIsRestriction, global_item, is_in_space, is_realloc_item}
-use Rattle.wc_gc.specs.RestrictionLaws.{positions_from, table_item}
+use Rattle.wc_gc.specs.RestrictionLaws.{HasOrigin, IsKeptImport, IsRestriction, TrimmedIsRestriction, global_item, is_realloc_item}
+use Rattle.wc_read.specs.ImportItems.{is_in_space}
+use Rattle.wc_read.specs.ImportItems.{positions_from}
+use Rattle.wc_gc.specs.RestrictionLaws.{table_item}
 use Rattle.wc_gc.proofs.SameButIndicesLemmas.{same_under}
 use Rattle.wc_gc.proofs.BuiltImageLemmas.{kept_in}
 use Rattle.wc_gc.proofs.BuiltPartLemmas.{global_written}

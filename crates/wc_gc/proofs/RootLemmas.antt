@@ -17,7 +17,7 @@ use Rattle.wc_read.specs.declared.exports.Export.{Export}
 use Rattle.wc_read.specs.Modules.{IsModule, ModuleValue}
 use Rattle.wc_gc.specs.Bits.{bit_of}
 use Rattle.wc_gc.specs.Chains.{IsRequiredExport}
-use Rattle.wc_gc.specs.Decoded.{ItemIndex, exported_item}
+use Rattle.wc_read.specs.Decoded.{ItemIndex, exported_item}
 use Rattle.wc_gc.specs.Exports.{AreNamed, export_entries, kept_exports}
 use Rattle.wc_gc.specs.LiveChains.{IsFirstName, item_named, items_named}
 use Rattle.wc_gc.specs.Private.TrimPlace.{HasFound}
@@ -25,11 +25,12 @@ use Rattle.wc_gc.specs.Private.Roots.{AreNamedRoots, FindsRoot}
 use Rattle.wc_gc.specs.Private.Search.{finds}
 use Rattle.wc_gc.specs.declared.finders.Roots.{Roots}
 use Rattle.wc_gc.specs.declared.live.BitVec.{BitVec}
-use Rattle.wc_gc.proofs.ChainLemmas.{contains_unmapped, exports_required, same_names}
+use Rattle.wc_graph.proofs.ListLemmas.{contains_unmapped}
+use Rattle.wc_gc.proofs.ChainLemmas.{exports_required, same_names}
 use Rattle.wc_gc.proofs.KeptExportLemmas.{pairs_named}
-use Rattle.wc_gc.proofs.LiveItemLemmas.{contains_mapped}
-use Rattle.wc_gc.proofs.SearchLemmas.{grown_more}
-use Rattle.wc_gc.proofs.TypedGlobalLemmas.{get_last as last_of}
+use Rattle.wc_graph.proofs.ListLemmas.{contains_mapped}
+use Rattle.wc_graph.proofs.GrowthLemmas.{grown_more}
+use Rattle.wc_graph.proofs.ListLemmas.{get_last as last_of}
 
 -- lists
 

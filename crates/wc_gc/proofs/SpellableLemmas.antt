@@ -21,7 +21,7 @@ use Rattle.wc_read.specs.declared.types.ValType.{ValType}
 use Rattle.wc_read.specs.declared.types.ValType.TheVariants.{I32, I64, F32, F64, V128, FuncRef, ExternRef, FuncRefNonNull, ExternRefNonNull, TypeRef}
 use Rattle.wc_write.specs.Values.{HasForm, IsBlockType, IsInstr, IsBody, IsFuncType, IsNullType, IsTable, IsValType}
 use Rattle.wc_write.specs.BuiltValues.{IsInitialiser}
-use Rattle.wc_gc.specs.Decoded.{ItemIndex}
+use Rattle.wc_read.specs.Decoded.{ItemIndex}
 use Rattle.wc_gc.specs.Image.{rank, renumber_body, renumber_code, renumber_locals}
 use Rattle.wc_gc.specs.Laws.{KeepsBits}
 use Rattle.wc_gc.proofs.RankLemmas.{bounded_below}

@@ -10,10 +10,10 @@ use Rattle.wc_write.specs.Modules.{built_text}
 use Rattle.wc_write.specs.Values.{AreBytes}
 use Rattle.wc_write.proofs.WritableModuleLemmas.{spelled_writable}
 use Rattle.wc_gc.specs.Causes.{DecidesLive}
-use Rattle.wc_gc.specs.Decoded.{DecodedModule, ItemIndex, decode, exported_item, size_of}
+use Rattle.wc_read.specs.Decoded.{DecodedModule, ItemIndex, decode, exported_item, size_of}
 use Rattle.wc_gc.specs.Edit.{edit}
 use Rattle.wc_gc.specs.EditedImage.{edited_image}
-use Rattle.wc_gc.specs.Entries.{entry_at, entry_refs}
+use Rattle.wc_read.specs.Entries.{entry_at, entry_refs}
 use Rattle.wc_gc.specs.Exports.{kept_exports}
 use Rattle.wc_gc.specs.LiveItems.{HasLiveBody, TrimInput}
 use Rattle.wc_gc.specs.Parts.{SettingsView}

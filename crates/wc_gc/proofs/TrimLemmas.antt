@@ -18,7 +18,7 @@ use Rattle.wc_write.proofs.ByteLemmas.{front_bytes}
 use Rattle.wc_write.proofs.ValueLemmas.{number_fits}
 use Rattle.wc_write.proofs.WritableModuleLemmas.{all_bytes, content_bytes}
 use Rattle.wc_gc.specs.Causes.{IsFoundCause, DecidesLive}
-use Rattle.wc_gc.specs.Decoded.{DecodedModule, ItemIndex, decode, decoded_module}
+use Rattle.wc_read.specs.Decoded.{DecodedModule, ItemIndex, decode, decoded_module}
 use Rattle.wc_gc.specs.Private.ItemCounts.{ItemCountsFitU32}
 use Rattle.wc_gc.specs.Found.{FoundView, found_in}
 use Rattle.wc_gc.specs.Edit.{edit}

@@ -29,17 +29,17 @@ use Rattle.wc_read.specs.declared.operators.Space.{Space}
 use Rattle.wc_read.specs.declared.place.ReadPlace.{ReadPlace}
 use Rattle.wc_read.specs.declared.operators.Space.TheVariants.{Types, Funcs, Tables, Memories, Globals}
 use Rattle.wc_read.proofs.ModulesLemmas.{modules_one}
-use Rattle.wc_write.specs.BuiltValues.{def_seen, item_seen}
-use Rattle.wc_gc.specs.Decoded.{DecodedModule, FuncCode, GlobalCode, ItemIndex, decode, decoded_module, func_code}
-use Rattle.wc_gc.specs.Entries.{no_entry, type_entry, table_entry, memory_entry, global_entry, refs_in}
+use Rattle.wc_read.specs.Items.{def_seen, item_seen}
+use Rattle.wc_read.specs.Decoded.{DecodedModule, FuncCode, GlobalCode, ItemIndex, decode, decoded_module, func_code}
+use Rattle.wc_read.specs.Entries.{no_entry, type_entry, table_entry, memory_entry, global_entry, refs_in}
 use Rattle.wc_gc.specs.InRange.{is_code_in_range, is_entry_in_range, is_item_in_range, is_operator_in_range}
 use Rattle.wc_gc.specs.Exports.{IsMissingFault, missing_name}
 use Rattle.wc_gc.specs.Fault.{of_read}
 use Rattle.wc_gc.specs.LiveItems.{HasUnsupported, IsFault, IsFaultOf, IsLive, IsSupported, IsUnread, TrimInput, order_of}
 use Rattle.wc_gc.specs.Parts.{SettingsView}
 use Rattle.wc_gc.specs.Private.TrimPlace.{AdapterRefusal, IsBodyRefusal, IsMemoryRefusal, IsRefusalOf, IsRefusedFrom, IsStop, IsStopRefusal}
-use Rattle.wc_gc.specs.Private.Search.{HasGrown, IsTied}
-use Rattle.wc_gc.specs.Reached.{IsReachedFrom}
+use Rattle.wc_graph.specs.Growth.{HasGrown, IsTied}
+use Rattle.wc_graph.specs.Reached.{IsReachedFrom}
 use Rattle.wc_gc.specs.TrimPlace.{IsBodyPlace, IsExplained, IsExplainedIn, IsFirstOutside, IsPlace, IsPlaceIn, IsSectionPlace, IsUnreadPlace, body_at, def_body, unsupported_ids}
 use Rattle.wc_gc.specs.declared.fault.GcFault.{GcFault}
 use Rattle.wc_gc.specs.declared.fault.GcFault.TheVariants.{LiveBody, Memory, Read, UnsupportedSection}
@@ -49,7 +49,7 @@ use Rattle.wc_gc.specs.Trim.{IsLaterFault}
 use Rattle.wc_gc.specs.declared.search.Stop.{Stop}
 use Rattle.wc_gc.proofs.LivenessLemmas.{fault_of, missing_fault, not_read}
 use Rattle.wc_gc.proofs.ReachLemmas.{IsAt, bad_at}
-use Rattle.wc_gc.proofs.SearchLemmas.{grown_none}
+use Rattle.wc_graph.proofs.GrowthLemmas.{grown_none}
 use Rattle.wc_gc.proofs.TrimLemmas.{later_large}
 
 -- a search from roots
@@ -220,7 +220,7 @@ pub unread_explained : (w : TrimInput) (f : ReadFault) (place : Option ReadPlace
 unread_explained w read_memory None nothing component placed = λ p h. h.2
 unread_explained w read_memory (Some p) nothing component placed = absurd (placed.0 refl)
 unread_explained w f None nothing component placed = absurd cc
-unread_explained w f (Some p) nothing component placed = ((nothing placed.0, placed.0, component), placed.1)
+unread_explained w f (Some p) nothing component placed = ((nothing placed.0, placed.0, component), placed.1, placed.2)
 
 -- faults of what comes after liveness
 

@@ -5,7 +5,7 @@ use Rattle.wc_read.specs.Modules.{ModuleValue, SpellsModule, module_value}
 use Rattle.wc_read.specs.declared.core_module.Module.{Module}
 use Rattle.wc_write.specs.Modules.{built_text}
 use Rattle.wc_write.specs.Values.{AreBytes}
-use Rattle.wc_gc.specs.Decoded.{ItemIndex, decoded_module}
+use Rattle.wc_read.specs.Decoded.{ItemIndex, decoded_module}
 use Rattle.wc_gc.specs.Edit.{edit}
 use Rattle.wc_gc.specs.EditedImage.{edited_image}
 use Rattle.wc_gc.specs.Exports.{kept_exports}

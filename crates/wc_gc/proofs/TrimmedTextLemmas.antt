@@ -15,11 +15,12 @@ use Rattle.wc_read.specs.declared.types.ValType.TheVariants.{I32}
 use Rattle.wc_read.specs.declared.operators.Space.TheVariants.{Types, Funcs, Globals}
 use Rattle.wc_write.specs.Values.{AreBytes, IsFuncType, IsValType}
 use Rattle.wc_write.specs.Modules.{BuiltValue, SizeFits, SizesFit}
-use Rattle.wc_write.specs.BuiltValues.{item_seen, IsExport, IsRead}
+use Rattle.wc_read.specs.Items.{item_seen}
+use Rattle.wc_write.specs.BuiltValues.{IsExport, IsRead}
 use Rattle.wc_write.proofs.ModuleTextLemmas.{module_read}
 use Rattle.wc_write.proofs.WritableModuleLemmas.{spelled_writable}
 use Rattle.wc_gc.specs.Causes.{DecidesLive}
-use Rattle.wc_gc.specs.Decoded.{ItemIndex, decode}
+use Rattle.wc_read.specs.Decoded.{ItemIndex, decode}
 use Rattle.wc_gc.specs.AddedCode.{empty_type, realloc_type}
 use Rattle.wc_gc.specs.Edit.{added_types, edit, only_if, start_of, types_added}
 use Rattle.wc_gc.specs.EditedImage.{FitsBits, edited_image}

@@ -13,19 +13,20 @@ use Rattle.wc_read.specs.Items.{DefValue, ItemValue, TableValue, imported, local
 use Rattle.wc_read.specs.Renumbering.{Renumbering, renumber_func_type}
 use Rattle.wc_read.specs.Types.{FuncTypeValue}
 use Rattle.wc_read.specs.declared.operators.Space.TheVariants.{Types, Funcs, Tables, Memories, Globals}
-use Rattle.wc_write.specs.BuiltValues.{HasImportsFirst, def_seen, is_defined, is_imported, item_seen}
+use Rattle.wc_write.specs.BuiltValues.{HasImportsFirst, is_defined, is_imported}
+use Rattle.wc_read.specs.Items.{def_seen, item_seen}
 use Rattle.wc_write.specs.Modules.{BuiltValue}
-use Rattle.wc_gc.specs.Decoded.{DecodedModule, FuncCode, GlobalCode, ItemIndex, exported_item}
+use Rattle.wc_read.specs.Decoded.{DecodedModule, FuncCode, GlobalCode, ItemIndex, exported_item}
 use Rattle.wc_gc.specs.Edit.{EditedModule, added_types, edited_by, edited_def, edited_func, is_exported_func, replaced}
 use Rattle.wc_gc.specs.EditedImage.{added_func_rank, edited_image, edited_rank, func_rank}
-use Rattle.wc_gc.specs.Entries.{body_refs, def_refs, entry_refs, func_entry, func_refs, func_type_refs, global_entry, global_refs, no_entry}
-use Rattle.wc_gc.specs.Entries.{table_entry, type_entry, val_type_refs}
+use Rattle.wc_read.specs.Entries.{body_refs, def_refs, entry_refs, func_entry, func_refs, func_type_refs, global_entry, global_refs, no_entry}
+use Rattle.wc_read.specs.Entries.{table_entry, type_entry, val_type_refs}
 use Rattle.wc_gc.specs.Found.{FoundView, is_realloc}
 use Rattle.wc_gc.specs.Image.{kept_items, kept_of, new_body, new_export, new_func, new_global, new_table, rank, renumber_body}
 use Rattle.wc_gc.specs.Parts.{SettingsView, parts_of}
 use Rattle.wc_gc.specs.TraceLaws.{AddsNothing, AreClosed, all_items}
 use Rattle.wc_gc.specs.Unfolding.{built_module, renumber_func, renumber_global}
-use Rattle.wc_gc.specs.Decoded.{is_code}
+use Rattle.wc_read.specs.Decoded.{is_code}
 use Rattle.wc_gc.specs.declared.parts.Parts.{Parts}
 use Rattle.wc_gc.proofs.BuiltPartLemmas.{each_weaker}
 use Rattle.wc_gc.proofs.CutCodeLemmas.{Agrees, body_agrees, func_type_agrees, global_agrees, table_agrees}

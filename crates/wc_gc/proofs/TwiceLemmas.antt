@@ -17,16 +17,17 @@ use Rattle.wc_read.specs.Renumbering.{Renumbering, renumber_func_type}
 use Rattle.wc_read.specs.declared.operators.Space.TheVariants.{Types, Funcs, Tables, Memories, Globals}
 use Rattle.wc_read.proofs.ModulesLemmas.{modules_one}
 use Rattle.wc_read.proofs.OptionsLemmas.{some_same}
-use Rattle.wc_write.specs.BuiltValues.{HasImportsFirst, IsRead, IsWritable, def_seen, item_seen, written_module}
+use Rattle.wc_write.specs.BuiltValues.{HasImportsFirst, IsRead, IsWritable, written_module}
+use Rattle.wc_read.specs.Items.{def_seen, item_seen}
 use Rattle.wc_write.specs.Modules.{BuiltValue, built_text}
 use Rattle.wc_write.specs.Values.{AreBytes}
 use Rattle.wc_write.proofs.WritableModuleLemmas.{spelled_writable}
 use Rattle.wc_gc.specs.Causes.{DecidesLive, IsFoundCause, called_reallocs, grows_memory, has_page_size_at, has_realloc_type}
 use Rattle.wc_gc.specs.Cut.{cut_of, ranks_named, part_names}
-use Rattle.wc_gc.specs.Decoded.{DecodedModule, FuncCode, GlobalCode, ItemIndex, decode, exported_item, is_in, size_of}
+use Rattle.wc_read.specs.Decoded.{DecodedModule, FuncCode, GlobalCode, ItemIndex, decode, exported_item, is_in, size_of}
 use Rattle.wc_gc.specs.Edit.{edit, edited_by}
 use Rattle.wc_gc.specs.EditedImage.{FitsBits, edited_image}
-use Rattle.wc_gc.specs.Entries.{body_refs, def_refs, func_entry, func_refs, no_entry, global_refs, func_type_refs, val_type_refs}
+use Rattle.wc_read.specs.Entries.{body_refs, def_refs, func_entry, func_refs, no_entry, global_refs, func_type_refs, val_type_refs}
 use Rattle.wc_gc.specs.Found.{FoundView, allocation_state, found_in, is_mutable_i32_at, is_own_memory_at, is_realloc, is_realloc_at, stack_pointer}
 use Rattle.wc_gc.specs.Image.{kept_of, new_export, rank, renumber_body, kept_items, new_table}
 use Rattle.wc_gc.specs.Exports.{export_names, is_exported, is_required, kept_exports, missing_name}
@@ -39,13 +40,14 @@ use Rattle.wc_gc.specs.TraceLaws.{AddsNothing, AreClosed, TrimTwice, all_items}
 use Rattle.wc_gc.specs.TrimmedText.{IsTrimmed}
 use Rattle.wc_gc.specs.Trim.{IsImageText, IsLaterCause, IsTrimCause}
 use Rattle.wc_gc.specs.Unfolding.{built_module, renumber_func, renumber_global}
-use Rattle.wc_gc.specs.Decoded.{is_code}
+use Rattle.wc_read.specs.Decoded.{is_code}
 use Rattle.wc_gc.specs.declared.fault.GcFault.{GcFault}
 use Rattle.wc_gc.specs.declared.fault.GcFault.TheVariants.{Memory, Read, MissingExport, UnsupportedSection, LiveBody, SeveralNamed, LiveTable}
 use Rattle.wc_gc.specs.declared.fault.GcFault.TheVariants.{SeveralMemories, LocalMemory, ReallocType, ReallocMemory, TooLarge}
 use Rattle.wc_gc.specs.declared.parts.Parts.{Parts}
 use Rattle.wc_gc.proofs.BuiltPartLemmas.{each_weaker, seen_imported}
-use Rattle.wc_gc.proofs.ChainLemmas.{any_fails, contains_unmapped, exports_required, fails_any, in_all, same_names}
+use Rattle.wc_gc.proofs.ChainLemmas.{any_fails, exports_required, fails_any, same_names}
+use Rattle.wc_graph.proofs.ListLemmas.{contains_unmapped, in_all}
 use Rattle.wc_gc.proofs.CutCauseLemmas.{causes_are_of_cut}
 use Rattle.wc_gc.proofs.CutCodeLemmas.{Agrees, body_agrees, func_type_agrees, global_twice, table_agrees}
 use Rattle.wc_gc.proofs.CutFoundLemmas.{cut, cut_is, found_moved, parts_same, parts_stackless}
@@ -53,8 +55,9 @@ use Rattle.wc_gc.proofs.CutImageLemmas.{both_mapped, image_is_of_cut, kept_twice
 use Rattle.wc_gc.proofs.CutListLemmas.{keep_all}
 use Rattle.wc_gc.proofs.ImageLemmas.{map_twice}
 use Rattle.wc_gc.proofs.InitRefLemmas.{global_coded}
-use Rattle.wc_gc.proofs.KeptItemLemmas.{get_some, kept_first}
-use Rattle.wc_gc.proofs.LiveItemLemmas.{contains_mapped}
+use Rattle.wc_graph.proofs.ListLemmas.{get_some}
+use Rattle.wc_gc.proofs.KeptItemLemmas.{kept_first}
+use Rattle.wc_graph.proofs.ListLemmas.{contains_mapped}
 use Rattle.wc_gc.proofs.TraceLemmas.{each_in, live_closed}
 use Rattle.wc_gc.proofs.TrimLemmas.{bools, tests_one}
 use Rattle.wc_gc.proofs.TrimmedLemmas.{trimmed}

@@ -14,9 +14,10 @@ use Rattle.wc_gc.specs.Image.{kept_items}
 use Rattle.wc_gc.proofs.BuiltPartLemmas.{all_at}
 use Rattle.wc_gc.proofs.CutFoundLemmas.{any_at}
 use Rattle.wc_gc.proofs.CutListLemmas.{rank_no, rank_yes}
-use Rattle.wc_gc.proofs.ImageUnfoldingLemmas.{back_at}
-use Rattle.wc_gc.proofs.KeptItemLemmas.{get_some, kept_from, kept_is}
-use Rattle.wc_gc.proofs.TypedGlobalLemmas.{get_front as front_at}
+use Rattle.wc_graph.proofs.ListLemmas.{back_at}
+use Rattle.wc_graph.proofs.ListLemmas.{get_some}
+use Rattle.wc_gc.proofs.KeptItemLemmas.{kept_from, kept_is}
+use Rattle.wc_graph.proofs.ListLemmas.{get_front as front_at}
 
 -- what is kept by a test of items
 

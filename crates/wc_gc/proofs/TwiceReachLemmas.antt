@@ -1,15 +1,13 @@
 -- In a cut all items are reached by its exports, and code that is reached stays in range.
-use Rattle.std.proofs.Common.{◌≡◌, ℕ, List, [], ◌∷◌, map, refl, sym, ◌∙◌, ap, subst, Bool, true, false, ◌&&◌, not, cond, Option, Some, None, arith}
-use Rattle.std.proofs.Common.{◌<◌, length, ltb-true}
-use Rattle.std.specs.Prelude.{Contains, IsTrue, filter}
+use Rattle.std.proofs.Common.{◌≡◌, ℕ, List, [], ◌∷◌, map, refl, sym, ◌∙◌, ap, subst, Bool, true, false, ◌&&◌, not, Option, Some, None, arith, ◌<◌, length, ltb-true}
+use Rattle.std.specs.Prelude.{Contains, IsTrue}
 use Rattle.std.specs.List.{AllByRecursion, list_all, slice_get}
 use Rattle.std.specs.Option.{option_map, option_map_or}
 use Rattle.std.proofs.lemmas.Bool.{false≢true, lt-ltb, and_parts}
-use Rattle.std.proofs.lemmas.List.Elements.{All-contains_itself, recursion_from_All}
 use Rattle.std.proofs.lemmas.Option.{slice_get-map}
 use Rattle.wc_read.specs.Bodies.{BodyValue, local_types}
 use Rattle.wc_read.specs.Exports.{ExportValue}
-use Rattle.wc_read.specs.Items.{DefValue, imported, local}
+use Rattle.wc_read.specs.Items.{DefValue, imported, local, def_seen}
 use Rattle.wc_read.specs.Names.{GlobalNameValue}
 use Rattle.wc_read.specs.Operators.{InstrValue}
 use Rattle.wc_read.specs.References.{names_segment}
@@ -17,41 +15,27 @@ use Rattle.wc_read.specs.Renumbering.{Renumbering, renumber_func_type, renumber_
 use Rattle.wc_read.specs.declared.operators.Space.{Space}
 use Rattle.wc_read.specs.declared.operators.Space.TheVariants.{Types, Funcs, Tables, Memories, Globals}
 use Rattle.wc_read.proofs.RenumberingLemmas.{segments_under}
-use Rattle.wc_write.specs.BuiltValues.{def_seen}
 use Rattle.wc_gc.specs.Counts.{count_below}
 use Rattle.wc_gc.specs.Cut.{part_names}
-use Rattle.wc_gc.specs.Decoded.{DecodedModule, ItemIndex, exported_item, is_in, size_of}
-use Rattle.wc_gc.specs.Entries.{Entry, body_refs, code_body_refs, code_refs, def_refs, entry_at, entry_refs, func_entry, global_entry, instr_refs}
-use Rattle.wc_gc.specs.Entries.{memory_entry, no_entry, refs_in, table_entry, type_entry, val_type_refs}
+use Rattle.wc_read.specs.Decoded.{DecodedModule, ItemIndex, exported_item, is_in, size_of}
+use Rattle.wc_read.specs.Entries.{Entry, body_refs, code_body_refs, code_refs, def_refs, entry_at, entry_refs, func_entry, global_entry, instr_refs}
+use Rattle.wc_read.specs.Entries.{memory_entry, no_entry, refs_in, table_entry, type_entry, val_type_refs}
 use Rattle.wc_gc.specs.Image.{kept_items, new_export, new_table, rank, renumber_body, renumber_code}
-use Rattle.wc_gc.specs.Reached.{IsPath, IsReached}
+use Rattle.wc_graph.specs.Reached.{IsPath}
+use Rattle.wc_gc.specs.Reached.{IsReached}
 use Rattle.wc_gc.specs.InRange.{is_operator_in_range, is_item_in_range, is_code_in_range, is_code_body_in_range, is_def_in_range, is_entry_in_range}
 use Rattle.wc_gc.specs.TraceLaws.{AreClosed, CutIsReached}
 use Rattle.wc_gc.specs.Unfolding.{renumber_entry, renumber_func, renumber_global}
 use Rattle.wc_gc.proofs.BuiltPartLemmas.{each_weaker}
-use Rattle.wc_gc.proofs.ChainLemmas.{contains_unmapped, in_all, in_filter}
+use Rattle.wc_graph.proofs.ListLemmas.{contains_unmapped, in_all, in_filter, get_some, contains_mapped, from_filter}
 use Rattle.wc_gc.proofs.CutFoundLemmas.{cut, cut_is, funcs_kept, globals_kept, memories_kept, tables_kept, types_kept}
 use Rattle.wc_gc.proofs.CutListLemmas.{split_all}
-use Rattle.wc_gc.proofs.KeptItemLemmas.{get_some, rank_at}
-use Rattle.wc_gc.proofs.LiveItemLemmas.{contains_mapped}
+use Rattle.wc_gc.proofs.KeptItemLemmas.{rank_at}
 use Rattle.wc_gc.proofs.RankLawLemmas.{fewer_below}
 use Rattle.wc_gc.proofs.TwiceListLemmas.{of_rank}
 use Rattle.wc_gc.proofs.UnfoldingLemmas.{entry_refs_under, instr_under, locals_under}
 
 -- lists
-
-pub all_filter : {A : Type 0} (P : A → Type 0) (p : A → Bool) (xs : List A) → AllByRecursion P xs → AllByRecursion P (filter p xs)
-all_filter P p [] h = tt
-all_filter P p (x ∷ xs) h =
-    elim (p x) as (λ b. AllByRecursion P (cond b (x ∷ filter p xs) (filter p xs))) [
-      | true ↦
-          (h.0, all_filter P p xs h.1)
-      | false ↦ all_filter P p xs h.1
-    ]
-
-pub from_filter : {A : Type 0} (p : A → Bool) (xs : List A) (x : A) → Contains (filter p xs) x → Contains xs x
-from_filter p xs x c =
-    in_all (Contains xs) (filter p xs) x (all_filter (Contains xs) p xs (recursion_from_All (Contains xs) xs (All-contains_itself xs))) c
 
 all_mapped_pass : {A B : Type 0} (p : B → Bool) (f : A → B) (xs : List A) → AllByRecursion (λ x. p (f x) ≡ true) xs → list_all p (map f xs) ≡ true
 all_mapped_pass p f [] h = refl

@@ -15,14 +15,16 @@ use Rattle.wc_read.specs.Operators.{InstrValue}
 use Rattle.wc_read.specs.declared.types.GlobalType.{GlobalType}
 use Rattle.wc_read.proofs.DecodingLemmas.{body_found, init_found}
 use Rattle.wc_write.specs.Bodies.{body_text}
-use Rattle.wc_write.specs.BuiltValues.{IsRead, IsReadBody, IsReadInit, def_seen, item_seen, written_module}
+use Rattle.wc_write.specs.BuiltValues.{IsRead, IsReadBody, IsReadInit, written_module}
+use Rattle.wc_read.specs.Items.{def_seen, item_seen}
 use Rattle.wc_write.specs.Modules.{BuiltValue, operators_text}
 use Rattle.wc_write.specs.Spaces.{DefinedValue, defined, defined_by, defined_contents}
-use Rattle.wc_gc.specs.Decoded.{FuncCode, decode}
+use Rattle.wc_read.specs.Decoded.{FuncCode, decode}
 use Rattle.wc_gc.specs.Exports.{export_names, is_required, kept_exports, without}
 use Rattle.wc_gc.specs.Unfolding.{built_module}
 use Rattle.wc_gc.proofs.BuiltPartLemmas.{each_weaker}
-use Rattle.wc_gc.proofs.ChainLemmas.{any_fails, in_all}
+use Rattle.wc_gc.proofs.ChainLemmas.{any_fails}
+use Rattle.wc_graph.proofs.ListLemmas.{in_all}
 use Rattle.wc_gc.proofs.TwiceImageLemmas.{mapped_each}
 use Rattle.wc_gc.proofs.UnfoldingLemmas.{global_of}
 

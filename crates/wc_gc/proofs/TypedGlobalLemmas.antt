@@ -12,17 +12,9 @@ use Rattle.wc_gc.specs.Counts.{count_below}
 use Rattle.wc_gc.specs.Image.{kept_items}
 use Rattle.wc_gc.proofs.RankLemmas.{one_more}
 use Rattle.wc_gc.proofs.KeptItemLemmas.{kept_from, kept_is}
+use Rattle.wc_graph.proofs.ListLemmas.{get_front, get_last}
 
 -- an item of a list that grows at its end
-
-pub get_front : {A : Type 0} (xs ys : List A) (n : ℕ) (x : A) → slice_get xs n ≡ Some x → slice_get (xs ++ ys) n ≡ Some x
-get_front [] ys n x e = absurd cc
-get_front (z ∷ xs) ys zero x e = e
-get_front (z ∷ xs) ys (suc n) x e = get_front xs ys n x e
-
-pub get_last : {A : Type 0} (xs : List A) (x : A) → slice_get (xs ++ x ∷ []) (length xs) ≡ Some x
-get_last [] x = refl
-get_last (z ∷ xs) x = get_last xs x
 
 get_push : {A : Type 0} (xs : List A) (y : A) (n : ℕ) (x : A) → slice_get (xs ++ y ∷ []) n ≡ Some x → (slice_get xs n ≡ Some x) ⊎ ((n ≡ length xs) × (y ≡ x))
 get_push [] y zero x e = let same : y ≡ x = cc e in inr (refl, same)

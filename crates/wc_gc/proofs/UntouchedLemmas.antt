@@ -13,10 +13,10 @@ use Rattle.wc_read.specs.Bodies.{BodyValue}
 use Rattle.wc_read.specs.Items.{DefValue, imported, local}
 use Rattle.wc_read.specs.declared.operators.Space.TheVariants.{Types, Funcs, Tables, Memories, Globals}
 use Rattle.wc_write.specs.BuiltValues.{is_defined, is_import}
-use Rattle.wc_gc.specs.Decoded.{FuncCode, ItemIndex}
+use Rattle.wc_read.specs.Decoded.{FuncCode, ItemIndex}
 use Rattle.wc_gc.specs.Edit.{added_funcs, added_imports, edit, edited_def, edited_func, edited_funcs, import_func, is_exported_func, lazy_func, lazy_position}
 use Rattle.wc_gc.specs.Edit.{one_if, only_if, replaced, with_call}
-use Rattle.wc_gc.specs.Entries.{Entry, no_entry, type_entry, func_entry, entry_at, entry_refs}
+use Rattle.wc_read.specs.Entries.{Entry, no_entry, type_entry, func_entry, entry_at, entry_refs}
 use Rattle.wc_gc.specs.Found.{FoundView, found_in, is_realloc, is_realloc_at}
 use Rattle.wc_gc.specs.Parts.{SettingsView}
 use Rattle.wc_gc.specs.Unfolding.{Tree, blank, unfolding_of}
@@ -25,9 +25,9 @@ use Rattle.wc_gc.specs.UntouchedLaws.{KeepsCode, CallsKeepCode}
 use Rattle.wc_gc.specs.declared.parts.Parts.{Parts}
 use Rattle.wc_gc.proofs.BuiltPartLemmas.{each_weaker}
 use Rattle.wc_gc.proofs.ImageLemmas.{enumerated_read}
-use Rattle.wc_gc.proofs.ImageUnfoldingLemmas.{back_at}
-use Rattle.wc_gc.proofs.KeptItemLemmas.{get_some}
-use Rattle.wc_gc.proofs.TypedGlobalLemmas.{get_front as front_at}
+use Rattle.wc_graph.proofs.ListLemmas.{back_at}
+use Rattle.wc_graph.proofs.ListLemmas.{get_some}
+use Rattle.wc_graph.proofs.ListLemmas.{get_front as front_at}
 
 -- a function that is not edited
 

@@ -10,19 +10,21 @@ use Rattle.wc_read.specs.Exports.{ExportValue}
 use Rattle.wc_read.specs.Items.{FuncValue, GlobalValue, MemoryValue}
 use Rattle.wc_read.specs.Modules.{IsModule, ModuleValue, count_of}
 use Rattle.wc_read.specs.declared.operators.Space.TheVariants.{Types, Funcs, Tables, Memories, Globals}
-use Rattle.wc_write.specs.BuiltValues.{IsWritable, item_seen}
+use Rattle.wc_write.specs.BuiltValues.{IsWritable}
+use Rattle.wc_read.specs.Items.{item_seen}
 use Rattle.wc_write.proofs.WritableModuleLemmas.{spelled_writable}
-use Rattle.wc_gc.specs.Decoded.{DecodedModule, ItemIndex, decode, exported_item, is_in}
-use Rattle.wc_gc.specs.Entries.{entry_at, entry_refs, func_entry, global_entry, memory_entry, no_entry, refs_in}
+use Rattle.wc_read.specs.Decoded.{DecodedModule, ItemIndex, decode, exported_item, is_in}
+use Rattle.wc_read.specs.Entries.{entry_at, entry_refs, func_entry, global_entry, memory_entry, no_entry, refs_in}
 use Rattle.wc_gc.specs.Exports.{kept_exports}
 use Rattle.wc_gc.specs.LiveItems.{HasLiveBody, IsLive}
-use Rattle.wc_gc.specs.Reached.{IsPath}
+use Rattle.wc_graph.specs.Reached.{IsPath}
 use Rattle.wc_gc.specs.InRange.{is_item_in_range, is_entry_in_range}
 use Rattle.wc_gc.specs.UntouchedLaws.{IsUnedited, LiveUnfold, is_edited, original_of}
 use Rattle.wc_gc.proofs.BuiltPartLemmas.{all_at}
 use Rattle.wc_gc.proofs.ExportLemmas.{all_kept}
 use Rattle.wc_gc.proofs.InitRefLemmas.{global_names_there}
-use Rattle.wc_gc.proofs.LiveItemLemmas.{each_named, reached_more}
+use Rattle.wc_graph.proofs.ListLemmas.{each_named}
+use Rattle.wc_gc.proofs.LiveItemLemmas.{reached_more}
 use Rattle.wc_gc.proofs.LivenessLemmas.{export_there}
 use Rattle.wc_gc.proofs.NamedThereLemmas.{There, func_there, table_names_there, type_names_there}
 use Rattle.wc_gc.proofs.ReachLemmas.{there_from}

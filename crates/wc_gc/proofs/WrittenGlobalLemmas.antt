@@ -15,10 +15,11 @@ use Rattle.wc_read.proofs.OptionsLemmas.{some_same}
 use Rattle.wc_write.specs.Text.{FitsSize}
 use Rattle.wc_write.specs.Values.{IsInstr}
 use Rattle.wc_write.specs.Modules.{operators_text}
-use Rattle.wc_write.specs.BuiltValues.{def_seen, IsInitialiser, HasInitialiser}
+use Rattle.wc_read.specs.Items.{def_seen}
+use Rattle.wc_write.specs.BuiltValues.{IsInitialiser, HasInitialiser}
 use Rattle.wc_write.proofs.ContentLemmas.{init_spelled}
-use Rattle.wc_gc.specs.Decoded.{ItemIndex}
-use Rattle.wc_gc.specs.Entries.{instr_refs, code_refs, init_refs, def_refs}
+use Rattle.wc_read.specs.Decoded.{ItemIndex}
+use Rattle.wc_read.specs.Entries.{instr_refs, code_refs, init_refs, def_refs}
 use Rattle.wc_gc.specs.Image.{new_init, renumber_code}
 use Rattle.wc_gc.proofs.InitTypeLemmas.{Follows, NamesOnly, leaves_stays, all-left, all-right}
 use Rattle.wc_gc.proofs.SpelledItemLemmas.{IfLocal}

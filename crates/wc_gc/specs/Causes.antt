@@ -5,7 +5,7 @@ use Rattle.std.specs.Option.{option_map_or, option_to_list}
 use Rattle.wc_read.specs.Items.{MemoryValue}
 use Rattle.wc_read.specs.Modules.{ModuleValue}
 use Rattle.wc_read.specs.declared.types.MemoryType.{MemoryType}
-use Rattle.wc_gc.specs.Decoded.{DecodedModule, FuncCode, ItemIndex}
+use Rattle.wc_read.specs.Decoded.{DecodedModule, FuncCode, ItemIndex}
 use Rattle.wc_gc.specs.Found.{FoundView, is_own_memory_at, is_realloc_type}
 use Rattle.wc_gc.specs.Parts.{SettingsView, adds_growing, is_any, is_lazy, last_of}
 use Rattle.wc_gc.specs.LiveItems.{IsLive}

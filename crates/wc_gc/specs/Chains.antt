@@ -2,11 +2,11 @@
 use Rattle.std.specs.Prelude.{ℕ, List, IsTrue, Contains, ◌↔◌}
 use Rattle.wc_read.specs.Exports.{ExportValue}
 use Rattle.wc_read.specs.Modules.{IsModule, ModuleValue}
-use Rattle.wc_gc.specs.Decoded.{ItemIndex, decode, exported_item}
-use Rattle.wc_gc.specs.Entries.{refs_in}
+use Rattle.wc_read.specs.Decoded.{ItemIndex, decode, exported_item}
+use Rattle.wc_read.specs.Entries.{refs_in}
 use Rattle.wc_gc.specs.Exports.{is_required, kept_exports}
 use Rattle.wc_gc.specs.LiveItems.{IsLive}
-use Rattle.wc_gc.specs.Reached.{IsPath}
+use Rattle.wc_graph.specs.Reached.{IsPath}
 
 -- an export of the module whose name is required
 pub record IsRequiredExport (required : List (List ℕ)) (m : ModuleValue) (e : ExportValue) : Type 0 where

@@ -4,7 +4,7 @@ use Rattle.wc_read.specs.Exports.{ExportValue}
 use Rattle.wc_read.specs.Names.{GlobalNameValue}
 use Rattle.wc_read.specs.Renumbering.{renumber_func_type}
 use Rattle.wc_read.specs.declared.operators.Space.TheVariants.{Types, Funcs, Tables, Memories, Globals}
-use Rattle.wc_gc.specs.Decoded.{DecodedModule, ItemIndex}
+use Rattle.wc_read.specs.Decoded.{DecodedModule, ItemIndex}
 use Rattle.wc_gc.specs.Found.{allocation_state, found_in, stack_pointer}
 use Rattle.wc_gc.specs.Image.{kept_of, new_export, new_table, rank}
 use Rattle.wc_gc.specs.Unfolding.{renumber_func, renumber_global}

@@ -10,7 +10,7 @@ use Rattle.wc_read.specs.declared.exports.ExportKind.{ExportKind}
 use Rattle.wc_read.specs.declared.exports.ExportKind.TheVariants.{Func, Table, Memory, Global}
 use Rattle.wc_read.specs.declared.operators.Space.TheVariants.{Funcs}
 use Rattle.wc_gc.specs.AddedCode.{call, growing_body, stack_body, realloc_type, empty_type}
-use Rattle.wc_gc.specs.Decoded.{DecodedModule, FuncCode, ItemIndex}
+use Rattle.wc_read.specs.Decoded.{DecodedModule, FuncCode, ItemIndex}
 use Rattle.wc_gc.specs.Found.{main_module, is_realloc, FoundView, found_in, is_empty}
 use Rattle.wc_gc.specs.Parts.{SettingsView, first_of, last_of, parts_of}
 use Rattle.wc_gc.specs.declared.parts.Parts.{Parts}

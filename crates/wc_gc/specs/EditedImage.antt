@@ -8,7 +8,7 @@ use Rattle.wc_read.specs.declared.operators.Space.TheVariants.{Types, Funcs, Tab
 use Rattle.wc_write.specs.BuiltValues.{is_imported, is_defined}
 use Rattle.wc_write.specs.Modules.{BuiltValue, SizesFit}
 use Rattle.wc_gc.specs.Counts.{count_below}
-use Rattle.wc_gc.specs.Decoded.{FuncCode}
+use Rattle.wc_read.specs.Decoded.{FuncCode}
 use Rattle.wc_gc.specs.Edit.{EditedModule}
 use Rattle.wc_gc.specs.declared.fault.GcFault.{GcFault}
 use Rattle.wc_gc.specs.declared.fault.GcFault.TheVariants.{Memory, TooLarge}

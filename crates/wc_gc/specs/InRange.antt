@@ -6,8 +6,8 @@ use Rattle.wc_read.specs.Operators.{InstrValue}
 use Rattle.wc_read.specs.Bodies.{BodyValue, local_types}
 use Rattle.wc_read.specs.References.{names_segment}
 use Rattle.wc_read.specs.Items.{DefValue, imported, local}
-use Rattle.wc_gc.specs.Decoded.{DecodedModule, ItemIndex, is_in}
-use Rattle.wc_gc.specs.Entries.{Entry, no_entry, type_entry, func_entry, table_entry, memory_entry, global_entry, entry_at, instr_refs, val_type_refs}
+use Rattle.wc_read.specs.Decoded.{DecodedModule, ItemIndex, is_in}
+use Rattle.wc_read.specs.Entries.{Entry, no_entry, type_entry, func_entry, table_entry, memory_entry, global_entry, entry_at, instr_refs, val_type_refs}
 
 -- an operator that names only items of the module; it has no segments
 abbrev pub is_operator_in_range : DecodedModule → InstrValue → Bool

@@ -6,7 +6,7 @@ use Rattle.wc_read.specs.Renumbering.{Renumbering}
 use Rattle.wc_read.specs.declared.operators.Space.{Space}
 use Rattle.wc_write.specs.Values.{AreBytes, IsBody}
 use Rattle.wc_write.specs.BuiltValues.{IsInitialiser, IsRead}
-use Rattle.wc_gc.specs.Decoded.{decode}
+use Rattle.wc_read.specs.Decoded.{decode}
 use Rattle.wc_gc.specs.Edit.{edit}
 use Rattle.wc_gc.specs.EditedImage.{edited_image}
 use Rattle.wc_gc.specs.Image.{renumber_body, renumber_code}

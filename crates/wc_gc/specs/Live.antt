@@ -1,14 +1,9 @@
 -- Sets of live items.
-use Rattle.std.specs.Prelude.{◌≡◌, ◌≢◌, ℕ, Bool, true}
+use Rattle.std.specs.Prelude.{ℕ, Bool}
 use Rattle.wc_read.specs.declared.operators.Space.{Space}
 use Rattle.wc_read.specs.declared.operators.Space.TheVariants.{Types, Funcs, Tables, Memories, Globals}
-use Rattle.wc_gc.specs.Decoded.{ItemIndex}
+use Rattle.wc_read.specs.Decoded.{ItemIndex}
 use Rattle.wc_gc.specs.declared.live.LiveSets.{LiveSets}
-
--- one thing is put in, and all else stays
-pub record Inserts {X : Type 0} (old new : X → Bool) (x : X) : Type 0 where
-  pub present : new x ≡ true
-  pub others : (y : X) → y ≢ x → new y ≡ old y
 
 -- the set of a space
 abbrev pub set_of : {L : Type 0} → LiveSets L → Space → L

@@ -5,14 +5,14 @@ use Rattle.std.specs.Option.{option_map, option_to_list}
 use Rattle.std.specs.Str.{bytes_eq}
 use Rattle.wc_read.specs.Exports.{ExportValue}
 use Rattle.wc_read.specs.Modules.{ModuleValue, SpellsModule}
-use Rattle.wc_gc.specs.Decoded.{ItemIndex, decode, exported_item}
+use Rattle.wc_read.specs.Decoded.{ItemIndex, decode, exported_item}
 use Rattle.wc_gc.specs.Edit.{edit}
-use Rattle.wc_gc.specs.Entries.{refs_in}
+use Rattle.wc_read.specs.Entries.{refs_in}
 use Rattle.wc_gc.specs.Exports.{kept_exports}
 use Rattle.wc_gc.specs.LiveItems.{IsLive, TrimInput}
 use Rattle.wc_gc.specs.Parts.{SettingsView}
-use Rattle.wc_gc.specs.RestrictionLaws.{IsImportItem}
-use Rattle.wc_gc.specs.ImportChains.{IsFinderChain, IsShortestChain}
+use Rattle.wc_read.specs.ImportItems.{IsImportItem}
+use Rattle.wc_graph.specs.ShortestChains.{IsFinderChain, IsShortestChain}
 use Rattle.wc_gc.specs.Trim.{IsImageText}
 use Rattle.wc_gc.specs.declared.import_chains.Chain.{Chain}
 use Rattle.wc_gc.specs.declared.import_chains.ImportChains.{ImportChains}

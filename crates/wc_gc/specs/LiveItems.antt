@@ -7,7 +7,7 @@ use Rattle.wc_read.specs.Sections.{IsComponent}
 use Rattle.wc_read.specs.Modules.{ModuleValue, SpellsModule}
 use Rattle.wc_read.specs.declared.fault.ReadFault.{ReadFault}
 use Rattle.wc_read.specs.declared.fault.ReadFault.TheVariants.{Memory as read_memory, Component}
-use Rattle.wc_gc.specs.Decoded.{ItemIndex, decode}
+use Rattle.wc_read.specs.Decoded.{ItemIndex, decode}
 use Rattle.wc_gc.specs.Exports.{kept_exports, missing_name}
 use Rattle.wc_gc.specs.Reached.{IsReached}
 use Rattle.wc_gc.specs.InRange.{is_item_in_range}

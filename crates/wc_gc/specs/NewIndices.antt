@@ -3,7 +3,7 @@ use Rattle.std.specs.Prelude.{◌≡◌, ℕ, ◌+◌, ◌-◌, ◌<◌, ◌^◌
 use Rattle.wc_read.specs.Renumbering.{Renumbering}
 use Rattle.wc_read.specs.declared.operators.Space.TheVariants.{Types, Funcs, Tables, Memories, Globals}
 use Rattle.wc_gc.specs.Counts.{count_below}
-use Rattle.wc_gc.specs.Decoded.{ItemIndex}
+use Rattle.wc_read.specs.Decoded.{ItemIndex}
 use Rattle.wc_gc.specs.Ranks.{rank_of, has_number}
 use Rattle.wc_gc.specs.declared.new_indices.Counts.{Counts}
 use Rattle.wc_gc.specs.declared.new_indices.NewIndices.{NewIndices}

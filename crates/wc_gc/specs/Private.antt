@@ -3,7 +3,6 @@ pub mod BodyCuts
 pub mod KeptBodies
 pub mod Edit
 pub mod TrimPlace
-pub mod Finders
 pub mod FuncGroups
 pub mod ImportPositions
 pub mod ItemCounts

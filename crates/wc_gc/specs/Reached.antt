@@ -1,17 +1,9 @@
 -- The items that exports reach.
-use Rattle.std.specs.Prelude.{◌≡◌, List, [], ◌∷◌, map, Contains}
+use Rattle.std.specs.Prelude.{List, map}
 use Rattle.wc_read.specs.Exports.{ExportValue}
-use Rattle.wc_gc.specs.Decoded.{DecodedModule, ItemIndex, exported_item}
-use Rattle.wc_gc.specs.Entries.{refs_in}
-
--- a path from a thing over others to the last of them, each named by the one before
-abbrev pub IsPath : {X : Type 0} → (X → List X) → X → List X → X → Type 0
-IsPath names x [] y = x ≡ y
-IsPath names x (z ∷ zs) y = Contains (names x) z × IsPath names z zs y
-
--- a thing to which a path leads from one of the roots
-abbrev pub IsReachedFrom : {X : Type 0} → (X → List X) → List X → X → Type 0
-IsReachedFrom {X} names roots y = (x : X) × Contains roots x × (path : List X) × IsPath names x path y
+use Rattle.wc_read.specs.Decoded.{DecodedModule, ItemIndex, exported_item}
+use Rattle.wc_read.specs.Entries.{refs_in}
+use Rattle.wc_graph.specs.Reached.{IsReachedFrom}
 
 -- an item to which a path leads from the item of one of these exports
 abbrev pub IsReached : DecodedModule → List ExportValue → ItemIndex → Type 0

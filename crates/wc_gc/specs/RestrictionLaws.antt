@@ -1,5 +1,5 @@
 -- What a trimmed adapter imports and exports, beside the adapter itself.
-use Rattle.std.specs.Prelude.{◌≡◌, ◌↔◌, ℕ, ◌+◌, List, [], ◌∷◌, Bool, true, false, cond, Option, Some, None, AllPairs, Contains}
+use Rattle.std.specs.Prelude.{◌≡◌, ◌↔◌, ℕ, List, Bool, false, Option, Some, None, AllPairs, Contains}
 use Rattle.std.specs.List.{All, AllZip, slice_get}
 use Rattle.std.specs.Option.{option_and_then, option_map}
 use Rattle.wc_read.specs.Exports.{ExportValue}
@@ -10,19 +10,19 @@ use Rattle.wc_read.specs.Renumbering.{renumber_func_type, renumber_global_type, 
 use Rattle.wc_read.specs.Types.{FuncTypeValue}
 use Rattle.wc_read.specs.declared.exports.ExportKind.{ExportKind}
 use Rattle.wc_read.specs.declared.exports.ExportKind.TheVariants as export
-use Rattle.wc_read.specs.declared.operators.Space.{Space}
-use Rattle.wc_read.specs.declared.operators.Space.TheVariants.{Funcs, Tables, Memories, Globals}
+use Rattle.wc_read.specs.declared.operators.Space.TheVariants.{Funcs}
 use Rattle.wc_read.specs.declared.types.GlobalType.{GlobalType}
 use Rattle.wc_read.specs.declared.types.ImportType.{ImportType}
 use Rattle.wc_read.specs.declared.types.ImportType.TheVariants.{Func, Table, Memory, Global}
 use Rattle.wc_read.specs.declared.types.MemoryType.{MemoryType}
 use Rattle.wc_read.specs.declared.types.TableType.{TableType}
 use Rattle.wc_write.specs.Values.{AreBytes}
-use Rattle.wc_gc.specs.Decoded.{ItemIndex, decode}
+use Rattle.wc_read.specs.Decoded.{ItemIndex, decode}
 use Rattle.wc_gc.specs.Found.{is_realloc_at, main_module}
 use Rattle.wc_gc.specs.LiveItems.{IsLive, TrimInput}
 use Rattle.wc_gc.specs.Parts.{SettingsView}
 use Rattle.wc_gc.specs.TrimmedText.{IsTrimmed}
+use Rattle.wc_read.specs.ImportItems.{IsImportItem}
 
 -- the type of what is imported or exported
 pub data ItemType : Type 0 where
@@ -80,23 +80,6 @@ pub record IsMainImport (realloc : Option (List ℕ)) (m : ModuleValue) (i : Imp
 abbrev pub HasOrigin : Option (List ℕ) → ModuleValue → ModuleValue → Option ℕ → ImportValue → Type 0
 HasOrigin realloc v m (Some position) i = (j : ImportValue) × (slice_get v.imports position ≡ Some j) × SameImport v m j i
 HasOrigin realloc v m None i = IsMainImport realloc m i
-
--- whether an import has its item in a space
-abbrev pub is_in_space : Space → ImportType → Bool
-is_in_space Funcs (Func index) = true
-is_in_space Tables (Table t) = true
-is_in_space Memories (Memory t) = true
-is_in_space Globals (Global t) = true
-is_in_space space t = false
-
--- the positions of the imports of a space, where the first import has this position
-abbrev pub positions_from : Space → ℕ → List ImportValue → List ℕ
-positions_from space first [] = []
-positions_from space first (i ∷ is) = cond (is_in_space space i.ty) (first ∷ positions_from space (first + 1) is) (positions_from space (first + 1) is)
-
--- the import at this position is this item: the imports of each space are its first items, in their order
-abbrev pub IsImportItem : List ImportValue → ℕ → ItemIndex → Type 0
-IsImportItem imports position x = slice_get (positions_from x.0 0 imports) x.1 ≡ Some position
 
 -- whether an item is an imported realloc
 abbrev pub is_realloc_item : ModuleValue → ItemIndex → Bool

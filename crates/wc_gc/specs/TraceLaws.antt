@@ -6,10 +6,10 @@ use Rattle.wc_read.specs.Modules.{ModuleValue, SpellsModule}
 use Rattle.wc_write.specs.Values.{AreBytes}
 use Rattle.wc_gc.specs.Causes.{DecidesLive}
 use Rattle.wc_gc.specs.Cut.{cut_of}
-use Rattle.wc_gc.specs.Decoded.{DecodedModule, ItemIndex, decode, exported_item, is_in, size_of}
+use Rattle.wc_read.specs.Decoded.{DecodedModule, ItemIndex, decode, exported_item, is_in, size_of}
 use Rattle.wc_gc.specs.Edit.{edit}
 use Rattle.wc_gc.specs.EditedImage.{edited_image}
-use Rattle.wc_gc.specs.Entries.{entry_at, entry_refs}
+use Rattle.wc_read.specs.Entries.{entry_at, entry_refs}
 use Rattle.wc_gc.specs.Found.{FoundView, found_in}
 use Rattle.wc_gc.specs.Exports.{kept_exports}
 use Rattle.wc_gc.specs.Laws.{AreSettings}

@@ -3,7 +3,7 @@ use Rattle.std.specs.Prelude.{◌≡◌, ℕ, ◌<◌, List, Bool, ◌⊎◌}
 use Rattle.wc_read.specs.Exports.{ExportValue}
 use Rattle.wc_read.specs.Modules.{ModuleValue, SpellsModule}
 use Rattle.wc_write.specs.Modules.{built_text}
-use Rattle.wc_gc.specs.Decoded.{DecodedModule, ItemIndex, decode}
+use Rattle.wc_read.specs.Decoded.{DecodedModule, ItemIndex, decode}
 use Rattle.wc_gc.specs.Causes.{IsFoundCause, DecidesLive}
 use Rattle.wc_gc.specs.Found.{found_in}
 use Rattle.wc_gc.specs.Edit.{edit}

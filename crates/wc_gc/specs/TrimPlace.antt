@@ -5,11 +5,11 @@ use Rattle.wc_read.specs.Bodies.{BodyValue}
 use Rattle.wc_read.specs.Items.{DefValue, imported, local}
 use Rattle.wc_read.specs.Modules.{ModuleValue, SpellsModule}
 use Rattle.wc_read.specs.Operators.{InstrValue}
-use Rattle.wc_read.specs.Place.{IsPlaceIn as is_place_in_bytes, read_place_text}
+use Rattle.wc_read.specs.Place.{IsCausePlace, IsPlaceIn as is_place_in_bytes, read_place_text}
 use Rattle.wc_read.specs.Sections.{data_count_id, data_id, element_id, start_id}
 use Rattle.wc_read.specs.declared.fault.ReadFault.{ReadFault}
 use Rattle.wc_read.specs.declared.operators.Space.TheVariants.{Funcs}
-use Rattle.wc_gc.specs.Decoded.{DecodedModule, FuncCode, decode}
+use Rattle.wc_read.specs.Decoded.{DecodedModule, FuncCode, decode}
 use Rattle.wc_gc.specs.InRange.{is_code_in_range, is_item_in_range, is_operator_in_range}
 use Rattle.wc_gc.specs.Exports.{missing_name}
 use Rattle.wc_gc.specs.LiveItems.{IsLive, IsSupported, IsUnread, TrimInput}
@@ -75,7 +75,7 @@ IsExplainedIn required m f answer = MatchOption answer ((p : TrimPlace) → ¬ (
 
 -- where bytes stop to be a module, which are refused with this fault
 abbrev pub IsUnreadPlace : List ℕ → ReadFault → TrimPlace → Type 0
-IsUnreadPlace bytes f (Bytes p) = IsUnread bytes f × is_place_in_bytes bytes p
+IsUnreadPlace bytes f (Bytes p) = IsUnread bytes f × is_place_in_bytes bytes p × IsCausePlace bytes f p
 IsUnreadPlace bytes f (Section id) = ⊥
 IsUnreadPlace bytes f (Body n k) = ⊥
 

@@ -13,14 +13,14 @@ use Rattle.wc_write.specs.BuiltValues.{is_defined}
 use Rattle.wc_write.specs.Values.{AreBytes}
 use Rattle.wc_gc.specs.AddedCode.{call}
 use Rattle.wc_gc.specs.Causes.{DecidesLive}
-use Rattle.wc_gc.specs.Decoded.{DecodedModule, FuncCode, ItemIndex, decode, is_in}
+use Rattle.wc_read.specs.Decoded.{DecodedModule, FuncCode, ItemIndex, decode, is_in}
 use Rattle.wc_gc.specs.Edit.{edit, is_exported_func, lazy_func, lazy_position}
-use Rattle.wc_gc.specs.Entries.{entry_at, entry_refs, func_entry, refs_in}
+use Rattle.wc_read.specs.Entries.{entry_at, entry_refs, func_entry, refs_in}
 use Rattle.wc_gc.specs.Found.{found_in, is_realloc_at}
 use Rattle.wc_gc.specs.Exports.{kept_exports}
 use Rattle.wc_gc.specs.LiveItems.{HasLiveBody, IsLive, TrimInput}
 use Rattle.wc_gc.specs.Parts.{SettingsView, parts_of}
-use Rattle.wc_gc.specs.Reached.{IsPath}
+use Rattle.wc_graph.specs.Reached.{IsPath}
 use Rattle.wc_gc.specs.TraceLaws.{AddsNothing}
 use Rattle.wc_gc.specs.Unfolding.{unfolding_of, edited_module}
 use Rattle.wc_gc.specs.declared.parts.Parts.{Parts}

@@ -10,7 +10,7 @@ ghost use Rattle.wc_read.specs.declared.operators.Space.TheVariants.{Funcs};
 ghost use Rattle.wc_write.specs.Modules.{built_value_by};
 ghost use Rattle.wc_gc.specs.AddedCode.{empty_type, realloc_type};
 ghost use Rattle.wc_gc.specs.Bits.{bit_of};
-ghost use Rattle.wc_gc.specs.Decoded.{decoded_module, global_code};
+ghost use Rattle.wc_read.specs.Decoded.{decoded_module, global_code};
 ghost use Rattle.wc_gc.specs.Edit.{only_if, types_added};
 ghost use Rattle.wc_gc.specs.EditedImage.{edited_image, edited_rank};
 ghost use Rattle.wc_gc.specs.Private.Edit.{AreCoded, AreCodedAt, IsCodedAt, edited_of, funcs_at, funcs_of, image_funcs, image_types, live_funcs, new_funcs, new_indices, settings_of, types_of, written_funcs};

@@ -4,7 +4,7 @@ ghost use Rattle.std.specs.Prelude.{◌≡◌, ◌<◌, ◌&&◌, IfErr, IsOk};
 ghost use Rattle.std.specs.List.{list_all, list_any};
 ghost use Rattle.wc_read.specs.Types.{func_type_value};
 ghost use Rattle.wc_gc.specs.Causes.{IsFoundCause, called_reallocs, grows_memory, has_page_size, has_page_size_at, has_realloc_type, is_realloc_type_at};
-ghost use Rattle.wc_gc.specs.Decoded.{decoded_module};
+ghost use Rattle.wc_read.specs.Decoded.{decoded_module};
 ghost use Rattle.wc_gc.specs.Found.{are_i32, found_view, is_i32, is_own_memory_at, is_realloc_type};
 ghost use Rattle.wc_gc.specs.LiveItems.{IsFirstCause};
 ghost use Rattle.wc_gc.specs.Parts.{settings_view};
@@ -60,7 +60,7 @@ fn has_own_memory(adapter: &Module<'_>, memories: &[u32]) -> bool
 }
 
 /// Whether an index is that of a memory of the adapter's own.
-#[tactic(auto, unfolding(crate::specs::Decoded::decoded_module))]
+#[tactic(auto, unfolding(wc_read::specs::Decoded::decoded_module))]
 fn is_own_memory(adapter: &Module<'_>, index: u32) -> bool
     ensures { result ≡ is_own_memory_at (decoded_module adapter.now) index }
 {
@@ -102,7 +102,7 @@ fn has_realloc_type(adapter: &Module<'_>, index: u32) -> bool
     }
 }
 
-#[tactic(auto, unfolding(crate::specs::Decoded::decoded_module))]
+#[tactic(auto, unfolding(wc_read::specs::Decoded::decoded_module))]
 fn is_realloc_type_at(adapter: &Module<'_>, index: u32) -> bool
     ensures { result ≡ is_realloc_type_at (decoded_module adapter.now) index }
 {
@@ -153,7 +153,7 @@ fn has_memory_to_grow(adapter: &Module<'_>, settings: Settings<'_>, found: &Foun
     found.memories.iter().any(|memory| has_page_size_at(adapter, *memory, settings.page_size_log2))
 }
 
-#[tactic(auto, unfolding(crate::specs::Decoded::decoded_module))]
+#[tactic(auto, unfolding(wc_read::specs::Decoded::decoded_module))]
 fn has_page_size_at(adapter: &Module<'_>, index: u32, page_size_log2: u32) -> bool
     ensures { result ≡ has_page_size_at (decoded_module adapter.now) page_size_log2 index }
 {

@@ -5,7 +5,7 @@ ghost use Rattle.wc_read.specs.Exports.{export_value};
 ghost use Rattle.wc_read.specs.declared.operators.Space.TheVariants.{Funcs};
 ghost use Rattle.wc_write.specs.Modules.{built_text};
 ghost use Rattle.wc_gc.specs.Counts.{AreDisjoint};
-ghost use Rattle.wc_gc.specs.Decoded.{decoded_module};
+ghost use Rattle.wc_read.specs.Decoded.{decoded_module};
 ghost use Rattle.wc_gc.specs.Edit.{added_types, edit, one_if};
 ghost use Rattle.wc_gc.specs.EditedImage.{FitsBits, IsImageFault, edited_image};
 ghost use Rattle.wc_gc.specs.Private.ItemCounts.{ItemCountsFitU32};

@@ -2,15 +2,15 @@
 
 ghost use Rattle.std.specs.Prelude.{◌≡◌, ◌<◌, ◌++◌, ◌↔◌, ℕ, List, length, All, Contains, IsTrue, MatchOption, true, slice_index, IsOk, IfOk, IfErr, OnOk};
 ghost use Rattle.wc_gc.specs.Bits.{bit_of};
-ghost use Rattle.wc_gc.specs.Decoded.{ItemIndex, decoded_module, is_in};
-ghost use Rattle.wc_gc.specs.Entries.{refs_in};
+ghost use Rattle.wc_read.specs.Decoded.{ItemIndex, decoded_module, is_in};
+ghost use Rattle.wc_read.specs.Entries.{refs_in};
 ghost use Rattle.wc_gc.specs.InRange.{is_item_in_range};
 ghost use Rattle.wc_gc.specs.Exports.{AreNamed, export_entries};
 ghost use Rattle.wc_gc.specs.LiveChains.{item_named, items_named};
 ghost use Rattle.wc_gc.specs.LiveItems.{names_of};
-ghost use Rattle.wc_gc.specs.Reached.{IsReachedFrom};
+ghost use Rattle.wc_graph.specs.Reached.{IsReachedFrom};
 ghost use Rattle.wc_gc.specs.Private.TrimPlace.{HasFound, IsStop};
-ghost use Rattle.wc_gc.specs.Private.Finders.{AreFound};
+ghost use Rattle.wc_graph.specs.Finders.{AreFound};
 ghost use Rattle.wc_gc.specs.Private.Roots.{AreNamedRoots, FindsRoot};
 ghost use Rattle.wc_gc.specs.Private.Search.{IsConsistent};
 

@@ -2,7 +2,7 @@
 
 ghost use Rattle.std.specs.Prelude.{◌≡◌, ◌&&◌, ◌<◌, ◌^◌, length, filter, IfOk};
 ghost use Rattle.std.specs.List.{range_with_len};
-ghost use Rattle.wc_gc.specs.Decoded.{decoded_module};
+ghost use Rattle.wc_read.specs.Decoded.{decoded_module};
 ghost use Rattle.wc_gc.specs.Found.{allocation_state, found_in, found_view, has_name, is_empty_type, is_empty_type_at, is_mutable_i32, is_mutable_i32_at, is_named_at, is_realloc, is_realloc_at, is_realloc_name};
 ghost use Rattle.wc_gc.specs.Live.{has_item};
 ghost use Rattle.wc_gc.specs.Private.ItemCounts.{ItemCountsFitU32};
@@ -122,7 +122,7 @@ fn live_empties<L: LiveSet>(
 }
 
 /// Whether an index is that of a function type without parameters and results.
-#[tactic(auto, unfolding(crate::specs::Decoded::decoded_module))]
+#[tactic(auto, unfolding(wc_read::specs::Decoded::decoded_module))]
 fn has_empty_type(adapter: &Module<'_>, index: u32) -> bool
     ensures { result ≡ is_empty_type_at (decoded_module adapter.now) index }
 {

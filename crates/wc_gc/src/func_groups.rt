@@ -4,7 +4,7 @@ ghost use Rattle.std.specs.Prelude.{◌≡◌, ◌<◌, ◌^◌, ℕ, ◌&&◌, 
 ghost use Rattle.std.specs.List.{list_any};
 ghost use Rattle.wc_read.specs.Exports.{export_value};
 ghost use Rattle.wc_gc.specs.Bits.{bit_of};
-ghost use Rattle.wc_gc.specs.Decoded.{func_code};
+ghost use Rattle.wc_read.specs.Decoded.{func_code};
 ghost use Rattle.wc_gc.specs.Edit.{is_exported_func, is_func};
 ghost use Rattle.wc_gc.specs.Private.FuncGroups.{AreGroups, has_func, is_import_after, is_in_group};
 ghost use Rattle.wc_gc.specs.Parts.{settings_view};

@@ -1,7 +1,7 @@
 //! Chains from required exports to the items that they reach.
 
 ghost use Rattle.std.specs.Prelude.{◌≡◌, ◌≤◌, ◌<◌, ℕ, length, slice_index, IfOk};
-ghost use Rattle.wc_gc.specs.ImportChains.{AreFinders, IsFinderChain};
+ghost use Rattle.wc_graph.specs.ShortestChains.{AreFinders, IsFinderChain};
 
 use std::alloc::{AllocError, Global};
 use wc_read::Space;

@@ -3,7 +3,7 @@
 ghost use Rattle.std.specs.Prelude.{◌≡◌, ◌<◌, length, slice_set, IfOk, IfSome, Some};
 ghost use Rattle.std.specs.Option.{option_map_or};
 ghost use Rattle.wc_read.specs.Imports.{import_values};
-ghost use Rattle.wc_gc.specs.RestrictionLaws.{is_in_space, positions_from};
+ghost use Rattle.wc_read.specs.ImportItems.{is_in_space, positions_from};
 ghost use Rattle.wc_gc.specs.Private.ImportPositions.{AreBySpace, ArePositionsIn, import_at};
 
 use std::alloc::{AllocError, Global};

@@ -2,7 +2,7 @@
 
 ghost use Rattle.wc_gc.specs.Laws.{BodiesStaySpellable, InitialisersStaySpellable, KeepsBits, TrimmedIsRead};
 ghost use Rattle.std.specs.Prelude.{Bool};
-ghost use Rattle.wc_gc.specs.Decoded.{ItemIndex};
+ghost use Rattle.wc_read.specs.Decoded.{ItemIndex};
 ghost use Rattle.wc_gc.specs.Image.{rank};
 ghost use Rattle.wc_gc.specs.Edit.{EditedModule};
 ghost use Rattle.wc_gc.specs.Unfolding.{ImageUnfolds, RenumberedUnfolds, TrimmedIsClosed, TrimmedUnfolds};

@@ -3,10 +3,11 @@
 ghost use Rattle.std.specs.Prelude.{◌≡◌, ◌≤◌, ◌<◌, ◌+◌, ◌*◌, ◌&&◌, ◌||◌, nat_eq, nat_lt, ◌/◌, ◌%◌, ◌==◌, ◌^◌, ℕ, Bool, not, false, true, length, filter, slice_index, IfOk, IsOk, OnOk, OnErr};
 ghost use Rattle.std.specs.Int.{bit_at};
 ghost use Rattle.std.specs.List.{range_with_len};
-ghost use Rattle.wc_gc.specs.Decoded.{ItemIndex};
+ghost use Rattle.wc_read.specs.Decoded.{ItemIndex};
 ghost use Rattle.wc_gc.specs.Bits.{bit_of};
 ghost use Rattle.wc_gc.specs.Counts.{count_below};
-ghost use Rattle.wc_gc.specs.Live.{Inserts, has_item};
+ghost use Rattle.wc_graph.specs.Growth.{Inserts};
+ghost use Rattle.wc_gc.specs.Live.{has_item};
 ghost use Rattle.wc_gc.specs.Ranks.{has_number, rank_of};
 
 use crate::range_set::RangeSet;

@@ -3,7 +3,7 @@
 ghost use Rattle.std.specs.Prelude.{◌≡◌, map, IsOk, IfOk, IfErr};
 ghost use Rattle.wc_read.specs.Exports.{export_value};
 ghost use Rattle.wc_read.specs.Modules.{IsModule, module_value};
-ghost use Rattle.wc_gc.specs.Decoded.{exported_item};
+ghost use Rattle.wc_read.specs.Decoded.{exported_item};
 ghost use Rattle.wc_gc.specs.Exports.{kept_exports};
 ghost use Rattle.wc_gc.specs.Live.{has_item};
 ghost use Rattle.wc_gc.specs.Private.KeptBodies.{AreBodiesCut};

@@ -3,7 +3,7 @@
 ghost use Rattle.std.specs.Prelude.{◌≡◌, ◌≤◌, ◌<◌, ◌+◌, ◌-◌, ◌++◌, ◌||◌, ℕ, IsTrue, nat_eq, false, length, filter, min, slice_index_or, IfOk, OnOk, OnErr};
 ghost use Rattle.std.specs.List.{list_any, range_with_len};
 ghost use Rattle.wc_gc.specs.Ranges.{AreRanges, in_ranges};
-ghost use Rattle.wc_gc.specs.Live.{Inserts};
+ghost use Rattle.wc_graph.specs.Growth.{Inserts};
 ghost use Rattle.wc_gc.specs.Private.RangeSet.{IsCut, joined_at};
 
 use crate::live::LiveSet;

@@ -10,9 +10,9 @@ ghost use Rattle.wc_read.specs.References.{is_segment, reference, type_reference
 ghost use Rattle.wc_read.specs.Types.{func_type_value};
 ghost use Rattle.wc_read.specs.InitOperators.{init_bytes_left, init_left};
 ghost use Rattle.wc_read.specs.BodyOperators.{body_in, body_of, bytes_left, init_in, KeepsLocals, locals_read, next_and_left, operators_left};
-ghost use Rattle.wc_gc.specs.Decoded.{ItemIndex, decoded_module, func_code, global_code, is_in};
-ghost use Rattle.wc_gc.specs.Entries.{body_refs, func_refs, func_type_refs, global_refs, init_refs, instr_refs, present, refs_in, refs_list, type_items, val_type_refs};
-ghost use Rattle.wc_gc.specs.Reached.{IsReachedFrom};
+ghost use Rattle.wc_read.specs.Decoded.{ItemIndex, decoded_module, func_code, global_code, is_in};
+ghost use Rattle.wc_read.specs.Entries.{body_refs, func_refs, func_type_refs, global_refs, init_refs, instr_refs, present, refs_in, refs_list, type_items, val_type_refs};
+ghost use Rattle.wc_graph.specs.Reached.{IsReachedFrom};
 ghost use Rattle.wc_gc.specs.Private.BodyCuts.{IsCutIfKept, IsFuncCutIfKept, Passes};
 ghost use Rattle.wc_gc.specs.Private.KeptBodies.{KeepsCuts};
 ghost use Rattle.wc_gc.specs.Private.Search.{FindsItems, IsConsistent, PassesKnown, finds};
@@ -650,7 +650,7 @@ pub fn next_of_init<'a>(
 }
 
 /// Whether the adapter has an item.
-#[tactic(auto, unfolding(crate::specs::Decoded::decoded_module))]
+#[tactic(auto, unfolding(wc_read::specs::Decoded::decoded_module))]
 fn has_item(adapter: &Module<'_>, item: (Space, u32)) -> bool
     ensures { result ≡ is_in (decoded_module adapter.now) item }
 {

@@ -6,7 +6,7 @@ ghost use Rattle.wc_read.specs.Modules.{IsModule, SpellsModule, module_value};
 ghost use Rattle.wc_read.specs.declared.operators.Space.TheVariants.{Funcs};
 ghost use Rattle.wc_write.specs.Modules.{built_text};
 ghost use Rattle.wc_write.specs.Values.{AreBytes};
-ghost use Rattle.wc_gc.specs.Decoded.{decoded_module};
+ghost use Rattle.wc_read.specs.Decoded.{decoded_module};
 ghost use Rattle.wc_gc.specs.Private.ItemCounts.{ItemCountsFitU32};
 ghost use Rattle.wc_gc.specs.Private.KeptBodies.{AreBodiesCut};
 ghost use Rattle.wc_gc.specs.Edit.{edit};

@@ -30,7 +30,7 @@ pub code_refusal : (bytes : List ℕ) (f : ReadFault) (place : Option ReadPlace)
     → ((f ≡ Component) ↔ IsComponent bytes) → IsPlaced bytes f place → IsCodeRefusal bytes (of_read f) (option_map (λ p. Bytes p) place)
 code_refusal bytes read_memory place nothing component at = tt
 code_refusal bytes f None nothing component at = absurd (let both : f ≡ read_memory = at in cc)
-code_refusal bytes f (Some p) nothing component at = ((nothing at.0, at.0, component), p, at.1, refl)
+code_refusal bytes f (Some p) nothing component at = ((nothing at.0, at.0, component), p, at.1, at.2, refl)
 
 pub segments_refusal : (m : ModuleValue) (bytes : List ℕ) (f : ReadFault) (place : Option SegmentSection) (fault : GcFault) (at : Option TrimPlace)
     → IsUnreadSegments f place fault at → IsRefused m bytes f place → IsSegmentsRefusal m bytes fault at

@@ -12,8 +12,8 @@ use Rattle.std.specs.Bool.{Decides}
 use Rattle.std.specs.List.{after_first, before_first, list_any, position_or_len}
 use Rattle.std.specs.Option.{option_eq, option_map_or}
 use Rattle.std.specs.Str.{bytes_eq}
-use Rattle.wc_json.specs.Packages.{split_once}
-use Rattle.wc_resolve.specs.Characters.{at_sign, slash}
+use Rattle.wc_texts.specs.Splits.{split_once}
+use Rattle.wc_texts.specs.Characters.{at_sign, slash}
 use Rattle.wc_why.specs.Keys.{Halves, asks_about, is_package, is_package_by, names_package, unversioned_text, version_of}
 use Rattle.wc_import_paths.specs.Private.Asked.{ModuleKey, is_same_key, module_key, module_keys, package_keys, version_keys, versioned_keys}
 

@@ -12,7 +12,7 @@ use Rattle.wc_paths.specs.Roots.{AreImportItems, import_item}
 use Rattle.wc_paths.specs.declared.items.PathItem.{PathItem}
 use Rattle.wc_paths.specs.declared.on_paths.OnPaths.{OnPaths}
 use Rattle.wc_paths.specs.declared.paths.Paths.{Paths}
-use Rattle.wc_paths.proofs.OnChainLemmas.{mapped_to}
+use Rattle.wc_graph.proofs.OnChainLemmas.{mapped_to}
 use Rattle.wc_import_paths.specs.Patterns.{PatternView, is_shown}
 use Rattle.wc_import_paths.specs.Private.FunctionNames.{asked_item, asked_items, item_if}
 use Rattle.wc_import_paths.proofs.FunctionNameLemmas.{all_on}

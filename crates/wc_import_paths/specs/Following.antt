@@ -3,7 +3,7 @@ use Rattle.std.specs.Prelude.{◌≡◌, ◌⊎◌, ⊤, ℕ, ◌^◌, List, con
 use Rattle.wc_read.specs.Exports.{ExportValue}
 use Rattle.wc_read.specs.Modules.{ModuleValue, SpellsModule}
 use Rattle.wc_read.specs.Names.{GlobalNameValue}
-use Rattle.wc_read.specs.Place.{IsPlaceIn}
+use Rattle.wc_read.specs.Place.{IsCausePlace, IsPlaceIn}
 use Rattle.wc_read.specs.Sections.{data_count_id, data_id, element_id}
 use Rattle.wc_read.specs.declared.fault.ReadFault.{ReadFault}
 use Rattle.wc_read.specs.declared.place.ReadPlace.{ReadPlace}
@@ -66,16 +66,20 @@ section_id Data = data_id
 abbrev pub body_place : ℕ → Option TrimPlace
 body_place n = cond (nat_lt n (2 ^ 32)) (Some (Body n None)) None
 
--- why bytes are not read as a module: they are none, from this byte on
+-- the bytes are no module, from this byte on
+abbrev pub IsUnreadFrom : List ℕ → ReadFault → Option TrimPlace → Type 0
+IsUnreadFrom bytes f place = IsUnread bytes f × (p : ReadPlace) × IsPlaceIn bytes p × IsCausePlace bytes f p × (place ≡ Some (Bytes p))
+
+-- why bytes are not read as a module
 abbrev pub IsCodeRefusal : List ℕ → GcFault → Option TrimPlace → Type 0
 IsCodeRefusal bytes Memory place = ⊤
-IsCodeRefusal bytes (Read f) place = IsUnread bytes f × (p : ReadPlace) × IsPlaceIn bytes p × (place ≡ Some (Bytes p))
+IsCodeRefusal bytes (Read f) place = IsUnreadFrom bytes f place
 IsCodeRefusal bytes f place = ⊥
 
 -- the bytes are no module, from this byte on; or a section of segments can't be read
 abbrev pub IsReadCause : List ℕ → ReadFault → Option TrimPlace → Type 0
 IsReadCause bytes f place =
-    (IsUnread bytes f × (p : ReadPlace) × IsPlaceIn bytes p × (place ≡ Some (Bytes p)))
+    IsUnreadFrom bytes f place
     ⊎ ((m : ModuleValue) × (section : SegmentSection) × SpellsModule bytes m × IsRefused m bytes f (Some section) × (place ≡ Some (Section (section_id section))))
 
 -- one of these exports is not there, the first such

@@ -3,7 +3,7 @@ use Rattle.std.specs.Prelude.{ℕ, Bool, true, false, not, ◌&&◌, List, [], �
 use Rattle.std.specs.List.{find, list_any}
 use Rattle.std.specs.Option.{option_map}
 use Rattle.std.specs.Str.{bytes_eq}
-use Rattle.wc_json.specs.Packages.{split_once}
+use Rattle.wc_texts.specs.Splits.{split_once}
 use Rattle.wc_read.specs.Imports.{ImportValue}
 use Rattle.wc_why.specs.Keys.{asks_about}
 use Rattle.wc_why.specs.Paths.{text_of}

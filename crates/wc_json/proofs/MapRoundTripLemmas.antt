@@ -15,7 +15,7 @@ use Rattle.wc_json.specs.Functions.{function}
 use Rattle.wc_json.specs.Ids.{index}
 use Rattle.wc_json.specs.Interfaces.{interface}
 use Rattle.wc_json.specs.Maps.{entries_after, name_map}
-use Rattle.wc_json.specs.Shapes.{number_json}
+use Rattle.wc_texts.specs.Shapes.{number_json}
 use Rattle.wc_json.specs.ToJson.{function_json, interface_json, members_json, name_map_json}
 use Rattle.wc_json.proofs.TypeRoundTripLemmas.{function-function_json, index-number_json, nullable-number_json, nullable-string}
 use Rattle.wc_resolve.specs.Views.{InterfaceView}

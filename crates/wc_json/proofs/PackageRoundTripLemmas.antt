@@ -11,7 +11,8 @@ use Rattle.semver.proofs.Grammar.{version_parts-complete}
 use Rattle.wc_resolve.specs.Views.{PackageNameView, PackageView}
 use Rattle.wc_json.specs.Fault.{◌>>=◌}
 use Rattle.wc_json.specs.Fits.{PackageFits, PackageNameFits}
-use Rattle.wc_json.specs.Packages.{name_from_parts, name_in_namespace, package_and_worlds, package_name, parts_or_refusal, split_once}
+use Rattle.wc_json.specs.Packages.{name_from_parts, name_in_namespace, package_and_worlds, package_name, parts_or_refusal}
+use Rattle.wc_texts.specs.Splits.{split_once}
 use Rattle.wc_json.specs.ToJson.{package_json, package_name_text, version_suffix}
 use Rattle.wc_json.proofs.IdLemmas.{cond-not_true}
 use Rattle.wc_json.proofs.MapRoundTripLemmas.{name_map-number_json}

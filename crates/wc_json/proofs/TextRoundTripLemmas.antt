@@ -18,7 +18,7 @@ use Rattle.wc_resolve.specs.declared.types.WitType.TheVariants.{Bool, U8, U16, U
 use Rattle.wc_json.specs.Document.{DocumentView, document_of}
 use Rattle.wc_json.specs.Fits.{CaseFits, DefinedTypeFits, DocumentFits, FunctionEntryFits, FunctionFits, FunctionKindFits, HandleFits, HasDistinctKeys, HasDistinctTexts, IdEntryFits, InterfaceFits, ItemFits, KindFits, NamedTypeFits, OwnerFits, PackageFits, TypeFits, WorldEntryFits, WorldFits}
 use Rattle.wc_json.specs.Laws.{document_text}
-use Rattle.wc_json.specs.Shapes.{nullable_json, number_json}
+use Rattle.wc_texts.specs.Shapes.{nullable_json, number_json}
 use Rattle.wc_json.specs.ToJson.{document_json, function_json, function_kind_json, handle_json, interface_json, item_json, key_text, kind_json, label_json, list_json, name_map_json, named_type_json, owner_json, package_json, package_name_text, type_json, variant_case_json, wit_type_json, world_items_json, world_json}
 use Rattle.wc_json.proofs.DocumentRoundTripLemmas.{document_of-document_json}
 use Rattle.wc_json.proofs.WritableLemmas.{AreDistinct_counted, AreWritable-cons, AreWritable-nil, IsWritable, IsWritable-number_json, IsWritable-le, IsWritable-list_json, IsWritable-map, IsWritable-null, IsWritable-nullable_json, IsWritable-nullable_string, IsWritable-object, IsWritable-string, IsWritable-variant_json}

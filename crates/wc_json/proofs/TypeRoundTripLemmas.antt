@@ -23,7 +23,7 @@ use Rattle.wc_json.specs.Functions.{function, function_kind, kind_of_resource, k
 use Rattle.wc_json.specs.Ids.{index, index_of_digits}
 use Rattle.wc_json.specs.Kinds.{handle, kind, label}
 use Rattle.wc_json.specs.Paths.{at_step, variant_step}
-use Rattle.wc_json.specs.Shapes.{nullable_json, number_json}
+use Rattle.wc_texts.specs.Shapes.{nullable_json, number_json}
 use Rattle.wc_json.specs.ToJson.{function_json, function_kind_json, handle_json, items_json, kind_json, label_json, named_type_json, owner_json, type_json, variant_case_json, variant_json, wit_type_json}
 use Rattle.wc_json.specs.Types.{defined_type, owner}
 use Rattle.wc_json.specs.WitTypes.{named_type, variant_case, wit_type}

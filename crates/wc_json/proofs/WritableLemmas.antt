@@ -13,7 +13,7 @@ use Rattle.json.specs.Json.{Json, null, string, object, Items, Members, no_membe
 use Rattle.json.specs.Strict.{AreDistinct, HasUniqueKeys, ItemsHaveUniqueKeys, MembersHaveUniqueKeys, keys}
 use Rattle.json.specs.Tree.{HasNumbers, ItemsHaveNumbers, MembersHaveNumbers, depth, items_depth, members_depth}
 use Rattle.json.proofs.Printed.Decimals.{IsNumber-decimal}
-use Rattle.wc_json.specs.Shapes.{nullable_json, number_json}
+use Rattle.wc_texts.specs.Shapes.{nullable_json, number_json}
 use Rattle.wc_json.specs.ToJson.{items_json, list_json, members_json, variant_json}
 
 pub record IsWritable (bound : ℕ) (j : Json) : Type 0 where

@@ -1,4 +1,3 @@
-pub mod Escape
 pub mod Fault
 pub mod Paths
 pub mod JsonPlace
@@ -20,7 +19,6 @@ pub mod Packages
 pub mod Document
 pub mod Libraries
 pub mod Messages
-pub mod Shapes
 pub mod ToJson
 pub mod Fits
 pub mod Laws

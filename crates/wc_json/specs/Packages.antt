@@ -1,11 +1,11 @@
 -- How packages and their names are read.
-use Rattle.std.specs.Prelude.{ℕ, List, map, cond, nat_lt, ◌==◌, length, Option, Some, None, Result, Ok, Err, codes, String, string_bytes}
-use Rattle.std.specs.List.{position_or_len, before_first, after_first}
+use Rattle.std.specs.Prelude.{ℕ, List, map, Option, Some, None, Result, Ok, Err, codes, String, string_bytes}
 use Rattle.std.specs.declared.alloc.Global.{Global}
 use Rattle.indexmap.specs.IndexMap.{IndexMap}
 use Rattle.json.specs.Json.{Json, string}
 use Rattle.semver.specs.Parse.{Parts, version_parts}
 use Rattle.semver.specs.declared.error.Error.{Error}
+use Rattle.wc_texts.specs.Splits.{split_once}
 use Rattle.wc_resolve.specs.Views.{PackageNameView, PackageView}
 use Rattle.wc_resolve.specs.declared.ids.WorldId.{WorldId}
 use Rattle.wc_json.specs.Fault.{Reading, refusal, ◌>>=◌}
@@ -13,11 +13,6 @@ use Rattle.wc_json.specs.Ids.{index}
 use Rattle.wc_json.specs.Maps.{name_map}
 use Rattle.wc_json.specs.Members.{required_member}
 use Rattle.wc_json.specs.declared.fault.Problem.TheVariants.{NotAPackageName, NotAText}
-
--- the texts before and after the first such character
-abbrev pub split_once : ℕ → List ℕ → Option (List ℕ × List ℕ)
-split_once c text =
-    cond (nat_lt (position_or_len (λ b. b == c) text) (length text)) (Some (before_first (λ b. b == c) text, after_first (λ b. b == c) text)) None
 
 abbrev pub parts_or_refusal : Result Parts Error → Reading Parts
 parts_or_refusal (Ok parts) = Ok parts

@@ -2,7 +2,7 @@
 use Rattle.std.specs.Prelude.{◌≡◌, ℕ, Bool, not, ◌&&◌, ◌||◌, List, [], ◌∷◌, ◌++◌, ◌==◌, length, cond, if◌then◌else◌, decimal, ⊤, Result, Ok, Err, string_bytes}
 use Rattle.std.specs.Char.{is_ascii_alphanumeric}
 use Rattle.std.specs.List.{list_all}
-use Rattle.wc_json.specs.Escape.{quoted}
+use Rattle.wc_texts.specs.Escape.{quoted}
 use Rattle.wc_json.specs.Fault.{Fault, Reading}
 use Rattle.wc_json.specs.declared.fault.JsonFault.{JsonFault}
 use Rattle.wc_json.specs.declared.fault.JsonFault.TheVariants.{Memory, Wrong}

@@ -13,7 +13,7 @@ use Rattle.wc_resolve.specs.declared.types.TypeOwner.TheVariants.{World, Interfa
 use Rattle.wc_resolve.specs.declared.types.WitType.{WitType}
 use Rattle.wc_resolve.specs.declared.types.WitType.TheVariants.{Bool, U8, U16, U32, U64, S8, S16, S32, S64, F32, F64, Char, String, ErrorContext, Id}
 use Rattle.wc_json.specs.Document.{DocumentView}
-use Rattle.wc_json.specs.Shapes.{items_of, members_of, nullable_json, number_json}
+use Rattle.wc_texts.specs.Shapes.{items_of, members_of, nullable_json, number_json}
 
 -- shapes
 

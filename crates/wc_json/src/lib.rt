@@ -26,7 +26,6 @@
 #![tactic(auto, using(crate::proofs::FaultLemmas::IsFaultOf_bind, crate::proofs::PathLemmas::Reads_at_step))]
 
 mod document;
-mod escape;
 mod fault;
 mod from_json;
 mod functions;
@@ -50,7 +49,6 @@ mod wit_types;
 mod worlds;
 
 pub use document::{Document, document_from_json};
-pub use escape::{escaped, quoted};
 pub use fault::{JsonFault, Problem};
 pub use from_json::{FromJson, value_from_json};
 pub use json_place::json_end;

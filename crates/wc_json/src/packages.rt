@@ -4,7 +4,8 @@ ghost use Rattle.std.specs.Prelude.{◌≡◌, ◌<◌};
 ghost use Rattle.std.specs.Option.{option_map};
 ghost use Rattle.semver.specs.Identifiers.{parts_of};
 ghost use Rattle.wc_json.specs.Fault.{Reads};
-ghost use Rattle.wc_json.specs.Packages.{package_name, split_once, version};
+ghost use Rattle.wc_json.specs.Packages.{package_name, version};
+ghost use Rattle.wc_texts.specs.Splits.{split_once};
 ghost use Rattle.wc_resolve.specs.Views.{package_name_view};
 
 use crate::from_json::FromJson;

@@ -7,9 +7,9 @@ ghost use Rattle.wc_json.specs.Fault.{IsFault, fault_here};
 ghost use Rattle.wc_json.specs.declared.fault.JsonFault.TheVariants.{Memory};
 ghost use Rattle.wc_json.specs.Paths.{IsFaultAt, IsReadAt, index_step, is_word, is_word_char, join, key_step, variant_step};
 
-use crate::escape::quoted;
 use crate::{JsonFault, Problem};
 use std::alloc::{AllocError, Global};
+use wc_texts::quoted;
 
 /// The fault of a value itself, whose path has no step yet. It needs no memory.
 #[cold]

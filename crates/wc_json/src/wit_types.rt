@@ -63,7 +63,7 @@ impl FromJson for WitType {
 impl FromJson for (String, WitType) {
     ghost use Rattle.std.specs.Prelude.{List, ℕ};
     ghost use Rattle.wc_resolve.specs.declared.types.WitType.{WitType};
-    ghost use Rattle.wc_resolve.specs.Views.{named_view};
+    ghost use Rattle.wc_texts.specs.Names.{named_view};
     ghost use Rattle.wc_json.specs.WitTypes.{named_type};
 
     ghost View = { List ℕ × WitType };
@@ -87,8 +87,8 @@ impl FromJson for (String, WitType) {
 impl FromJson for (String, Option<WitType>) {
     ghost use Rattle.std.specs.Prelude.{List, ℕ, Option};
     ghost use Rattle.wc_resolve.specs.declared.types.WitType.{WitType};
-    ghost use Rattle.wc_resolve.specs.Views.{named_view};
     ghost use Rattle.wc_json.specs.WitTypes.{variant_case};
+    ghost use Rattle.wc_texts.specs.Names.{named_view};
 
     ghost View = { List ℕ × Option WitType };
 

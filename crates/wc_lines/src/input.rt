@@ -42,11 +42,15 @@ impl Display for Flaw<'_> {
     }
 }
 
-/// Ends an answer: it is short where memory ran out for the call.
-pub fn end_answer(answered: Result<(), Stop>, out: &mut Lines) {
+/// Ends an answer: it is short where memory ran out for the call. False where a row has another call.
+pub fn end_answer(answered: Result<bool, Stop>, out: &mut Lines) -> bool {
     match answered {
-        Err(Stop::Memory) => out.lack_memory(),
-        Ok(()) | Err(Stop::BadRow) => {}
+        Ok(is_answered) => is_answered,
+        Err(Stop::Memory) => {
+            out.lack_memory();
+            true
+        }
+        Err(Stop::BadRow) => true,
     }
 }
 
@@ -71,6 +75,32 @@ pub fn bytes_of(alloc: Global, lines: &[&str], out: &mut Lines) -> Result<Vec<u8
         put_line(alloc, &mut bytes, line, out)?;
     }
     Ok(bytes)
+}
+
+/// The lines that begin with a word and a space, without these.
+pub fn lines_after<'a>(
+    alloc: Global,
+    lines: &[&'a str],
+    word: &str,
+) -> Result<Vec<&'a str>, AllocError> {
+    let mut found = Vec::new(alloc);
+    for line in lines {
+        if let Some((first, rest)) = line.split_once(' ') {
+            if first == word {
+                found.push(rest)?;
+            }
+        }
+    }
+    Ok(found)
+}
+
+/// Copies lines, as the arguments of a program.
+pub fn texts_of(alloc: Global, lines: &[&str]) -> Result<Vec<String>, AllocError> {
+    let mut texts = Vec::new(alloc);
+    for line in lines {
+        texts.push(String::from_str(alloc, line)?)?;
+    }
+    Ok(texts)
 }
 
 /// Appends the bytes of a line, or so many copies of bytes, as `repeat 3 00` says.

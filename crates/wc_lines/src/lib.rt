@@ -1,7 +1,6 @@
 //! Rows of tests, read out of the texts of files: their input as values, and the lines of their answers.
 #![tactic(auto)]
 
-pub mod imports;
 pub mod input;
 pub mod lines;
 pub mod names;

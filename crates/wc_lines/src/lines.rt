@@ -96,29 +96,12 @@ impl Lines {
     }
 
     /// Whether something was done. Where it was not, memory ran out for it, and so for a part of the answer.
-    pub fn keep(&mut self, done: Result<(), AllocError>) -> bool {
+    fn keep(&mut self, done: Result<(), AllocError>) -> bool {
         let is_done = done.is_ok();
         if !is_done {
             self.is_short = true;
         }
         is_done
-    }
-
-    /// Appends the text of other lines. Where these are that a row can't be read, they alone are left.
-    pub fn push_lines(&mut self, lines: &Lines) {
-        if lines.is_ended && !self.is_ended {
-            self.text.clear();
-        }
-        match lines.text() {
-            Ok(text) => self.push_str(text),
-            Err(_) => self.lack_memory(),
-        }
-        self.is_ended |= lines.is_ended;
-    }
-
-    /// Whether nothing was appended.
-    pub fn is_empty(&self) -> bool {
-        self.text.is_empty()
     }
 
     /// Leaves a part out, for which memory ran out.

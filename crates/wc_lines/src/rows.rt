@@ -97,26 +97,27 @@ impl<'a> Paragraph<'a> {
     fn add(&mut self, line: &'a str, fixtures: &[Paragraph<'a>]) -> Result<(), AllocError> {
         let (word, rest) = line.split_once(' ').unwrap_or((line, ""));
         match named(&PARTS, word) {
-            Some(Part::Row) => self.set_name(rest, false),
-            Some(Part::Fixture) => self.set_name(rest, true),
-            Some(Part::Call) => self.set_call(rest),
-            Some(Part::Input) => push_line(&mut self.row.input, rest),
-            Some(Part::Answer) => push_line(&mut self.row.answer, rest),
-            Some(Part::With) => self.add_fixture(rest, fixtures),
+            Some(Part::Row) => self.row.name = rest,
+            Some(Part::Fixture) => {
+                self.row.name = rest;
+                self.is_fixture = true;
+            }
+            Some(Part::Call) => self.set_call(rest)?,
+            Some(Part::Input) => self.row.input.push(rest)?,
+            Some(Part::Answer) => self.row.answer.push(rest)?,
+            Some(Part::With) => self.add_fixture(rest, fixtures)?,
             None => self.find(Flaw::Line(line)),
         }
-    }
-
-    fn set_name(&mut self, name: &'a str, is_fixture: bool) -> Result<(), AllocError> {
-        self.row.name = name;
-        self.is_fixture = is_fixture;
         Ok(())
     }
 
     fn set_call(&mut self, line: &'a str) -> Result<(), AllocError> {
         let (call, rest) = line.split_once(' ').unwrap_or((line, ""));
         self.row.call = call;
-        push_words(&mut self.row.arguments, rest)
+        for word in rest.split_whitespace() {
+            self.row.arguments.push(word)?;
+        }
+        Ok(())
     }
 
     fn add_fixture(&mut self, name: &'a str, fixtures: &[Paragraph<'a>]) -> Result<(), AllocError> {
@@ -125,14 +126,14 @@ impl<'a> Paragraph<'a> {
                 return self.row.input.extend_from_slice(&fixture.row.input);
             }
         }
-        self.find(Flaw::Fixture(name))
+        self.find(Flaw::Fixture(name));
+        Ok(())
     }
 
-    fn find(&mut self, flaw: Flaw<'a>) -> Result<(), AllocError> {
+    fn find(&mut self, flaw: Flaw<'a>) {
         if self.flaw.is_none() {
             self.flaw = Some(flaw);
         }
-        Ok(())
     }
 }
 
@@ -140,18 +141,6 @@ impl<'a> Paragraph<'a> {
 fn begins_paragraph(line: &str) -> bool {
     let (word, _) = line.split_once(' ').unwrap_or((line, ""));
     word == "row" || word == "fixture"
-}
-
-fn push_line<'a>(lines: &mut Vec<&'a str>, line: &'a str) -> Result<(), AllocError> {
-    lines.push(line)?;
-    Ok(())
-}
-
-fn push_words<'a>(words: &mut Vec<&'a str>, line: &'a str) -> Result<(), AllocError> {
-    for word in line.split_whitespace() {
-        words.push(word)?;
-    }
-    Ok(())
 }
 
 /// The rows of a file, and the fixtures that it defines.

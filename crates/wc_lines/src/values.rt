@@ -7,22 +7,12 @@ use wc_read::{
     Def, Export, ExportKind, FuncType, GlobalType, Import, ImportType, MemoryType, TableType,
     ValType,
 };
-use wc_texts::{FaultText, Refused, text_of};
+use wc_texts::{FaultText, text_of};
 
 /// A fault's line.
 pub fn put_fault(out: &mut Lines, fault: impl Display + Drop) {
     out.push_str("fault ");
     writeln!(out, "{fault}");
-}
-
-/// Puts a fault, and what it is about or `none`.
-pub fn put_refused<F: Display, P: Display>(out: &mut Lines, refused: &Refused<F, P>) {
-    let fault = &refused.fault;
-    writeln!(out, "fault {fault}");
-    match &refused.place {
-        Some(place) => writeln!(out, "{place}"),
-        None => out.push_str("none\n"),
-    }
 }
 
 /// Puts the text of a fault, on a line; after it what its `Display` shows, where that is another text.
@@ -190,7 +180,7 @@ pub fn put_imports(out: &mut Lines, imports: &[Import<'_>]) {
 }
 
 /// The word of an export's kind, with a space at the front.
-fn kind_name(kind: ExportKind) -> &'static str {
+pub fn kind_name(kind: ExportKind) -> &'static str {
     match kind {
         ExportKind::Func => " func",
         ExportKind::Table => " table",

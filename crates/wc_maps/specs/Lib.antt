@@ -1,2 +1,3 @@
 pub mod OrderedMap
 pub mod Seed
+pub mod Texts

@@ -5,9 +5,9 @@ use Rattle.std.specs.List.{slice_get}
 use Rattle.std.proofs.lemmas.List.{length_push}
 use Rattle.std.proofs.lemmas.Option.{same_Some}
 use Rattle.wc_read.specs.Imports.{ImportValue}
-use Rattle.wc_paths.proofs.ChainTreeLemmas.{push_cases}
+use Rattle.wc_graph.proofs.ChainTreeLemmas.{push_cases}
 use Rattle.wc_import_paths.specs.Patterns.{PatternView}
-use Rattle.wc_component_tree.specs.Found.{FoundView, FoundWayView}
+use Rattle.wc_tree.specs.Found.{FoundView, FoundWayView}
 use Rattle.wc_module_ways.specs.Adapters.{AdapterView, adapter_view}
 use Rattle.wc_module_ways.specs.Modules.{is_adapter_shown}
 use Rattle.wc_module_ways.specs.Private.Found.{AreFoundTo, IsFoundAdapter, shown_way, way_for}

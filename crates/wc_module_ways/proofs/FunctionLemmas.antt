@@ -10,9 +10,9 @@ use Rattle.std.specs.Prelude.{◌&&◌}
 use Rattle.std.specs.Str.{bytes_eq}
 use Rattle.wc_read.specs.Imports.{ImportValue, import_value, import_values}
 use Rattle.wc_read.specs.declared.types.Import.{Import}
-use Rattle.wc_names.proofs.OptionLemmas.{none_of_false}
+use Rattle.wc_maps.proofs.OptionLemmas.{none_of_false}
 use Rattle.wc_module_ways.specs.Functions.{HasFirst, HasFirstTo}
-use Rattle.wc_component_tree.specs.Keys.{Key, is_key}
+use Rattle.wc_tree.specs.Keys.{Key, is_key}
 use Rattle.wc_module_ways.specs.Names.{HasNoFunction, IsFirstFunction, IsFunctionOf, is_function}
 
 pub no_first : (imports : List ImportValue) (entries : List (Key × ℕ)) → entries ≡ [] → HasFirstTo imports 0 entries

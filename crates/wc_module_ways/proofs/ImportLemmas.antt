@@ -17,18 +17,18 @@ use Rattle.json.specs.Print.{print}
 use Rattle.json.specs.Tree.{json_tokens}
 use Rattle.indexmap.specs.IndexMap.{IndexMap, insert_entry}
 use Rattle.indexmap.proofs.CallerLemmas.{insert_entry-new}
-use Rattle.wc_texts.specs.Names.{first_occurrences}
+use Rattle.wc_texts.specs.Names.{first_occurrences, named_view}
 use Rattle.wc_read.specs.Imports.{ImportValue, import_value, import_values}
 use Rattle.wc_read.specs.Modules.{ModuleValue}
 use Rattle.wc_read.specs.Names.{GlobalNameValue}
 use Rattle.wc_read.specs.declared.types.Import.{Import}
-use Rattle.wc_gc.specs.Decoded.{ItemIndex}
+use Rattle.wc_read.specs.Decoded.{ItemIndex}
 use Rattle.wc_gc.specs.LiveChains.{AreImportChains}
 use Rattle.wc_gc.specs.LiveItems.{IsLive}
 use Rattle.wc_gc.specs.declared.import_chains.ImportChains.{ImportChains}
 use Rattle.wc_gc.proofs.NameSetLemmas.{same_text}
 use Rattle.wc_segments.specs.Segments.{SegmentsValue}
-use Rattle.wc_paths.proofs.ChainTreeLemmas.{none_of}
+use Rattle.wc_graph.proofs.ChainTreeLemmas.{none_of}
 use Rattle.wc_import_paths.proofs.FunctionNameLemmas.{names_one}
 use Rattle.wc_why.specs.Joined.{AreJoined}
 use Rattle.wc_why.specs.Paths.{text_of}
@@ -36,7 +36,6 @@ use Rattle.wc_why.proofs.JoinedLemmas.{none_joined, one_joined}
 use Rattle.wc_summary.specs.Entries.{EntriesView, IsSorted, interfaces_of, no_parts, parts_of, with_adapters, with_main}
 use Rattle.wc_summary.specs.Leads.{Tags, named_in, tag_view, tags_view}
 use Rattle.wc_summary.specs.Notes.{NotesAdapterModule, NotesParts}
-use Rattle.wc_resolve.specs.Views.{named_view}
 use Rattle.wc_summary.specs.Parts.{ArePartsOf, IsAdapterPartOf, IsMainPartOf}
 use Rattle.wc_summary.specs.Summary.{EntryView, IsListedBefore, PartsView}
 use Rattle.wc_summary.specs.SummaryJson.{entries_json}

@@ -3,8 +3,8 @@ use Rattle.std.proofs.Common.{◌≡◌, ◌⊎◌, ℕ, zero, suc, ◌+◌, ◌
 use Rattle.std.specs.List.{slice_get}
 use Rattle.std.proofs.lemmas.List.{length_push, take_all, take_more}
 use Rattle.std.proofs.lemmas.Option.{get_or_from_slice_get, same_Some, slice_get-get_or, slice_get-map, slice_get_within}
-use Rattle.wc_gc.proofs.KeptItemLemmas.{get_some}
-use Rattle.wc_gc.proofs.TypedGlobalLemmas.{get_front, get_last}
+use Rattle.wc_graph.proofs.ListLemmas.{get_some}
+use Rattle.wc_graph.proofs.ListLemmas.{get_front, get_last}
 use Rattle.wc_read.specs.Imports.{ImportValue, import_value, import_values}
 use Rattle.wc_read.specs.Modules.{module_value}
 use Rattle.wc_read.specs.Names.{GlobalNameValue, name_entries}
@@ -17,7 +17,7 @@ use Rattle.wc_paths.specs.Paths.{ArePaths, IsPathFrom}
 use Rattle.wc_paths.specs.Roots.{AreImportItems, import_item}
 use Rattle.wc_paths.specs.declared.items.PathItem.{PathItem}
 use Rattle.wc_paths.specs.declared.items.PathItem.TheVariants.{Item, Elements, Data}
-use Rattle.wc_paths.proofs.ChainTreeLemmas.{push_cases}
+use Rattle.wc_graph.proofs.ChainTreeLemmas.{push_cases}
 use Rattle.wc_import_paths.specs.Followed.{AreNamesIn, HasPaths, followed_view}
 use Rattle.wc_import_paths.specs.Following.{first_in, graph_in, second_in}
 use Rattle.wc_import_paths.specs.JsonPaths.{import_path}
@@ -28,14 +28,14 @@ use Rattle.wc_why.specs.Joined.{AreJoined}
 use Rattle.wc_why.specs.Paths.{CalledByView, StepView, begun as begun_step, called_by, callers_after, path_step, path_steps, unfollowed as unfollowed_step}
 use Rattle.wc_tree.specs.ModuleTree.{IsUnreached}
 use Rattle.wc_tree.specs.Tree.{TreeModuleView, TreeWayView, tree_module_view, tree_way_view}
-use Rattle.wc_component_tree.specs.FoundTree.{AreItemSteps, ArePlaces, IsItemEnd, IsItemEndIn, Places, way_to}
-use Rattle.wc_component_tree.specs.Keys.{Key}
-use Rattle.wc_component_tree.specs.Said.{Says}
-use Rattle.wc_component_tree.specs.WaysTree.{IsMainRead}
-use Rattle.wc_component_tree.specs.declared.main_tree.FollowedMain.{FollowedMain}
-use Rattle.wc_component_tree.specs.declared.main_tree.MainFollowing.{MainFollowing}
-use Rattle.wc_component_tree.specs.declared.main_tree.MainFollowing.TheVariants.{Whole as whole_main, Unread as unread_main}
-use Rattle.wc_component_tree.specs.declared.main_tree.MainSource.{MainSource}
+use Rattle.wc_tree.specs.FoundTree.{AreItemSteps, ArePlaces, IsItemEnd, IsItemEndIn, Places, way_to}
+use Rattle.wc_tree.specs.Keys.{Key}
+use Rattle.wc_tree.specs.Said.{Says}
+use Rattle.wc_tree.specs.WaysTree.{IsMainRead}
+use Rattle.wc_tree.specs.declared.main_tree.FollowedMain.{FollowedMain}
+use Rattle.wc_tree.specs.declared.main_tree.MainFollowing.{MainFollowing}
+use Rattle.wc_tree.specs.declared.main_tree.MainFollowing.TheVariants.{Whole as whole_main, Unread as unread_main}
+use Rattle.wc_tree.specs.declared.main_tree.MainSource.{MainSource}
 use Rattle.wc_module_ways.specs.Main.{AreMainSteps, MainView, as_main, as_main_step, code_of, whole}
 use Rattle.wc_module_ways.specs.MainModules.{HasMain, module_of}
 use Rattle.wc_module_ways.specs.Modules.{AreView, ModulesView, is_main_shown}

@@ -5,22 +5,22 @@ use Rattle.std.specs.List.{flat_map, slice_get}
 use Rattle.std.specs.Option.{option_map}
 use Rattle.std.proofs.lemmas.List.{length-map}
 use Rattle.std.proofs.lemmas.Option.{same_Some, slice_get-map, slice_get_within}
-use Rattle.wc_gc.proofs.KeptItemLemmas.{get_some}
+use Rattle.wc_graph.proofs.ListLemmas.{get_some}
 use Rattle.wc_read.specs.Imports.{ImportValue}
 use Rattle.wc_read.specs.Modules.{ModuleValue}
-use Rattle.wc_paths.specs.Callers.{entry_by}
-use Rattle.wc_gc.specs.Decoded.{ItemIndex}
+use Rattle.wc_graph.specs.Private.Places.{entry_by}
+use Rattle.wc_read.specs.Decoded.{ItemIndex}
 use Rattle.wc_import_paths.specs.Patterns.{PatternView}
 use Rattle.wc_why.specs.Joined.{AreJoined}
 use Rattle.wc_why.specs.Paths.{PathView, StepView, exported as exported_step, imported}
 use Rattle.wc_tree.specs.Tree.{TreeModuleView, TreeRootView, TreeView, TreeWayView}
-use Rattle.wc_component_tree.specs.Found.{FoundView, IsChainRead, IsEndOf, is_asked_by}
-use Rattle.wc_component_tree.specs.FoundTree.{AreModulesFrom, AreWaysAt, AreWaysFrom, IsFoundTree, IsModuleFrom, IsModulePut, IsPlaceOf, IsRootFrom, IsWayAt, IsWayPut, Places, way_to, ways_to}
-use Rattle.wc_component_tree.specs.Said.{AreEach}
-use Rattle.wc_component_tree.specs.WaysTree.{AreWaysRead, IsWayRead}
-use Rattle.wc_component_tree.proofs.WaysTreeLemmas.{IsExportRead, chain_end, chain_path_steps, chain_steps, joined_read, main_end, read_both}
+use Rattle.wc_tree.specs.Found.{FoundView, IsChainRead, IsEndOf, is_asked_by}
+use Rattle.wc_tree.specs.FoundTree.{AreModulesFrom, AreWaysAt, AreWaysFrom, IsFoundTree, IsModuleFrom, IsModulePut, IsPlaceOf, IsRootFrom, IsWayAt, IsWayPut, Places, way_to, ways_to}
+use Rattle.wc_tree.specs.Said.{AreEach}
+use Rattle.wc_tree.specs.WaysTree.{AreWaysRead, IsWayRead}
+use Rattle.wc_tree.proofs.WaysTreeLemmas.{IsExportRead, chain_end, chain_path_steps, chain_steps, joined_read, main_end, read_both}
 use Rattle.wc_module_ways.specs.Adapters.{AdapterView, adapter_view}
-use Rattle.wc_component_tree.specs.Keys.{Key}
+use Rattle.wc_tree.specs.Keys.{Key}
 use Rattle.wc_module_ways.specs.Main.{code_of}
 use Rattle.wc_module_ways.specs.MainModules.{module_of}
 use Rattle.wc_module_ways.specs.Modules.{AreView, HasModules, ModulesView, is_adapter_shown}

@@ -8,9 +8,9 @@ use Rattle.wc_read.specs.Imports.{ImportValue, import_value}
 use Rattle.wc_read.specs.Modules.{ModuleValue, module_value}
 use Rattle.wc_read.specs.declared.core_module.Module.{Module}
 use Rattle.wc_read.specs.declared.types.Import.{Import}
-use Rattle.wc_gc.specs.Decoded.{ItemIndex}
+use Rattle.wc_read.specs.Decoded.{ItemIndex}
 use Rattle.wc_gc.specs.LiveChains.{AreImportChains, IsChainAt}
-use Rattle.wc_gc.specs.RestrictionLaws.{IsImportItem}
+use Rattle.wc_read.specs.ImportItems.{IsImportItem}
 use Rattle.wc_gc.specs.declared.import_chains.Chain.{Chain}
 use Rattle.wc_import_paths.specs.Patterns.{PatternView}
 use Rattle.wc_why.specs.Joined.{AreJoined}
@@ -29,7 +29,7 @@ use Rattle.wc_module_ways.specs.WaysIn.{AreWaysIn, IsTextIn}
 use Rattle.wc_module_ways.specs.Private.Walks.{AreAdapterWaysIn, AreAdaptersWaysIn, AreFirstStepsIn, AreMainWaysIn, AreThisWaysIn, AreWantedSteps, IsAdapterPathIn, IsAdapterWayIn, IsItemPathIn, IsMainPathIn, IsMainWayIn, adapter_in}
 use Rattle.wc_module_ways.specs.declared.modules.Modules.{Modules}
 use Rattle.wc_module_ways.specs.declared.paths.Walk.{Walk}
-use Rattle.wc_selection.proofs.WorldPartLemmas.{viewed_at}
+use Rattle.wc_maps.proofs.ListLemmas.{viewed_at}
 use Rattle.wc_module_ways.proofs.MainLemmas.{module_is}
 
 -- ---- the main module

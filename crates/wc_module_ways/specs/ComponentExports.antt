@@ -4,7 +4,7 @@ use Rattle.std.specs.List.{slice_get}
 use Rattle.std.specs.Option.{option_and_then, option_map_or}
 use Rattle.std.specs.Str.{bytes_eq}
 use Rattle.wc_texts.specs.Prefixes.{rest_after}
-use Rattle.wc_json.specs.Packages.{split_once}
+use Rattle.wc_texts.specs.Splits.{split_once}
 use Rattle.wc_read.specs.Exports.{ExportValue}
 use Rattle.wc_read.specs.Items.{FuncValue}
 use Rattle.wc_read.specs.Modules.{ModuleValue}

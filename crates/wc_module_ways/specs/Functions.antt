@@ -3,7 +3,7 @@ use Rattle.std.specs.Prelude.{◌≡◌, ◌<◌, ℕ, List, length, Some, None}
 use Rattle.std.specs.List.{slice_get}
 use Rattle.std.specs.Map.{lookup}
 use Rattle.wc_read.specs.Imports.{ImportValue}
-use Rattle.wc_component_tree.specs.Keys.{Key, is_key}
+use Rattle.wc_tree.specs.Keys.{Key, is_key}
 use Rattle.wc_module_ways.specs.Names.{IsFirstFunction, IsFunctionOf, function_pairs}
 use Rattle.wc_module_ways.specs.NameLists.{AreListed}
 use Rattle.wc_module_ways.specs.declared.functions.Functions.{Functions}

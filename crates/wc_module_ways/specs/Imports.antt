@@ -8,9 +8,9 @@ use Rattle.json.specs.Tree.{json_tokens}
 use Rattle.wc_texts.specs.Names.{first_occurrences}
 use Rattle.wc_read.specs.Imports.{ImportValue}
 use Rattle.wc_read.specs.Names.{GlobalNameValue}
-use Rattle.wc_gc.specs.Decoded.{ItemIndex}
+use Rattle.wc_read.specs.Decoded.{ItemIndex}
 use Rattle.wc_gc.specs.LiveItems.{IsLive}
-use Rattle.wc_gc.specs.RestrictionLaws.{IsImportItem}
+use Rattle.wc_read.specs.ImportItems.{IsImportItem}
 use Rattle.wc_segments.specs.Segments.{SegmentsValue}
 use Rattle.wc_summary.specs.Leads.{Tags, found_in, named_in}
 use Rattle.wc_summary.specs.Parts.{AdapterValue, ArePartsOf, IsAdapterPartOf, IsMainPartOf}

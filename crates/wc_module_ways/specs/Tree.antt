@@ -8,7 +8,7 @@ use Rattle.wc_why.specs.Paths.{PathView}
 use Rattle.wc_tree.specs.Tree.{TreeModuleView, TreeView}
 use Rattle.wc_tree.specs.TreeGraph.{tree_graph}
 use Rattle.wc_tree.specs.TreeJson.{tree_json}
-use Rattle.wc_component_tree.specs.WaysTree.{AreWaysRead}
+use Rattle.wc_tree.specs.WaysTree.{AreWaysRead}
 use Rattle.wc_module_ways.specs.Adapters.{AdapterView}
 use Rattle.wc_module_ways.specs.Modules.{AreView, ModulesView}
 use Rattle.wc_module_ways.specs.Ways.{AreWays}

@@ -2,14 +2,14 @@
 use Rattle.std.specs.Prelude.{◌≡◌, ◌⊎◌, ℕ, true, false, List, [], ◌∷◌, ◌++◌, length, map, Some, None}
 use Rattle.std.specs.List.{flat_map, slice_get}
 use Rattle.wc_read.specs.Imports.{ImportValue}
-use Rattle.wc_gc.specs.Decoded.{ItemIndex}
+use Rattle.wc_read.specs.Decoded.{ItemIndex}
 use Rattle.wc_gc.specs.LiveItems.{IsLive}
-use Rattle.wc_gc.specs.RestrictionLaws.{IsImportItem}
+use Rattle.wc_read.specs.ImportItems.{IsImportItem}
 use Rattle.wc_import_paths.specs.Patterns.{PatternView}
 use Rattle.wc_why.specs.Joined.{AreJoined}
 use Rattle.wc_why.specs.Lines.{path_lines}
 use Rattle.wc_why.specs.Paths.{PathView, StepView, exported, imported, item_step, named}
-use Rattle.wc_component_tree.specs.Found.{IsChainFrom}
+use Rattle.wc_tree.specs.Found.{IsChainFrom}
 use Rattle.wc_module_ways.specs.Adapters.{AdapterView}
 use Rattle.wc_module_ways.specs.Main.{AreMainSteps, code_of}
 use Rattle.wc_module_ways.specs.Modules.{ModulesView, is_adapter_shown, is_main_shown}

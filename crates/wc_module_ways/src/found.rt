@@ -2,8 +2,8 @@
 
 ghost use Rattle.std.specs.Prelude.{◌≡◌, [], IfErr, IfOk, None, map};
 ghost use Rattle.wc_read.specs.Imports.{import_value};
-ghost use Rattle.wc_component_tree.specs.Found.{found_view, some_way_view};
-ghost use Rattle.wc_component_tree.specs.FoundItems.{wanted_by};
+ghost use Rattle.wc_tree.specs.Found.{found_view, some_way_view};
+ghost use Rattle.wc_tree.specs.FoundItems.{wanted_by};
 ghost use Rattle.wc_module_ways.specs.Adapters.{IsRead, adapter_view};
 ghost use Rattle.wc_module_ways.specs.Modules.{HasModules};
 ghost use Rattle.wc_module_ways.specs.Refusals.{IsThisRefusal, IsWaysRefusal};
@@ -16,13 +16,12 @@ use crate::refusals::{ModulesRefusal, of_adapter};
 use crate::shared::is_adapter_shown;
 use crate::ways::{Through, through_at};
 use std::alloc::{AllocError, Global};
-use wc_component_tree::{ChainSource, FoundModule, FoundWay, Function, found_by_chains};
 use wc_gc::{ImportChains, why_imports_explained};
 use wc_import_paths::Asked;
 use wc_maps::{Map, Seed};
 use wc_read::Import;
 use wc_read::laws::modules_unique;
-use wc_tree::TreeImport;
+use wc_tree::{ChainSource, FoundModule, FoundWay, Function, TreeImport, found_by_chains};
 
 /// The modules with the paths in them: nothing yet of the main module, and then those in each adapter, in order.
 pub(crate) fn found_in<'r>(

@@ -5,7 +5,7 @@ ghost use Rattle.std.specs.List.{slice_get};
 ghost use Rattle.wc_read.specs.Imports.{import_value, import_values};
 ghost use Rattle.wc_module_ways.specs.Names.{function_pairs, is_function, pair_view};
 ghost use Rattle.wc_module_ways.specs.Functions.{AreFunctions, HasFirst, HasFirstTo};
-ghost use Rattle.wc_component_tree.specs.Keys.{is_key};
+ghost use Rattle.wc_tree.specs.Keys.{is_key};
 ghost use Rattle.std.specs.Map.{lookup};
 
 use crate::name_lists::{NameLists, list_names};

@@ -51,7 +51,7 @@ use wc_summary::{
 /// then those that go with exports of adapters, and last those that stay; among these the ones with which more bytes go come
 /// first, and else the order is that of the imports. An interface that is used for its types alone is not known here.
 ///
-/// It takes time linear in the modules for each 64 interfaces and each 64 required exports (`wc_spread::spread`), and in what
+/// It takes time linear in the modules for each 64 interfaces and each 64 required exports (`wc_graph::spread`), and in what
 /// is printed.
 ///
 /// # Errors

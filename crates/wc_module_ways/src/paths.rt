@@ -3,8 +3,8 @@
 ghost use Rattle.std.specs.Prelude.{◌≡◌, ◌∷◌, [], ◌<◌, IfOk, OnOk, Some, length, map};
 ghost use Rattle.std.specs.List.{slice_get};
 ghost use Rattle.std.specs.Option.{option_map, option_to_list};
-ghost use Rattle.wc_gc.specs.Decoded.{ItemIndex};
-ghost use Rattle.wc_gc.specs.RestrictionLaws.{IsImportItem};
+ghost use Rattle.wc_read.specs.Decoded.{ItemIndex};
+ghost use Rattle.wc_read.specs.ImportItems.{IsImportItem};
 ghost use Rattle.wc_read.specs.Imports.{import_value};
 ghost use Rattle.wc_why.specs.Paths.{exported, path_view, step_view};
 ghost use Rattle.wc_module_ways.specs.MainModules.{module_of};

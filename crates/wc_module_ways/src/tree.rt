@@ -6,9 +6,9 @@ ghost use Rattle.wc_read.specs.Names.{name_entries};
 ghost use Rattle.wc_paths.specs.Roots.{AreImportItems};
 ghost use Rattle.wc_why.specs.Joined.{AreJoined};
 ghost use Rattle.wc_tree.specs.Tree.{tree_module_view, tree_view, tree_way_view};
-ghost use Rattle.wc_component_tree.specs.Found.{found_view};
-ghost use Rattle.wc_component_tree.specs.FoundTree.{ArePlaces, way_to};
-ghost use Rattle.wc_component_tree.specs.Said.{Says};
+ghost use Rattle.wc_tree.specs.Found.{found_view};
+ghost use Rattle.wc_tree.specs.FoundTree.{ArePlaces, way_to};
+ghost use Rattle.wc_tree.specs.Said.{Says};
 ghost use Rattle.wc_module_ways.specs.Adapters.{adapter_view};
 ghost use Rattle.wc_module_ways.specs.MainModules.{module_of};
 ghost use Rattle.wc_module_ways.specs.Modules.{HasModules};
@@ -25,15 +25,15 @@ use crate::modules::Modules;
 use crate::refusals::ModulesRefusal;
 use crate::shared::is_main_shown;
 use std::alloc::{AllocError, Global};
-use wc_component_tree::{
-    FollowedMain, FoundModule, ImportKey, MainFollowing, MainSource, MainTree, places_of,
-    put_wanted, tree_of_found, tree_of_main,
-};
 use wc_import_paths::Asked;
 use wc_maps::{Map, OrderedMap, Seed, Set};
 use wc_paths::{PathItem, import_items};
 use wc_read::Import;
-use wc_tree::{Tree, TreeImport, TreeModule, TreeWay, tree_to_graph, tree_to_json};
+use wc_tree::{
+    FollowedMain, FoundModule, ImportKey, MainFollowing, MainSource, MainTree, Tree, TreeImport,
+    TreeModule, TreeWay, places_of, put_wanted, tree_of_found, tree_of_main, tree_to_graph,
+    tree_to_json,
+};
 
 /// The main module as a part of the tree.
 #[derive(Drop)]

@@ -26,7 +26,7 @@ use Rattle.wc_resolve.specs.declared.worlds.WorldKey.{WorldKey}
 use Rattle.wc_resolve.specs.contracts.worlds.WorldKeyPartialEq.TheImpl.{eq-value as world_key_eq}
 use Rattle.wc_resolve.specs.Ranges.{AreIdsInRange, AreNamesIn, IsItemIn, IsKeyIn}
 use Rattle.wc_resolve.proofs.KeyLemmas.{keys_law}
-use Rattle.wc_resolve.proofs.SearchLemmas.{contains_cons, contains_head, contains_none, contains_tail}
+use Rattle.wc_maps.proofs.ListLemmas.{contains_cons, contains_head, contains_none, contains_tail}
 use Rattle.wc_resolve.proofs.ViewedLemmas.{all_unviewed}
 use Rattle.wc_resolve.proofs.WellFormedLemmas.{interface_names_in}
 use Rattle.wc_names.specs.Keys.{as_interface, item_under, key_eq}

@@ -12,7 +12,7 @@ use Rattle.std.proofs.lemmas.List.{drop_all, drop_more}
 use Rattle.std.proofs.lemmas.Slice.Eq.{bytes_eq-Decides}
 use Rattle.wc_resolve.specs.Views.{FunctionView, InterfaceView, KeyView}
 use Rattle.wc_resolve.specs.Kinds.{ResolveView}
-use Rattle.wc_resolve.proofs.LookupLemmas.{name_viewed}
+use Rattle.wc_maps.proofs.LookupLemmas.{name_viewed}
 use Rattle.wc_texts.specs.Names.{under_name}
 use Rattle.wc_resolve.specs.Roots.{id_index}
 use Rattle.wc_resolve.specs.declared.functions.Function.{Function}
@@ -33,7 +33,7 @@ use Rattle.wc_names.specs.First.{FirstOf}
 use Rattle.wc_names.specs.FirstMembers.{AreFirstMembers, AreMembersOf, KeepsMore, among, own_function}
 use Rattle.wc_names.specs.InterfaceIndex.{KeepsFirst, is_text, with_first}
 use Rattle.wc_names.proofs.InterfaceIndexLemmas.{KeepsPassed, keeps_all, lookup_push}
-use Rattle.wc_names.proofs.OptionLemmas.{none_of_false}
+use Rattle.wc_maps.proofs.OptionLemmas.{none_of_false}
 use Rattle.wc_names.proofs.SearchLemmas.{IsFirstInRest, first_found, rest_after}
 
 -- whether an item is listed under a name

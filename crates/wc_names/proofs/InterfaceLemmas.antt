@@ -6,7 +6,7 @@ use Rattle.semver.specs.Grammar.{IsValid}
 use Rattle.semver.specs.Identifiers.{parts_text}
 use Rattle.semver.specs.Parse.{version_parts}
 use Rattle.semver.proofs.Grammar.{version_parts-complete}
-use Rattle.wc_resolve.specs.Characters.{slash, colon, at_sign}
+use Rattle.wc_texts.specs.Characters.{slash, colon, at_sign}
 use Rattle.wc_resolve.specs.Resolve.{VersionView, versioned}
 use Rattle.wc_resolve.specs.Views.{PackageNameView, ItemView, KeyView, PackageView, interface_key, plain_key, function_item, interface_item, type_item}
 use Rattle.wc_names.specs.Interfaces.{IsIdText, IsVersionText, FoundInterface, HaveSameTrack, IsEntryOf, IsMemberOf, IsOnTrack, IsCloneOf, IsIdMatch, IsTextMatch, by_plain_key, clone, exact_version, id_matches, same_track, text_matches, IsCanonicalEntry, NamesInterface, FindsOwnKey}

@@ -20,9 +20,9 @@ use Rattle.wc_resolve.specs.Views.{FunctionView, InterfaceView, ItemView, KeyVie
 use Rattle.wc_resolve.specs.WellFormed.{HaveDistinctNames}
 use Rattle.wc_resolve.specs.Kinds.{ResolveView}
 use Rattle.wc_resolve.proofs.ViewedLemmas.{all_unviewed}
-use Rattle.wc_resolve.proofs.LookupLemmas.{lookup_viewed}
+use Rattle.wc_maps.proofs.LookupLemmas.{lookup_viewed}
 use Rattle.wc_resolve.proofs.WellFormedLemmas.{all_get, interface_names_in}
-use Rattle.wc_adapters.proofs.PairLemmas.{pairs_head, pairs_tail}
+use Rattle.wc_maps.proofs.PairLemmas.{pairs_head, pairs_tail}
 use Rattle.wc_adapters.specs.Entries.{Entries}
 use Rattle.wc_names.specs.Keys.{as_function, as_type, function_at, key_eq, item_under, type_named, world_entries}
 use Rattle.wc_texts.specs.Names.{under_name}

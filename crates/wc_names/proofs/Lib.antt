@@ -1,4 +1,3 @@
-pub mod OptionLemmas
 pub mod SearchLemmas
 pub mod SameButIndicesLemmas
 pub mod TextLemmas

@@ -2,7 +2,7 @@
 use Rattle.std.proofs.Common.{◌≡◌, false, List, [], ◌∷◌, map, refl, sym, ap, subst, ◌∙◌, None}
 use Rattle.std.specs.List.{list_any}
 use Rattle.std.proofs.lemmas.Bool.{or_parts}
-use Rattle.wc_names.proofs.OptionLemmas.{none_of_false}
+use Rattle.wc_maps.proofs.OptionLemmas.{none_of_false}
 use Rattle.wc_read.specs.declared.types.MemoryType.{MemoryType}
 use Rattle.wc_read.specs.declared.types.TableType.{TableType}
 use Rattle.wc_read.specs.declared.types.ValType.{ValType}

@@ -4,7 +4,7 @@ use Rattle.std.proofs.Common.{◌≡◌, ℕ, Bool, true, false, List, [], ◌�
 use Rattle.std.specs.Prelude.{is_some, if◌then◌else◌}
 use Rattle.std.specs.List.{list_any}
 use Rattle.std.specs.Option.{option_and_then}
-use Rattle.wc_names.proofs.OptionLemmas.{none_of_false}
+use Rattle.wc_maps.proofs.OptionLemmas.{none_of_false}
 use Rattle.wc_read.specs.declared.types.ValType.{ValType}
 use Rattle.wc_read.specs.declared.types.ValType.TheVariants.{TypeRef}
 use Rattle.wc_read.specs.Renumbering.{renumber_func_type, renumber_val_type}

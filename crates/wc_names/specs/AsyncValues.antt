@@ -5,7 +5,7 @@ use Rattle.std.specs.List.{slice_get}
 use Rattle.wc_read.specs.declared.types.ValType.{ValType}
 use Rattle.wc_read.specs.declared.types.ValType.TheVariants.{I32, I64}
 use Rattle.wc_read.specs.Types.{FuncTypeValue}
-use Rattle.wc_resolve.specs.Characters.{hyphen, opening_bracket, closing_bracket}
+use Rattle.wc_texts.specs.Characters.{hyphen, opening_bracket, closing_bracket}
 use Rattle.wc_resolve.specs.Futures.{function_futures}
 use Rattle.wc_resolve.specs.Views.{FunctionView, WorldView}
 use Rattle.wc_resolve.specs.Kinds.{ResolveView}

@@ -5,7 +5,7 @@ use Rattle.std.specs.List.{filter_map}
 use Rattle.std.specs.Option.{option_and_then, option_map, option_map_or}
 use Rattle.std.specs.Str.{bytes_eq}
 use Rattle.semver.specs.Identifiers.{parts_text}
-use Rattle.wc_resolve.specs.Characters.{hash_sign}
+use Rattle.wc_texts.specs.Characters.{hash_sign}
 use Rattle.wc_resolve.specs.Names.{track}
 use Rattle.wc_resolve.specs.Resolve.{core_name, key_text}
 use Rattle.wc_resolve.specs.Views.{KeyView, plain_key, FunctionView, InterfaceView, WorldView}

@@ -3,7 +3,7 @@ use Rattle.std.specs.Prelude.{◌≡◌, ℕ, List, ◌<◌, ◌^◌, [], ◌∷
 use Rattle.std.specs.Option.{IfSome, IsSome, option_and_then, option_map}
 use Rattle.semver.specs.Grammar.{IsValid}
 use Rattle.semver.specs.Identifiers.{parts_text}
-use Rattle.wc_resolve.specs.Characters.{slash, colon, at_sign}
+use Rattle.wc_texts.specs.Characters.{slash, colon, at_sign}
 use Rattle.wc_resolve.specs.Resolve.{VersionView, member_text, canonical_id, qualified_name}
 use Rattle.wc_resolve.specs.Views.{PackageNameView, KeyView, key_view, plain_key, interface_key, ItemView, interface_item, InterfaceView, PackageView}
 use Rattle.wc_names.specs.Texts.{Lacks}

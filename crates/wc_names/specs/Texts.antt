@@ -2,7 +2,7 @@
 use Rattle.std.specs.Prelude.{◌≡◌, ◌≢◌, ◌⊎◌, ℕ, ◌<◌, ◌^◌, List, [], ◌∷◌, ◌++◌, length, replicate, slice_index, codes}
 use Rattle.std.specs.Fmt.{decimal}
 use Rattle.wc_read.specs.declared.types.ValType.{ValType}
-use Rattle.wc_resolve.specs.Characters.{digit_zero}
+use Rattle.wc_texts.specs.Characters.{digit_zero}
 
 -- no byte of the text is this one
 abbrev pub Lacks : ℕ → List ℕ → Type 0

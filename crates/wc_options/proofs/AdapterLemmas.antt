@@ -3,10 +3,8 @@ use Rattle.std.proofs.Common.{◌≡◌, ◌<◌, ◌+◌, ◌++◌, ◌∙◌, 
 use Rattle.std.proofs.lemmas.Bool.{le-ltb, ne_eqb}
 use Rattle.std.specs.Borrow.{Bor}
 use Rattle.std.specs.List.{AllZip}
-use Rattle.wc_resolve.proofs.SearchLemmas.{contains_head, contains_tail}
-use Rattle.wc_selection.proofs.KeyNameLemmas.{count_map}
-use Rattle.wc_selection.proofs.ListLemmas.{passed_more}
-use Rattle.wc_selection.specs.Texts.{second_parts, text_pair}
+use Rattle.wc_maps.proofs.ListLemmas.{contains_head, contains_tail, passed_more, count_map}
+use Rattle.wc_maps.specs.Texts.{second_parts, text_pair}
 use Rattle.wc_options.specs.Adapters.{is_standard}
 
 abbrev pub Pairs : Type 0

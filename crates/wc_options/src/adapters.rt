@@ -1,7 +1,7 @@
 //! Adapters as options give them: by their names, with the paths of their modules, or with exports.
 
 ghost use Rattle.std.specs.Prelude.{◌≡◌, IfOk, filter, length, map};
-ghost use Rattle.wc_selection.specs.Texts.{first_parts, text_of, text_pair};
+ghost use Rattle.wc_maps.specs.Texts.{first_parts, text_of, text_pair};
 ghost use Rattle.wc_options.specs.Adapters.{adapter_file_of, file_name, is_standard, pair_or, stem};
 
 use crate::reading::pair;

@@ -2,7 +2,7 @@
 
 ghost use Rattle.std.specs.Prelude.{◌≡◌, ◌++◌, IfOk, OnOk, map, string_bytes};
 ghost use Rattle.wc_options.specs.Listing.{listed_name, listed_names, listing_text, more_text};
-ghost use Rattle.wc_selection.specs.Texts.{text_of};
+ghost use Rattle.wc_maps.specs.Texts.{text_of};
 
 use std::alloc::{AllocError, Global};
 

@@ -1,12 +1,12 @@
 //! The reasons why arguments make no command, and the texts of mistakes.
 
 ghost use Rattle.std.specs.Prelude.{◌≡◌, IfOk, string_bytes};
-ghost use Rattle.wc_json.specs.Escape.{escaped};
+ghost use Rattle.wc_texts.specs.Escape.{escaped};
 ghost use Rattle.wc_options.specs.Wrong.{wrong_text, wrong_view};
 ghost use Rattle.wc_options.specs.declared.wrong.NoCommand.TheVariants.{Memory};
 
 use std::alloc::{AllocError, AllocFailed, Global};
-use wc_json::escaped;
+use wc_texts::escaped;
 
 /// The reason why arguments make no command.
 #[derive(Clone, Copy, Debug, PartialEq, Eq)]
@@ -57,7 +57,7 @@ impl<T: Drop> From<AllocFailed<T>> for NoCommand<'_> {
 }
 
 impl WrongArgument<'_> {
-    /// The text that says what is wrong, in a line without its end. Arguments in it are escaped (`wc_json::escaped`).
+    /// The text that says what is wrong, in a line without its end. Arguments in it are escaped (`wc_texts::escaped`).
     ///
     /// # Errors
     ///

@@ -24,13 +24,14 @@ use Rattle.wc_read.specs.declared.operators.Index.{Index}
 use Rattle.wc_read.specs.declared.operators.IndexKind.{IndexKind}
 use Rattle.wc_read.specs.declared.operators.IndexKind.TheVariants.{In, Elem, Data as data_kind, Local, Label}
 use Rattle.wc_read.specs.declared.operators.Space.TheVariants.{Types, Funcs, Tables, Memories, Globals}
-use Rattle.wc_write.specs.BuiltValues.{item_seen}
-use Rattle.wc_gc.specs.Decoded.{FuncCode, func_code}
-use Rattle.wc_gc.proofs.RankLemmas.{range_more}
+use Rattle.wc_read.specs.Items.{item_seen}
+use Rattle.wc_read.specs.Decoded.{FuncCode, func_code}
+use Rattle.wc_graph.proofs.ListLemmas.{range_more}
 use Rattle.wc_segments.specs.Elements.{ElementValue, element_value}
 use Rattle.wc_segments.specs.declared.elements.ElementSegment.{ElementSegment}
 use Rattle.wc_paths.specs.CallLists.{CallKey, CallLists, is_call_key, listed}
-use Rattle.wc_paths.specs.Callers.{AreCallers, AreCallersBetween, CallsThrough, HasCall, IsCalling, call_key as key_between, calling_of, entry_by, filled_table, put_in_table, table_of}
+use Rattle.wc_paths.specs.Callers.{AreCallers, AreCallersBetween, CallsThrough, HasCall, IsCalling, call_key as key_between, calling_of, filled_table, put_in_table, table_of}
+use Rattle.wc_graph.specs.Private.Places.{entry_by}
 use Rattle.wc_paths.specs.Counts.{counts_value}
 use Rattle.wc_paths.specs.Items.{CountsValue, GraphValue, counts_of, has_item}
 use Rattle.wc_paths.specs.Numbers.{item_count, number_of, numbers_in, numbers_of}
@@ -38,16 +39,16 @@ use Rattle.wc_paths.specs.Paths.{AreChainsFrom, ArePaths, IsReachedIn, IsReached
 use Rattle.wc_paths.specs.Private.CallLists.{ListsUnder, call_key, is_call, is_last, key_by, with_last}
 use Rattle.wc_paths.specs.Private.Callers.{HasListed, PutsIndices, calls_at, calls_reached, def_calls, is_reached, leads_to, list_at}
 use Rattle.wc_paths.specs.Private.EqualTypes.{AreFirstEqual, IsFirstType}
-use Rattle.wc_paths.specs.Private.Places.{is_missing, is_missing_at}
+use Rattle.wc_graph.specs.Private.Places.{is_missing, is_missing_at}
 use Rattle.wc_paths.specs.declared.callers.Callers.{Callers}
-use Rattle.wc_paths.specs.declared.chains.Chains.{Chains}
+use Rattle.wc_graph.specs.declared.chains.Chains.{Chains}
 use Rattle.wc_paths.specs.declared.items.PathItem.{PathItem}
 use Rattle.wc_paths.specs.declared.items.PathItem.TheVariants.{Item, Elements, Data}
 use Rattle.wc_paths.specs.declared.paths.Paths.{Paths}
 use Rattle.wc_paths.proofs.CallListLemmas.{key_same, nat_eq_same}
 use Rattle.wc_paths.proofs.EqualTypeLemmas.{first_one, first_same}
 use Rattle.wc_paths.proofs.NumbersLemmas.{item_back, number_below}
-use Rattle.wc_paths.proofs.OnChainLemmas.{missing_unreached}
+use Rattle.wc_graph.proofs.OnChainLemmas.{missing_unreached}
 use Rattle.wc_paths.proofs.PathLemmas.{IsThere, item_reached, number_reached, reached_there}
 
 -- an item is reached exactly where its number was found

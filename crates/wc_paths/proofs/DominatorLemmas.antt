@@ -1,77 +1,23 @@
 -- Dominators of numbers and of the things that are numbered, and how they are marked.
-use Rattle.std.proofs.Common.{◌≡◌, ℕ, ◌<◌, ◌++◌, List, ◌∷◌, length, map, replicate, get_or, refl, sym, ◌∙◌, ap, subst, inl, inr, arith, Bool, true, false, ◌&&◌, Option, Some, None}
+use Rattle.std.proofs.Common.{◌≡◌, ℕ, ◌<◌, ◌++◌, List, ◌∷◌, map, get_or, refl, sym, ◌∙◌, ap, subst, inl, inr, Bool, true, false, ◌&&◌, None}
 use Rattle.std.specs.Prelude.{All, Contains, IsTrue, ◌↔◌}
-use Rattle.std.specs.List.{slice_get}
 use Rattle.std.proofs.lemmas.Bool.{both_ways}
 use Rattle.std.proofs.lemmas.List.Elements.{All-contains, Contains-append_cases, Contains-append_left, Contains-append_right}
-use Rattle.std.proofs.lemmas.Option.{get_or_from_slice_get, slice_get-get_or, slice_get_within}
-use Rattle.std.proofs.lemmas.List.{get_or-replicate, length-replicate}
-use Rattle.wc_read.proofs.OptionsLemmas.{some_none}
-use Rattle.wc_gc.specs.ImportChains.{IsShortestChain}
-use Rattle.wc_gc.specs.Reached.{IsPath, IsReachedFrom}
-use Rattle.wc_paths.specs.Dominators.{AreDominatorsIn, IsDominator, IsDominatorIn, MarksValue, is_marked, mark_at}
+use Rattle.wc_graph.specs.ShortestChains.{IsShortestChain}
+use Rattle.wc_graph.specs.Reached.{IsPath, IsReachedFrom}
+use Rattle.wc_paths.specs.Dominators.{AreDominatorsIn, IsDominatorIn, MarksValue, is_marked}
+use Rattle.wc_graph.specs.Dominators.{IsDominator, mark_at}
 use Rattle.wc_paths.specs.Items.{CountsValue, GraphValue, counts_of, has_item, items_of, names_in}
 use Rattle.wc_paths.specs.Numbers.{item_at, item_count, number_of, numbers_in, numbers_of, present}
-use Rattle.wc_paths.specs.Tree.{ArePlaces}
-use Rattle.wc_paths.specs.Private.Dominators.{AreMarkedIn, AreUnreached, IsChainFrom, IsUnreached}
-use Rattle.wc_paths.specs.Private.Ways.{AreDominators, IsChainTo, IsWay}
+use Rattle.wc_paths.specs.Private.Dominators.{AreMarkedIn, IsChainFrom, IsUnreached}
+use Rattle.wc_graph.specs.Private.Dominators.{AreUnreached}
+use Rattle.wc_graph.specs.Private.Ways.{IsChainTo}
 use Rattle.wc_paths.specs.declared.items.PathItem.{PathItem}
-use Rattle.wc_paths.proofs.ChainWayLemmas.{path_below, shortest_once}
-use Rattle.wc_paths.proofs.NumberingLemmas.{more_hold, number_in, number_one, numbers, path_holds, path_numbers, path_things, reached_number, reached_thing, thing_in}
+use Rattle.wc_graph.proofs.ChainWayLemmas.{path_below}
+use Rattle.wc_graph.proofs.NumberingLemmas.{more_hold, number_in, number_one, numbers, path_holds, path_numbers, path_things, reached_number, reached_thing, thing_in}
 use Rattle.wc_paths.proofs.NumbersLemmas.{item_back, number_below}
 use Rattle.wc_paths.proofs.PathLemmas.{named_there, numbers_below, numbers_join, roots_there}
-
--- how dominators are marked
-
--- no path leads to a target
-pub none_marked : (names : ℕ → List ℕ) (roots targets : List ℕ) → AreUnreached names roots targets → (n : ℕ) (marks : List Bool) (o : Option ℕ) → o ≡ None
-    → IsTrue (mark_at marks o) ↔ IsDominator names roots targets n
-none_marked names roots targets missed n marks o e = (
-  (λ h. absurd (both_ways (mark_at marks o) (ap (mark_at marks) e) h)),
-  λ d. absurd (missed d.target d.asked d.reached),
-)
-
--- those on a way
-pub way_marked : (names : ℕ → List ℕ) (roots targets way : List ℕ) (marks : List Bool) (size : ℕ) (places : List (Option ℕ)) → IsWay names roots targets way
-    → AreDominators names roots targets way marks → ArePlaces way size places → (n : ℕ) → n < size
-    → IsTrue (mark_at marks (get_or places n None)) ↔ IsDominator names roots targets n
-way_marked names roots targets way marks size places w a p n lt = by (get_or places n None) refl
-  where
-    read : slice_get places n ≡ Some (get_or places n None)
-    read = slice_get-get_or places n None (let e = p.each in omega (arith, lt, e))
-
-    by : (o : Option ℕ) → get_or places n None ≡ o → IsTrue (mark_at marks o) ↔ IsDominator names roots targets n
-    by None e = (
-      (λ h. absurd (both_ways false refl h)),
-      λ d. absurd (p.at n None (read ∙ ap Some e) (subst (λ (z : List ℕ). Contains z n) (sym w.is) (d.on_all w.root w.target w.path w.from w.ends w.leads))),
-    )
-    by (Some k) e =
-        let at : slice_get way k ≡ Some n = p.at n (Some k) (read ∙ ap Some e) in
-        let l = slice_get_within way k n at in
-        let m = a.at k n (get_or marks k false) at (slice_get-get_or marks k false (let z = a.each in omega (arith, l, z))) in (
-          (λ h.
-              let both = m.0 h in
-              record { target = w.target; asked = w.ends; reached = (w.root, w.from, w.path, w.leads); no_target = both.0; on_all = both.1 }),
-          λ d. m.1 (d.no_target, d.on_all),
-        )
-
--- there is a mark for each position on a way
-pub way_within : (names : ℕ → List ℕ) (roots targets way : List ℕ) (marks : List Bool) (size : ℕ) (places : List (Option ℕ))
-    → AreDominators names roots targets way marks → ArePlaces way size places → (x k : ℕ) → slice_get places x ≡ Some (Some k) → k < length marks
-way_within names roots targets way marks size places a p x k e =
-    let l = slice_get_within way k x (p.at x (Some k) e) in
-    let z = a.each in
-    omega (arith, l, z)
-
--- no position is noted
-pub none_noted : (size n : ℕ) → n < size → get_or (replicate {A = Option ℕ} size None) n None ≡ None
-none_noted size n lt = get_or-replicate size n None None lt
-
-pub none_within : (size : ℕ) (x k : ℕ) → slice_get (replicate {A = Option ℕ} size None) x ≡ Some (Some k) → k < 0
-none_within size x k e =
-    let lt = slice_get_within (replicate {A = Option ℕ} size None) x (Some k) e in
-    let l : length (replicate {A = Option ℕ} size None) ≡ size = length-replicate size None in
-    some_none k (sym (get_or_from_slice_get (replicate {A = Option ℕ} size None) x (Some k) None e) ∙ none_noted size x (omega (arith, lt, l)))
+use Rattle.wc_graph.proofs.DominatorLemmas.{shortest_to}
 
 -- things that are numbered
 
@@ -183,19 +129,6 @@ numbers_marked g roots targets v e at = record {
 named_below : (g : GraphValue) (x y : ℕ) → Contains (numbers_in g x) y → y < item_count (counts_of g)
 named_below g x y c =
     All-contains (λ n. n < item_count (counts_of g)) (numbers_in g x) y (numbers_below (counts_of g) (items_of g (item_at (counts_of g) x))) c
-
-pub shortest_to : (names : ℕ → List ℕ) (some roots targets : List ℕ) → ((x : ℕ) → Contains some x → Contains roots x) → (t : ℕ) → Contains targets t → (chain : List ℕ)
-    → IsShortestChain names some t chain → IsChainTo names roots targets chain
-shortest_to names some roots targets among t c chain s = record {
-  root = s.root;
-  path = s.path;
-  target = t;
-  is = s.is;
-  from = among s.root s.from;
-  leads = s.leads;
-  ends = c;
-  once = shortest_once names some t chain s;
-}
 
 shortest_below : (g : GraphValue) (roots : List PathItem) (t : ℕ) (chain : List ℕ) → IsShortestChain (numbers_in g) (numbers_of g roots) t chain
     → All (λ n. n < item_count (counts_of g)) chain

@@ -9,7 +9,7 @@ use Rattle.std.proofs.lemmas.Option.{get_or_from_slice_get, slice_get-get_or, sl
 use Rattle.wc_read.specs.Imports.{ImportValue, import_value, import_values}
 use Rattle.wc_read.specs.declared.types.Import.{Import}
 use Rattle.wc_read.specs.declared.operators.Space.{Space}
-use Rattle.wc_gc.specs.RestrictionLaws.{is_in_space}
+use Rattle.wc_read.specs.ImportItems.{is_in_space}
 use Rattle.wc_paths.specs.Private.Roots.{count_in}
 use Rattle.wc_paths.specs.Roots.{AreImportItems, import_item, import_space}
 use Rattle.wc_paths.specs.declared.items.PathItem.{PathItem}

@@ -1,46 +1,96 @@
--- Marks of what was found, of items that are numbered from 0.
-use Rattle.std.proofs.Common.{◌≡◌, ℕ, ◌+◌, ◌<◌, ◌≤◌, List, [], ◌∷◌, ◌++◌, take, length, get_or, set, refl, sym, subst, Bool, true, false, inl, inr}
-use Rattle.std.proofs.Common.{get_or-set_same, get_or-set_other}
-use Rattle.std.specs.Prelude.{IsTrue}
-use Rattle.std.proofs.lemmas.Bool.{cases_eq, cases_lt, both_ways, eqb-true}
-use Rattle.std.proofs.lemmas.Bool.Decides.{Decides-eqb}
-use Rattle.std.proofs.lemmas.List.{get_or_past, take_more}
-use Rattle.std.proofs.lemmas.List.Elements.{Contains-get_or}
-use Rattle.std.proofs.lemmas.Map.Made.{IsDistinct-from_AllPairs}
-use Rattle.std.proofs.lemmas.Map.Steps.{length-le_from_distinct_below}
-use Rattle.std.proofs.lemmas.Map.Views.{Contains-from_any}
-use Rattle.wc_gc.specs.Private.Search.{IsTied, HasGrown, IsGrown}
-use Rattle.wc_gc.proofs.SearchLemmas.{grown_old, grown_push, only_if_tied}
+-- The marks of a component's items, by those of the row.
+use Rattle.std.proofs.Common.{◌≡◌, ℕ, ◌+◌, ◌<◌, List, [], ◌∷◌, ◌++◌, length, map, get_or, Bool, true, false, Option, Some, None, refl, sym, ◌∙◌, ap, subst, arith}
+use Rattle.std.specs.Prelude.{All, ◌↔◌}
+use Rattle.std.specs.List.{slice_get}
+use Rattle.std.specs.Option.{option_map_or, option_to_list}
+use Rattle.std.proofs.lemmas.Bool.{and_from, and_parts, both_ways}
+use Rattle.std.proofs.lemmas.List.{length-map}
+use Rattle.std.proofs.lemmas.List.Elements.{All-contains}
+use Rattle.std.proofs.lemmas.Option.{same_Some, slice_get_within}
+use Rattle.wc_read.proofs.OptionsLemmas.{some_none}
+use Rattle.wc_graph.specs.ChainMarks.{is_set}
+use Rattle.wc_graph.specs.Dominators.{IsDominator}
+use Rattle.wc_graph.specs.Dominators.{AreGraphDominators}
+use Rattle.wc_paths.specs.Items.{has_item}
+use Rattle.wc_paths.specs.Numbers.{number_of}
+use Rattle.wc_graph.proofs.ChainWayLemmas.{path_below}
+use Rattle.wc_graph.proofs.OnChainLemmas.{marked_is}
+use Rattle.wc_paths.specs.Lists.{lists_view}
+use Rattle.wc_paths.specs.Marks.{AreMarks, IsMarkedIn, mark_at, place_view}
+use Rattle.wc_paths.specs.Parts.{PartView, PlaceView, link_at, names_in, places_in, roots_in, rows_in, targets_in}
+use Rattle.wc_paths.specs.Private.ComponentGraph.{names_by}
+use Rattle.wc_paths.specs.Private.Joined.{IsInside, IsJoined}
+use Rattle.wc_paths.specs.Private.Links.{AreLinked}
+use Rattle.wc_paths.specs.declared.joined.Joined.{Joined}
+use Rattle.wc_paths.specs.declared.marks.Marks.{Marks}
 
-abbrev pub marked : List Bool → ℕ → Bool
-marked marks x = get_or marks x false
+module _ (ps : List PartView) (j : Joined) (links : List (Option ℕ)) (is : IsJoined ps j) (a : AreLinked j.links.items (length j.rows.items) links) where
+  size_is : length j.rows.items ≡ length (rows_in ps)
+  size_is = sym (length-map j.rows.items (λ v. v.items)) ∙ ap length is.rows
 
-pub mark_push : (marks : List Bool) (found : List ℕ) (x : ℕ) → x < length marks → get_or marks x false ≡ false → IsTied (marked marks) found
-    → HasGrown found (marked (set marks x true)) (found ++ x ∷ []) (x ∷ [])
-mark_push marks found x within new tied =
-    grown_push (λ a b. cases_eq a b) (marked marks) (marked (set marks x true)) found x new (record {
-      present = get_or-set_same marks x true false within;
-      others = λ y n. get_or-set_other marks x y true false n;
-    }) tied
+  -- what items name
+  same_names : (n : ℕ) → names_by (lists_view j.rows.items) links n ≡ names_in ps n
+  same_names n =
+      ap (λ (rows : List (List ℕ)). get_or rows n [] ++ option_to_list (get_or links n None)) is.rows
+      ∙ (ap (λ o. get_or (rows_in ps) n [] ++ option_to_list o) (a.at n)
+      ∙ (ap (λ size. get_or (rows_in ps) n [] ++ option_to_list (link_at size j.links.items n)) size_is
+      ∙ ap (λ (ls : List (ℕ × ℕ)). get_or (rows_in ps) n [] ++ option_to_list (link_at (length (rows_in ps)) ls n)) is.links))
 
-pub mark_again : (marks : List Bool) (found : List ℕ) (x : ℕ) → get_or marks x false ≡ true → IsTied (marked marks) found
-    → HasGrown found (marked marks) found (x ∷ [])
-mark_again marks found x old tied =
-    grown_old (λ a b. cases_eq a b) (marked marks) (marked marks) found x old (record { present = old; others = λ y n. refl }) tied
+  all_names : names_by (lists_view j.rows.items) links ≡ names_in ps
+  all_names = λ i n. same_names n i
 
-pub grown_next : (has has' has'' : ℕ → Bool) (found found' found'' items : List ℕ) (i : ℕ) → i < length items
-    → IsGrown has found has' found' (take i items) → IsGrown has' found' has'' found'' (get_or items i 0 ∷ []) → IsGrown has found has'' found'' (take (i + 1) items)
-grown_next has has' has'' found found' found'' items i h a b =
-    subst (λ z. IsGrown has found has'' found'' z) (sym (take_more items i 0 h)) (only_if_tied has found has' found' has'' found'' (take i items) (get_or items i 0 ∷ []) a b)
+  module _ (inside : IsInside j links) (marks : List Bool)
+      (d : AreGraphDominators (names_by (lists_view j.rows.items) links) (length j.rows.items) j.roots.items j.targets.items marks) where
+    -- the dominators of the row are those of the component
+    abbrev Dominates : ℕ → Type 0
+    Dominates n = IsDominator (names_in ps) (roots_in ps) (targets_in ps) n
 
-pub below_marks : (marks : List Bool) (x : ℕ) → IsTrue (marked marks x) → x < length marks
-below_marks marks x h = elim (cases_lt x (length marks)) [ inl l ↦ l | inr n ↦ absurd (both_ways (get_or marks x false) (get_or_past marks x false n) h) ]
+    to_parts : (n : ℕ) → IsDominator (names_by (lists_view j.rows.items) links) j.roots.items j.targets.items n → Dominates n
+    to_parts n h =
+        subst (λ (ts : List ℕ). IsDominator (names_in ps) (roots_in ps) ts n) is.targets
+        (subst (λ (rs : List ℕ). IsDominator (names_in ps) rs j.targets.items n) is.roots
+        (subst (λ (f : ℕ → List ℕ). IsDominator f j.roots.items j.targets.items n) all_names h))
 
-pub found_below : (marks : List Bool) (found : List ℕ) → IsTied (marked marks) found → (k d : ℕ) → k < length found → get_or found k d < length marks
-found_below marks found tied k d h = below_marks marks (get_or found k d) (tied.is_in_set (get_or found k d) (Contains-get_or found k d h))
+    from_parts : (n : ℕ) → Dominates n → IsDominator (names_by (lists_view j.rows.items) links) j.roots.items j.targets.items n
+    from_parts n h =
+        subst (λ (f : ℕ → List ℕ). IsDominator f j.roots.items j.targets.items n) (sym all_names)
+        (subst (λ (rs : List ℕ). IsDominator (names_in ps) rs j.targets.items n) (sym is.roots)
+        (subst (λ (ts : List ℕ). IsDominator (names_in ps) (roots_in ps) ts n) (sym is.targets) h))
 
--- what was found is no more than there are marks
-pub found_bounded : (marks : List Bool) (found : List ℕ) → IsTied (marked marks) found → length found ≤ length marks
-found_bounded marks found tied =
-    length-le_from_distinct_below found (length marks) (IsDistinct-from_AllPairs Decides-eqb found tied.distinct)
-    (λ q h. below_marks marks q (tied.is_in_set q (Contains-from_any (λ x y e. eqb-true x y e) q found h)))
+    -- a dominator is there
+    there : (n : ℕ) → IsDominator (names_by (lists_view j.rows.items) links) j.roots.items j.targets.items n → n < length j.rows.items
+    there n h =
+        let names = names_by (lists_view j.rows.items) links in
+        let size = length j.rows.items in
+        let r = h.reached in
+        let below : r.0 < size = All-contains (λ x. x < size) j.roots.items r.0 inside.roots r.1 in
+        let path : All (λ x. x < size) (r.0 ∷ r.2) =
+        path_below names size (λ x y c. All-contains (λ z. z < size) (names x) y (inside.named x) c) r.0 r.2 h.target below r.3 in
+        All-contains (λ x. x < size) (r.0 ∷ r.2) n path (h.on_all r.0 h.target r.2 r.1 h.asked r.3)
+
+    set_dominates : (n : ℕ) → is_set marks n ≡ true → Dominates n
+    set_dominates n e =
+        let lt = slice_get_within marks n true (marked_is marks n e) in
+        let z = d.sized in
+        to_parts n ((d.marked n (omega (arith, lt, z))).0 e)
+
+    dominates_set : (n : ℕ) → Dominates n → is_set marks n ≡ true
+    dominates_set n h = let g = from_parts n h in (d.marked n (there n g)).1 g
+
+    pub marks_are : (m : Marks) → m.marks.items ≡ marks → map place_view m.places.items ≡ places_in ps → AreMarks ps m
+    marks_are m same places part x =
+        subst (λ (os : List PlaceView). (option_map_or (λ p. mark_at m.marks.items p x) (slice_get os part) false ≡ true) ↔ IsMarkedIn ps part x) (sym places)
+        (subst (λ (bs : List Bool). (option_map_or (λ p. mark_at bs p x) (slice_get (places_in ps) part) false ≡ true) ↔ IsMarkedIn ps part x) (sym same)
+        (by (slice_get (places_in ps) part) refl))
+      where
+        by : (o : Option PlaceView) → slice_get (places_in ps) part ≡ o → (option_map_or (λ p. mark_at marks p x) o false ≡ true) ↔ IsMarkedIn ps part x
+        by None e = ((λ h. absurd (both_ways false refl h)), λ h. absurd (some_none h.place (sym h.at ∙ e)))
+        by (Some p) e = (
+          (λ h.
+              let both = and_parts (has_item p.1 x) (is_set marks (p.0 + number_of p.1 x)) h in
+              record { place = p; at = e; there = both.0; dominates = set_dominates (p.0 + number_of p.1 x) both.1 }),
+          λ h.
+              let one : h.place ≡ p = same_Some h.place p (sym h.at ∙ e) in
+              and_from (has_item p.1 x) (is_set marks (p.0 + number_of p.1 x)) (subst (λ (q : PlaceView). has_item q.1 x ≡ true) one h.there)
+              (dominates_set (p.0 + number_of p.1 x) (subst (λ (q : PlaceView). Dominates (q.0 + number_of q.1 x)) one h.dominates)),
+        )

@@ -11,7 +11,7 @@ use Rattle.wc_read.specs.Types.{type_index, type_indices}
 use Rattle.wc_read.specs.declared.bodies.Locals.{Locals}
 use Rattle.wc_read.specs.declared.operators.Instr.{Instr}
 use Rattle.wc_read.specs.declared.types.ValType.{ValType}
-use Rattle.wc_gc.specs.Entries.{type_items, val_type_refs}
+use Rattle.wc_read.specs.Entries.{type_items, val_type_refs}
 use Rattle.wc_read.specs.declared.operators.Space.TheVariants.{Types}
 use Rattle.wc_segments.specs.declared.elements.Expression.{Expression}
 use Rattle.wc_paths.specs.Items.{body_items, code_items, init_items, operator_items, space_item, space_items}

@@ -8,22 +8,22 @@ use Rattle.std.proofs.lemmas.List.{get_or-map, length-map}
 use Rattle.std.proofs.lemmas.List.FromFn.{get_or-range_with_len, length-range_with_len}
 use Rattle.std.proofs.lemmas.List.Elements.{All-contains, filter_passes}
 use Rattle.std.proofs.lemmas.Option.{slice_get-get_or}
-use Rattle.wc_gc.specs.ImportChains.{IsShortestChain}
-use Rattle.wc_gc.proofs.ChainLemmas.{contains_unmapped, in_filter}
-use Rattle.wc_gc.proofs.LiveItemLemmas.{contains_mapped}
-use Rattle.wc_gc.proofs.OneChainLemmas.{one_chain}
-use Rattle.wc_gc.proofs.TwiceReachLemmas.{from_filter}
-use Rattle.wc_paths.specs.ChainMarks.{is_set}
+use Rattle.wc_graph.specs.ShortestChains.{IsShortestChain}
+use Rattle.wc_graph.proofs.ListLemmas.{contains_unmapped, in_filter}
+use Rattle.wc_graph.proofs.ListLemmas.{contains_mapped}
+use Rattle.wc_graph.proofs.OneChainLemmas.{one_chain}
+use Rattle.wc_graph.proofs.ListLemmas.{from_filter}
+use Rattle.wc_graph.specs.ChainMarks.{is_set}
 use Rattle.wc_paths.specs.Items.{CountsValue, GraphValue, counts_of, has_item, names_in}
 use Rattle.wc_paths.specs.Numbers.{item_at, item_count, number_of, numbers_in, numbers_of, present}
-use Rattle.wc_paths.specs.OnChains.{AreMarkedTo, IsOnChainTo}
+use Rattle.wc_graph.specs.OnChains.{AreMarkedTo, IsOnChainTo}
 use Rattle.wc_paths.specs.OnPaths.{IsOnPathTo}
 use Rattle.wc_paths.specs.Paths.{AreChainsFrom, IsPathFrom, IsReachedIn, IsShortestIn}
-use Rattle.wc_paths.specs.Private.Places.{is_missing_at, is_set_in}
-use Rattle.wc_paths.specs.declared.chains.Chains.{Chains}
+use Rattle.wc_graph.specs.Private.Places.{is_missing_at, is_set_in}
+use Rattle.wc_graph.specs.declared.chains.Chains.{Chains}
 use Rattle.wc_paths.specs.declared.items.PathItem.{PathItem}
 use Rattle.wc_paths.proofs.NumbersLemmas.{item_back, number_below}
-use Rattle.wc_paths.proofs.OnChainLemmas.{chain_of, missing_unreached, unreached_missing}
+use Rattle.wc_graph.proofs.OnChainLemmas.{chain_of, missing_unreached, unreached_missing}
 use Rattle.wc_paths.proofs.PathLemmas.{IsThere, chain_there, item_reached, number_reached, number_unreached, numbers_parts, path_shown, reached_there}
 
 -- what is marked in either of two lists

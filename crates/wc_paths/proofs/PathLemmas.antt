@@ -11,9 +11,9 @@ use Rattle.wc_read.specs.Modules.{module_value}
 use Rattle.wc_read.specs.declared.core_module.Module.{Module}
 use Rattle.wc_segments.specs.Segments.{segments_value}
 use Rattle.wc_segments.specs.declared.segments.Segments.{Segments}
-use Rattle.wc_gc.specs.Decoded.{decoded_module}
-use Rattle.wc_gc.specs.ImportChains.{IsShortestChain}
-use Rattle.wc_gc.specs.Reached.{IsPath, IsReachedFrom}
+use Rattle.wc_read.specs.Decoded.{decoded_module}
+use Rattle.wc_graph.specs.ShortestChains.{IsShortestChain}
+use Rattle.wc_graph.specs.Reached.{IsPath, IsReachedFrom}
 use Rattle.wc_paths.specs.Items.{CountsValue, GraphValue, counts_of, graph_of, has_item, is_closed, is_closed_item, is_item_code, items_of, names_in}
 use Rattle.wc_paths.specs.Numbers.{item_at, item_count, number_of, numbers_in, numbers_of, present}
 use Rattle.wc_paths.specs.Paths.{IsFaultFrom, IsReachedIn, IsReachedInAny, IsShortestIn}
@@ -23,7 +23,7 @@ use Rattle.wc_paths.specs.Private.Paths.{IsFunction}
 use Rattle.wc_paths.specs.declared.items.PathItem.{PathItem}
 use Rattle.wc_paths.specs.declared.items.PathItem.TheVariants.{Item, Elements, Data}
 use Rattle.wc_paths.proofs.NamesLemmas.{appended}
-use Rattle.wc_paths.proofs.NumberingLemmas.{chain_numbers, chain_things, reached_number, reached_thing}
+use Rattle.wc_graph.proofs.NumberingLemmas.{chain_numbers, chain_things, reached_number, reached_thing}
 use Rattle.wc_paths.proofs.NumbersLemmas.{item_back, number_below}
 
 -- numbers of the items that are there

@@ -6,7 +6,7 @@ use Rattle.std.proofs.lemmas.List.{length-map}
 use Rattle.std.proofs.lemmas.Option.{same_Some}
 use Rattle.wc_read.specs.Exports.{ExportValue, export_value}
 use Rattle.wc_read.specs.declared.exports.Export.{Export}
-use Rattle.wc_gc.proofs.ExportLemmas.{no_export}
+use Rattle.wc_read.proofs.EntryLemmas.{no_export}
 use Rattle.wc_paths.specs.Roots.{export_item}
 use Rattle.wc_paths.specs.PathRoots.{IsFirstExport}
 use Rattle.wc_paths.specs.declared.items.PathItem.{PathItem}

@@ -6,30 +6,30 @@ use Rattle.std.specs.Option.{option_map}
 use Rattle.std.proofs.lemmas.Bool.{cases_lt}
 use Rattle.std.proofs.lemmas.List.{get_or_append_left, get_or-append_right, get_or-map, length-append, length-map, map-append}
 use Rattle.std.proofs.lemmas.Option.{get_or_from_slice_get, same_Some, slice_get-get_or, slice_get-map, slice_get_within}
-use Rattle.wc_gc.specs.ImportChains.{IsFinderChain, at_named, at_root}
-use Rattle.wc_gc.proofs.ImageUnfoldingLemmas.{back_at}
-use Rattle.wc_gc.proofs.TypedGlobalLemmas.{get_front}
-use Rattle.wc_paths.specs.ChainTree.{HasFroms, IsEnd, IsFromOf, IsInside}
+use Rattle.wc_graph.specs.ShortestChains.{IsFinderChain, at_named, at_root}
+use Rattle.wc_graph.proofs.ListLemmas.{back_at}
+use Rattle.wc_graph.proofs.ListLemmas.{get_front}
+use Rattle.wc_graph.specs.ChainTree.{HasFroms, IsEnd, IsFromOf, IsInside}
 use Rattle.wc_paths.specs.Counts.{counts_value}
 use Rattle.wc_paths.specs.Items.{CountsValue, GraphValue, counts_of, has_item}
 use Rattle.wc_paths.specs.Numbers.{item_at, item_count, number_of, numbers_in, numbers_of}
 use Rattle.wc_paths.specs.Paths.{ArePaths}
 use Rattle.wc_paths.specs.PathTree.{IsPathTo, begins, goes_on}
 use Rattle.wc_paths.specs.Private.PathTree.{finders_in, found_in, is_past, item_in, position_by, position_in}
-use Rattle.wc_paths.specs.Callers.{entry_by}
-use Rattle.wc_paths.specs.Private.Places.{place_at}
-use Rattle.wc_paths.specs.declared.chain_tree.ChainTree.{ChainTree}
+use Rattle.wc_graph.specs.Private.Places.{entry_by}
+use Rattle.wc_graph.specs.Private.Places.{place_at}
+use Rattle.wc_graph.specs.declared.chain_tree.ChainTree.{ChainTree}
 use Rattle.wc_paths.specs.declared.items.PathItem.{PathItem}
 use Rattle.wc_paths.specs.declared.items.PathItem.TheVariants.{Data}
 use Rattle.wc_paths.specs.declared.paths.Paths.{Paths}
-use Rattle.wc_gc.specs.ImportChains.{IsShortestChain}
-use Rattle.wc_gc.specs.Reached.{IsReachedFrom}
-use Rattle.wc_paths.specs.Chains.{AreChains}
+use Rattle.wc_graph.specs.ShortestChains.{IsShortestChain}
+use Rattle.wc_graph.specs.Reached.{IsReachedFrom}
+use Rattle.wc_graph.specs.Chains.{AreChains}
 use Rattle.wc_paths.specs.Paths.{IsPathFrom, IsReachedIn}
-use Rattle.wc_paths.specs.declared.chains.Chains.{Chains}
-use Rattle.wc_paths.proofs.ChainFrontLemmas.{chain_to}
+use Rattle.wc_graph.specs.declared.chains.Chains.{Chains}
+use Rattle.wc_graph.proofs.ChainFrontLemmas.{chain_to}
 use Rattle.wc_paths.proofs.NumbersLemmas.{number_below}
-use Rattle.wc_paths.proofs.OnChainLemmas.{at_place}
+use Rattle.wc_graph.proofs.OnChainLemmas.{at_place}
 use Rattle.wc_paths.proofs.PathLemmas.{missing_unreached, number_unreached, path_shown}
 
 abbrev shifted : ℕ → List ℕ → List ℕ

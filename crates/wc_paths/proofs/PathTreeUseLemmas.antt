@@ -7,13 +7,13 @@ use Rattle.std.proofs.lemmas.Bool.{cases_lt}
 use Rattle.std.proofs.lemmas.List.{append_assoc, get_or-map, get_or_default, length-map, take-map}
 use Rattle.std.proofs.lemmas.List.Elements.{All-contains, All-map, Contains-append_left, Contains-push}
 use Rattle.std.proofs.lemmas.Option.{get_or_from_slice_get, same_Some, slice_get-map, slice_get_within}
-use Rattle.wc_gc.specs.ImportChains.{IsFinderChain, IsShortestChain, at_named, at_root}
-use Rattle.wc_gc.specs.Reached.{IsPath, IsReachedFrom}
-use Rattle.wc_gc.proofs.ChainLemmas.{contains_unmapped}
-use Rattle.wc_gc.proofs.LiveItemLemmas.{contains_mapped}
-use Rattle.wc_gc.proofs.OneChainLemmas.{one_chain}
-use Rattle.wc_paths.specs.ChainMarks.{IsOnChain, before, here}
-use Rattle.wc_paths.specs.ChainTree.{IsChainTree, IsEnd, given}
+use Rattle.wc_graph.specs.ShortestChains.{IsFinderChain, IsShortestChain, at_named, at_root}
+use Rattle.wc_graph.specs.Reached.{IsPath, IsReachedFrom}
+use Rattle.wc_graph.proofs.ListLemmas.{contains_unmapped}
+use Rattle.wc_graph.proofs.ListLemmas.{contains_mapped}
+use Rattle.wc_graph.proofs.OneChainLemmas.{one_chain}
+use Rattle.wc_graph.specs.ChainMarks.{IsOnChain, before, here}
+use Rattle.wc_graph.specs.ChainTree.{IsChainTree, IsEnd, given}
 use Rattle.wc_paths.specs.Counts.{counts_value}
 use Rattle.wc_paths.specs.Items.{CountsValue, GraphValue, counts_of, has_item, names_in}
 use Rattle.wc_paths.specs.Numbers.{item_at, item_count, number_of, numbers_in, numbers_of, present}
@@ -21,19 +21,19 @@ use Rattle.wc_paths.specs.OnPaths.{IsOnPathTo}
 use Rattle.wc_paths.specs.Paths.{ArePaths, IsPathFrom, IsReachedIn}
 use Rattle.wc_paths.specs.PathTree.{AreUsedInOrder, IsPathTree}
 use Rattle.wc_paths.specs.Private.PathTree.{finders_in, found_in, is_past, item_in, position_by, position_in}
-use Rattle.wc_paths.specs.Private.Places.{place_at}
-use Rattle.wc_paths.specs.declared.chain_tree.ChainTree.{ChainTree}
+use Rattle.wc_graph.specs.Private.Places.{place_at}
+use Rattle.wc_graph.specs.declared.chain_tree.ChainTree.{ChainTree}
 use Rattle.wc_paths.specs.declared.items.PathItem.{PathItem}
 use Rattle.wc_paths.specs.declared.path_tree.PathTree.{PathTree}
 use Rattle.wc_paths.specs.declared.paths.Paths.{Paths}
-use Rattle.wc_paths.proofs.ChainFrontLemmas.{IsThingOn, chain_on}
-use Rattle.wc_paths.proofs.ChainTreeLemmas.{from_earlier}
-use Rattle.wc_paths.proofs.NumberingLemmas.{reached_thing}
+use Rattle.wc_graph.proofs.ChainFrontLemmas.{IsThingOn, chain_on}
+use Rattle.wc_graph.proofs.ChainTreeLemmas.{from_earlier}
+use Rattle.wc_graph.proofs.NumberingLemmas.{reached_thing}
 use Rattle.wc_paths.proofs.NumbersLemmas.{item_back, number_below}
-use Rattle.wc_paths.proofs.OnChainLemmas.{at_place, mapped_from, mapped_to, once_at}
+use Rattle.wc_graph.proofs.OnChainLemmas.{at_place, mapped_from, mapped_to, once_at}
 use Rattle.wc_paths.proofs.PathLemmas.{IsThere, named_there, number_unreached, path_shown, roots_there}
 use Rattle.wc_paths.proofs.PathTreeLemmas.{below_false, below_true, chain_at, finders_earlier, finders_later, in_first, in_second, is_read, unreached}
-use Rattle.wc_paths.proofs.WayLemmas.{path_on, rest_of}
+use Rattle.wc_graph.proofs.WayLemmas.{path_on, rest_of}
 
 -- a position in two lists, one after the other, is in the first or in the second
 in_either : (xs ys : List ℕ) (k m : ℕ) → slice_get (xs ++ ys) k ≡ Some m

@@ -8,7 +8,7 @@ use Rattle.wc_read.specs.Operators.{InstrValue, WithIndices, index_of}
 use Rattle.wc_read.specs.Types.{FuncTypeValue}
 use Rattle.wc_read.specs.declared.operators.IndexKind.TheVariants.{In}
 use Rattle.wc_read.specs.declared.operators.Space.TheVariants.{Types, Funcs, Tables}
-use Rattle.wc_gc.specs.Decoded.{DecodedModule, FuncCode}
+use Rattle.wc_read.specs.Decoded.{DecodedModule, FuncCode}
 use Rattle.wc_segments.specs.Elements.{ElementValue}
 use Rattle.wc_segments.specs.Modes.{ModeValue, passive, active, declarative}
 use Rattle.wc_paths.specs.CallLists.{CallKey, listed}
@@ -18,6 +18,7 @@ use Rattle.wc_paths.specs.declared.callers.Callers.{Callers}
 use Rattle.wc_paths.specs.declared.items.PathItem.{PathItem}
 use Rattle.wc_paths.specs.declared.items.PathItem.TheVariants.{Item, Elements}
 use Rattle.wc_paths.specs.declared.paths.Paths.{Paths}
+use Rattle.wc_graph.specs.Private.Places.{entry_by}
 
 -- an operator calls with a type through a table: it names a type that is equal, and then the table. Of all operators
 -- `call_indirect` and `return_call_indirect` alone name a type and a table
@@ -78,10 +79,6 @@ abbrev pub IsCalling : GraphValue → List PathItem → List PathItem → Callin
 IsCalling g first second calling = (x y : PathItem) → AreCallersBetween g first second x y (calling x y)
 
 -- the same, as the code has it
-
-abbrev pub entry_by : Option (Option ℕ) → Option ℕ
-entry_by None = None
-entry_by (Some entry) = entry
 
 abbrev pub call_key : Callers → PathItem → PathItem → Option CallKey
 call_key c (Elements n) (Item Funcs m) =

@@ -1,5 +1,5 @@
 -- A module with its segments, as a graph that is searched.
-use Rattle.wc_gc.specs.Decoded.{decoded_module}
+use Rattle.wc_read.specs.Decoded.{decoded_module}
 use Rattle.wc_segments.specs.Segments.{segments_value}
 use Rattle.wc_paths.specs.Items.{GraphValue}
 use Rattle.wc_paths.specs.declared.graph.ModuleGraph.{ModuleGraph}

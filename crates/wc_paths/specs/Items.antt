@@ -13,8 +13,8 @@ use Rattle.wc_read.specs.declared.operators.IndexKind.{IndexKind}
 use Rattle.wc_read.specs.declared.operators.IndexKind.TheVariants.{In, Elem, Data as data_kind, Local, Label}
 use Rattle.wc_read.specs.declared.operators.Space.{Space}
 use Rattle.wc_read.specs.declared.operators.Space.TheVariants.{Types, Funcs, Tables, Memories, Globals}
-use Rattle.wc_gc.specs.Decoded.{DecodedModule, FuncCode, GlobalCode, ItemIndex, decode, is_code}
-use Rattle.wc_gc.specs.Entries.{Entry, no_entry, type_entry, func_entry, table_entry, memory_entry, global_entry, entry_at, func_type_refs, refs_list, val_type_refs}
+use Rattle.wc_read.specs.Decoded.{DecodedModule, FuncCode, GlobalCode, ItemIndex, decode, is_code}
+use Rattle.wc_read.specs.Entries.{Entry, no_entry, type_entry, func_entry, table_entry, memory_entry, global_entry, entry_at, func_type_refs, refs_list, val_type_refs}
 use Rattle.wc_segments.specs.Data.{DataValue}
 use Rattle.wc_segments.specs.Elements.{ElementValue, ElementsValue, functions, expressions}
 use Rattle.wc_segments.specs.Modes.{ModeValue, passive, active, declarative}

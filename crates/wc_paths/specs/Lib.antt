@@ -1,8 +1,3 @@
-pub mod Tree
-pub mod Search
-pub mod Chains
-pub mod ChainMarks
-pub mod OnChains
 pub mod Items
 pub mod Counts
 pub mod Numbers
@@ -14,7 +9,8 @@ pub mod CallLists
 pub mod Callers
 pub mod OnPaths
 pub mod Dominators
-pub mod GraphDominators
 pub mod Private
-pub mod ChainTree
 pub mod PathTree
+pub mod Lists
+pub mod Parts
+pub mod Marks

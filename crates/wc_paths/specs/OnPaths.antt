@@ -3,7 +3,7 @@ use Rattle.std.specs.Prelude.{◌≡◌, ◌↔◌, Bool, true, ◌&&◌, List, 
 use Rattle.wc_paths.specs.Counts.{counts_value}
 use Rattle.wc_paths.specs.Items.{GraphValue, has_item}
 use Rattle.wc_paths.specs.Numbers.{number_of}
-use Rattle.wc_paths.specs.ChainMarks.{is_set}
+use Rattle.wc_graph.specs.ChainMarks.{is_set}
 use Rattle.wc_paths.specs.Paths.{ArePaths, IsPathFrom}
 use Rattle.wc_paths.specs.declared.items.PathItem.{PathItem}
 use Rattle.wc_paths.specs.declared.on_paths.OnPaths.{OnPaths}

@@ -3,15 +3,15 @@ use Rattle.std.specs.Prelude.{◌≡◌, List, Bool, true, false, MatchOption, O
 use Rattle.wc_read.specs.Modules.{module_value}
 use Rattle.wc_read.specs.declared.core_module.Module.{Module}
 use Rattle.wc_read.specs.declared.operators.Space.TheVariants.{Funcs}
-use Rattle.wc_gc.specs.ImportChains.{IsShortestChain}
-use Rattle.wc_gc.specs.Reached.{IsReachedFrom}
+use Rattle.wc_graph.specs.ShortestChains.{IsShortestChain}
+use Rattle.wc_graph.specs.Reached.{IsReachedFrom}
 use Rattle.wc_segments.specs.Segments.{segments_value}
 use Rattle.wc_segments.specs.declared.segments.Segments.{Segments}
-use Rattle.wc_paths.specs.Chains.{AreChains}
+use Rattle.wc_graph.specs.Chains.{AreChains}
 use Rattle.wc_paths.specs.Counts.{counts_value}
 use Rattle.wc_paths.specs.Items.{GraphValue, counts_of, graph_of, is_closed, names_in}
 use Rattle.wc_paths.specs.Numbers.{numbers_in, numbers_of, present, item_count}
-use Rattle.wc_paths.specs.declared.chains.Chains.{Chains}
+use Rattle.wc_graph.specs.declared.chains.Chains.{Chains}
 use Rattle.wc_paths.specs.declared.items.PathItem.{PathItem}
 use Rattle.wc_paths.specs.declared.items.PathItem.TheVariants.{Item}
 use Rattle.wc_paths.specs.declared.paths.Path.{Path}

@@ -9,8 +9,8 @@ use Rattle.wc_read.specs.declared.operators.Space.{Space}
 use Rattle.wc_read.specs.declared.operators.Space.TheVariants.{Funcs, Tables, Memories, Globals}
 use Rattle.wc_read.specs.declared.types.ImportType.{ImportType}
 use Rattle.wc_read.specs.declared.types.ImportType.TheVariants.{Func, Table, Memory, Global}
-use Rattle.wc_gc.specs.Decoded.{exported_item}
-use Rattle.wc_gc.specs.RestrictionLaws.{is_in_space}
+use Rattle.wc_read.specs.Decoded.{exported_item}
+use Rattle.wc_read.specs.ImportItems.{is_in_space}
 use Rattle.wc_segments.specs.Data.{DataValue}
 use Rattle.wc_segments.specs.Elements.{ElementValue}
 use Rattle.wc_segments.specs.Modes.{ModeValue, passive, active, declarative}

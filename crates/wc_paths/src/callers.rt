@@ -2,10 +2,11 @@
 
 ghost use Rattle.std.specs.Prelude.{◌≡◌, ◌<◌, ◌^◌, ℕ, ◌∷◌, [], Contains, IfOk, OnOk, length, map, nat_eq, true};
 ghost use Rattle.std.specs.List.{list_any, slice_get};
-ghost use Rattle.wc_gc.specs.Decoded.{func_code};
+ghost use Rattle.wc_read.specs.Decoded.{func_code};
 ghost use Rattle.wc_segments.specs.Elements.{element_value};
 ghost use Rattle.wc_segments.specs.Modes.{mode_value};
-ghost use Rattle.wc_paths.specs.Callers.{entry_by, table_of};
+ghost use Rattle.wc_graph.specs.Private.Places.{entry_by};
+ghost use Rattle.wc_paths.specs.Callers.{table_of};
 ghost use Rattle.wc_paths.specs.Private.CallLists.{ListsUnder};
 ghost use Rattle.wc_paths.specs.Private.Callers.{AreListed, HasListed, PutsIndices, def_calls, is_calling, list_at};
 

@@ -2,7 +2,7 @@
 
 ghost use Rattle.std.specs.Prelude.{◌≡◌, ◌<◌, ◌≤◌, ◌^◌, [], ◌∷◌, ◌++◌, IfOk, IfSome, OnOk, map, filter, true, None};
 ghost use Rattle.std.specs.List.{list_all};
-ghost use Rattle.wc_gc.specs.Decoded.{decoded_module};
+ghost use Rattle.wc_read.specs.Decoded.{decoded_module};
 ghost use Rattle.wc_segments.specs.Segments.{segments_value};
 ghost use Rattle.wc_paths.specs.Counts.{counts_value};
 ghost use Rattle.wc_paths.specs.Items.{counts_of, has_item};
@@ -26,7 +26,7 @@ pub struct Counts {
 }
 
 /// How many items a module has, its segments among them.
-#[tactic(auto, unfolding(wc_gc::specs::Decoded::decoded_module))]
+#[tactic(auto, unfolding(wc_read::specs::Decoded::decoded_module))]
 pub fn counts_of(module: &Module<'_>, segments: &Segments<'_>) -> Counts
     ensures { counts_value result ≡ counts_of
         (record { code = decoded_module «module».now; segments = segments_value segments.now }) }

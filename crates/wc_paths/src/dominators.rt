@@ -5,18 +5,18 @@ ghost use Rattle.wc_paths.specs.Counts.{counts_value};
 ghost use Rattle.wc_paths.specs.Dominators.{AreDominatorsIn, HasPathsFrom, is_marked};
 ghost use Rattle.wc_paths.specs.Graph.{graph_value};
 ghost use Rattle.wc_paths.specs.Numbers.{item_count, numbers_in};
-ghost use Rattle.wc_paths.specs.Tree.{ArePlaces};
-ghost use Rattle.wc_paths.specs.Private.Dominators.{AreMarkedIn, AreUnreached, IsAnyAnswer, IsNumberAnswer};
-ghost use Rattle.wc_paths.specs.Private.Ways.{IsChainTo, IsCut, IsWay};
+ghost use Rattle.wc_graph.specs.Tree.{ArePlaces};
+ghost use Rattle.wc_paths.specs.Private.Dominators.{AreMarkedIn, IsAnyAnswer, IsNumberAnswer};
+ghost use Rattle.wc_graph.specs.Private.Dominators.{AreUnreached};
+ghost use Rattle.wc_graph.specs.Private.Ways.{IsChainTo, IsCut, IsWay};
 
 use crate::counts::{Counts, has_item, number_of, numbers_of};
-use crate::fronts::find_dominators;
 use crate::graph::ModuleGraph;
 use crate::items::PathItem;
 use crate::paths::Paths;
-use crate::tree::positions_of;
 use std::alloc::{AllocError, Global};
 use std::marker::Model;
+use wc_graph::{find_dominators, positions_of, up_to_first};
 
 /// The dominators of some targets: the items of a module through which each path from a root to any target goes. Without
 /// one of them no path is left to any target.
@@ -173,20 +173,4 @@ fn chain_to(alloc: Global, paths: &Paths, number: usize) -> Result<Option<Vec<us
         Some(chain) => Ok(Some(chain)),
         None => paths.second.chain(alloc, number),
     }
-}
-
-/// How many items of a chain there are up to the first target; `places`: the positions of targets.
-pub(crate) fn up_to_first(places: &[Option<usize>], chain: &[usize]) -> usize
-    requires { All (λ x. x < length places.now) chain.now }
-    ensures { (targets : List ℕ) (size : ℕ) → ArePlaces targets size places.now
-        → IsCut targets chain.now result }
-{
-    for position in 0..chain.len() {
-        let item = chain[position];
-        match places[item] {
-            Some(_) => return position + 1,
-            None => {}
-        }
-    }
-    chain.len()
 }

@@ -1,8 +1,8 @@
 //! The graph of a module: its items in one row, its segments among them, and what each names.
 
 ghost use Rattle.std.specs.Prelude.{◌≡◌, ◌<◌, ◌≤◌, ◌^◌, ◌++◌, IfOk, IsErr, OnOk};
-ghost use Rattle.wc_gc.specs.Decoded.{decoded_module};
-ghost use Rattle.wc_gc.specs.Entries.{entry_at};
+ghost use Rattle.wc_read.specs.Decoded.{decoded_module};
+ghost use Rattle.wc_read.specs.Entries.{entry_at};
 ghost use Rattle.wc_segments.specs.Segments.{segments_value};
 ghost use Rattle.wc_paths.specs.Counts.{counts_value};
 ghost use Rattle.wc_paths.specs.Items.{counts_of, entry_items, is_closed_item, is_entry_code, is_item_code, items_of};
@@ -11,8 +11,8 @@ ghost use Rattle.wc_paths.specs.Numbers.{item_count};
 use crate::counts::{Counts, counts_of, item_at, item_count, put_numbers};
 use crate::items::{PathItem, put_type};
 use crate::names::{put_data, put_element, put_func, put_func_type, put_global};
-use crate::search::Graph;
 use std::alloc::{AllocError, Global};
+use wc_graph::Graph;
 use wc_read::{Module, Space};
 use wc_segments::Segments;
 

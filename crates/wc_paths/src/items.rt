@@ -4,7 +4,7 @@ ghost use Rattle.std.specs.Prelude.{◌≡◌, ◌∷◌, [], ◌++◌, OnOk};
 ghost use Rattle.std.specs.Option.{option_to_list};
 ghost use Rattle.wc_read.specs.Operators.{immediates_value, instr_values};
 ghost use Rattle.wc_read.specs.Bodies.{local_types};
-ghost use Rattle.wc_gc.specs.Entries.{refs_list, val_type_refs};
+ghost use Rattle.wc_read.specs.Entries.{refs_list, val_type_refs};
 ghost use Rattle.wc_paths.specs.Items.{code_items, index_items, operator_items, space_items};
 
 use std::alloc::AllocError;

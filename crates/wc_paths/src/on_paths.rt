@@ -6,8 +6,8 @@ ghost use Rattle.wc_paths.specs.Numbers.{item_count};
 
 use crate::counts::{Counts, has_item, number_of};
 use crate::items::PathItem;
-use crate::places::is_set;
 use std::alloc::{AllocError, Global};
+use wc_graph::is_set;
 use wc_read::Space;
 
 /// The items that are on the paths to some items, as [`Paths::on_paths`](crate::Paths::on_paths) finds them.

@@ -5,11 +5,11 @@ ghost use Rattle.wc_paths.specs.Counts.{counts_value};
 ghost use Rattle.wc_paths.specs.PathTree.{IsPathTree};
 ghost use Rattle.wc_paths.specs.Private.PathTree.{finders_in, found_in, is_past, item_in, position_in};
 
-use crate::chain_tree::tree_to;
 use crate::counts::{Counts, has_item, item_at, number_of};
 use crate::items::PathItem;
 use crate::paths::Paths;
 use std::alloc::{AllocError, Global};
+use wc_graph::tree_to;
 
 /// The paths to some items as a tree, as [`Paths::tree`] finds it. A path is had by going from its last item to the one before
 /// it, and so on.

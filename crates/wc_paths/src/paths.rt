@@ -7,14 +7,12 @@ ghost use Rattle.wc_paths.specs.Private.Paths.{IsFunction};
 ghost use Rattle.wc_paths.specs.declared.items.PathItem.TheVariants.{Item};
 ghost use Rattle.wc_read.specs.declared.operators.Space.TheVariants.{Funcs};
 
-use crate::chains::Chains;
 use crate::counts::{Counts, has_item, item_at, number_of, put_numbers};
 use crate::graph::ModuleGraph;
 use crate::items::PathItem;
 use crate::on_paths::OnPaths;
-use crate::places::either;
-use crate::search::SearchFault;
 use std::alloc::{AllocError, Global};
+use wc_graph::{Chains, SearchFault, either};
 use wc_read::{Module, Space};
 use wc_segments::Segments;
 

@@ -8,7 +8,7 @@ ghost use Rattle.wc_read.specs.Imports.{import_values};
 ghost use Rattle.wc_read.specs.Modules.{module_value};
 ghost use Rattle.wc_read.specs.declared.operators.Space.{Space};
 ghost use Rattle.wc_read.specs.declared.operators.Space.TheVariants.{Funcs};
-ghost use Rattle.wc_gc.specs.RestrictionLaws.{is_in_space};
+ghost use Rattle.wc_read.specs.ImportItems.{is_in_space};
 ghost use Rattle.wc_segments.specs.Data.{data_value};
 ghost use Rattle.wc_segments.specs.Elements.{element_value};
 ghost use Rattle.wc_segments.specs.Modes.{mode_value};

@@ -10,12 +10,12 @@ use Rattle.wc_world.specs.declared.fault.WorldFault.TheVariants.{Memory as world
 use Rattle.wc_plan.specs.Encoder.{ForWorlds, IsEncoderFault, IsFaultWith, of_world}
 use Rattle.wc_plan.specs.Fault.{HasNoFault, IsFaultNamed, IsFirstFault, UseFault, no_lowering, no_memory, no_realloc}
 use Rattle.wc_plan.specs.Laws.{IsSameWorld}
-use Rattle.wc_uses.specs.PlanViews.{plan_view}
+use Rattle.wc_plan.specs.PlanViews.{plan_view}
 use Rattle.wc_plan.specs.Plans.{plan_of}
 use Rattle.wc_plan.specs.Planner.{IsPlanFault}
 use Rattle.wc_plan.specs.declared.fault.PlanFault.{PlanFault}
 use Rattle.wc_plan.specs.declared.fault.PlanFault.TheVariants.{Memory, World}
-use Rattle.wc_uses.specs.declared.uses.Plan.{Plan}
+use Rattle.wc_plan.specs.declared.uses.Plan.{Plan}
 use Rattle.wc_plan.proofs.SameWorldLemmas.{first_fault_of_same, no_fault_of_same, plan_of_same}
 
 pub each_fault : {T : Type 0} (P Q : PlanFault → Type 0) → ((f : PlanFault) → P f → Q f) → (r : Result T PlanFault) → IfErr r P → IfErr r Q

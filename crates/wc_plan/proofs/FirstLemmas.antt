@@ -14,7 +14,7 @@ use Rattle.wc_resolve.specs.declared.functions.AbiVariant.TheVariants.{GuestImpo
 use Rattle.wc_world.specs.FunctionsLowered.{abi_eq}
 use Rattle.wc_plan.specs.Calls.{Wanted, call_eq, firsts, owner_eq}
 use Rattle.wc_plan.specs.Planner.{is_seen, left}
-use Rattle.wc_uses.specs.Views.{CallView, OwnerView, adapter_owner, main_owner}
+use Rattle.wc_plan.specs.Views.{CallView, OwnerView, adapter_owner, main_owner}
 
 -- what is equal by tests is equal
 

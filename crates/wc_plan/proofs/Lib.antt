@@ -4,7 +4,6 @@ pub mod FirstLemmas
 pub mod LoweredLemmas
 pub mod LoweringLemmas
 pub mod MemoryLemmas
-pub mod ModuleLemmas
 pub mod ProgressLemmas
 pub mod SameWorldLemmas
 pub mod UniqueWorldLemmas

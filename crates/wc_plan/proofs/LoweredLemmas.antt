@@ -12,15 +12,16 @@ use Rattle.wc_world.specs.FunctionsLowered.{IsLoweredIn}
 use Rattle.wc_world.specs.Options.{memory_flag, realloc_flag}
 use Rattle.wc_world.specs.Slots.{all_imports, imports_of}
 use Rattle.wc_world.specs.Views.{ComponentWorldView, ImportMapView, LoweringView, NamedWorldAdapter}
-use Rattle.wc_plan.specs.Calls.{IsNameable, Wanted, all_wanted, call_eq, call_of, firsts, wanted, wanted_by}
-use Rattle.wc_plan.specs.Fault.{AreNameable, IsFaultNamed, IsFirstFault, UseFault, lowered_fault, no_lowering, no_memory, no_realloc}
+use Rattle.wc_plan.specs.Calls.{Wanted, all_wanted, call_eq, call_of, firsts, wanted, wanted_by}
+use Rattle.wc_world.specs.Nameable.{IsNameable, AreNameable}
+use Rattle.wc_plan.specs.Fault.{IsFaultNamed, IsFirstFault, UseFault, lowered_fault, no_lowering, no_memory, no_realloc}
 use Rattle.wc_plan.specs.Encoder.{IsLowered}
 use Rattle.wc_plan.specs.Plans.{has_memory, import_realloc, lowering_of, needs}
 use Rattle.wc_plan.specs.Planner.{IsPlanFault}
-use Rattle.wc_uses.specs.Views.{CallView, OwnerView, adapter_owner, main_owner}
+use Rattle.wc_plan.specs.Views.{CallView, OwnerView, adapter_owner, main_owner}
 use Rattle.wc_plan.specs.declared.fault.PlanFault.{PlanFault}
 use Rattle.wc_plan.specs.declared.fault.PlanFault.TheVariants.{NoLowering}
-use Rattle.wc_plan.proofs.ModuleLemmas.{Single, of_adapters, of_main}
+use Rattle.wc_world.proofs.ModuleLemmas.{Single, of_adapters, of_main}
 use Rattle.wc_world.proofs.PairListLemmas.{all_back}
 
 lowered_nameable : (r : ResolveView) (m : ImportMapView) (i : ImportView) → IsLoweredIn r m i → IsNameable r i

@@ -8,7 +8,8 @@ use Rattle.std.specs.declared.alloc.Global.{Global}
 use Rattle.wc_resolve.specs.declared.functions.AbiVariant.{AbiVariant}
 use Rattle.wc_resolve.specs.declared.functions.AbiVariant.TheVariants.{GuestImport, GuestExport, GuestImportAsync, GuestExportAsync, GuestExportAsyncStackful}
 use Rattle.wc_resolve.specs.contracts.functions.AbiVariantPartialEq.TheImpl.{eq-value as same_abi}
-use Rattle.wc_resolve.proofs.LookupLemmas.{copied_viewed, lookup_viewed}
+use Rattle.wc_resolve.proofs.LookupLemmas.{copied_viewed}
+use Rattle.wc_maps.proofs.LookupLemmas.{lookup_viewed}
 use Rattle.wc_world.specs.FunctionsLowered.{abi_eq, is_lowering_key, lowering_at, lowering_in}
 use Rattle.wc_world.specs.Views.{LoweringKey}
 use Rattle.wc_world.specs.WorldViews.{imported_entry, imported_view, lowering_view}

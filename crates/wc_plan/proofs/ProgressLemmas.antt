@@ -18,10 +18,10 @@ use Rattle.wc_plan.specs.Calls.{Wanted, all_wanted, call_eq, call_of, owner_eq}
 use Rattle.wc_plan.specs.Fault.{HasNoFault, IsPlanRefusal, IsServable, RefusedPlan}
 use Rattle.wc_plan.specs.Plans.{is_lowered_indirect, plan_of, use_of, uses_from}
 use Rattle.wc_plan.specs.Planner.{Call, IsCallRefusal, Progress, is_seen, left, owner_in, seen_view, wanted_call, wanted_import}
-use Rattle.wc_uses.specs.PlanViews.{call_view, use_view}
-use Rattle.wc_uses.specs.Views.{CallView, UseView}
+use Rattle.wc_plan.specs.PlanViews.{call_view, use_view}
+use Rattle.wc_plan.specs.Views.{CallView, UseView}
 use Rattle.wc_plan.specs.declared.planner.Importer.{Importer}
-use Rattle.wc_uses.specs.declared.uses.Use.{Use}
+use Rattle.wc_plan.specs.declared.uses.Use.{Use}
 use Rattle.wc_plan.proofs.FirstLemmas.{left_all, left_new, left_seen}
 use Rattle.wc_plan.proofs.LoweringLemmas.{abi_same, interface_same}
 

@@ -6,7 +6,7 @@ use Rattle.wc_plan.specs.Calls.{Wanted, firsts, wanted, wanted_by}
 use Rattle.wc_plan.specs.Fault.{HasNoFault, IsFirstFault, IsServable}
 use Rattle.wc_plan.specs.Laws.{IsSameAdapter, IsSameWorld}
 use Rattle.wc_plan.specs.Plans.{plan_of, use_of, uses_from}
-use Rattle.wc_uses.specs.Views.{UseView, adapter_owner, main_owner}
+use Rattle.wc_plan.specs.Views.{UseView, adapter_owner, main_owner}
 use Rattle.wc_plan.specs.declared.fault.PlanFault.{PlanFault}
 
 pub flat_same : {B : Type 0} (f : NamedWorldAdapter → List B) → ((y z : NamedWorldAdapter) → IsSameAdapter y z → f y ≡ f z) → (ys zs : List NamedWorldAdapter)

@@ -1,11 +1,10 @@
 -- The functions that the modules of a component's world import.
 use Rattle.std.specs.Prelude.{ℕ, List, [], ◌∷◌, ◌++◌, Bool, true, false, not, ◌&&◌, Option, Some, None, filter}
 use Rattle.std.specs.List.{filter_map, flat_map}
-use Rattle.std.specs.Option.{IsSome, option_eq, option_map}
+use Rattle.std.specs.Option.{option_eq, option_map}
 use Rattle.std.specs.Str.{bytes_eq}
 use Rattle.semver.specs.Identifiers.{parts_text}
 use Rattle.wc_resolve.specs.Resolve.{key_text}
-use Rattle.wc_resolve.specs.Ranges.{IsKeyIn}
 use Rattle.wc_resolve.specs.Kinds.{ResolveView}
 use Rattle.wc_names.specs.Views.{ImportView, interface_func, world_func}
 use Rattle.wc_validate.specs.Exports.Map.{ExportRecord}
@@ -13,18 +12,13 @@ use Rattle.wc_validate.specs.Imports.Map.{imports_in}
 use Rattle.wc_validate.specs.Validate.{ModuleRecord}
 use Rattle.wc_world.specs.FunctionsLowered.{abi_eq}
 use Rattle.wc_world.specs.Views.{ComponentWorldView, NamedWorldAdapter}
-use Rattle.wc_uses.specs.Views.{CallView, OwnerView, adapter_owner, main_owner}
+use Rattle.wc_plan.specs.Views.{CallView, OwnerView, adapter_owner, main_owner}
 
 -- the function that an import of a module is, if it is one
 abbrev pub call_of : ResolveView → OwnerView → ImportView → Option CallView
 call_of r owner (world_func key name abi) = Some (record { owner = owner; interface = None; name = name; abi = abi })
 call_of r owner (interface_func key i name abi) = Some (record { owner = owner; interface = key_text parts_text r key; name = name; abi = abi })
 call_of r owner import = None
-
--- the interface of an import is there and has a name, if it is a function of one
-abbrev pub IsNameable : ResolveView → ImportView → Type 0
-IsNameable r (interface_func key i name abi) = IsKeyIn r key × IsSome (key_text parts_text r key)
-IsNameable r import = Unit {0}
 
 -- a function that a module imports, with the module's exports
 abbrev pub Wanted : Type 0

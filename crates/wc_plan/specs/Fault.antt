@@ -1,12 +1,11 @@
 -- Why a component's world has no plan; and the texts and the numbers of faults.
 use Rattle.std.specs.Prelude.{◌≡◌, ◌⊎◌, ℕ, List, ◌∷◌, ◌++◌, not, ◌&&◌, All, Option, Some, None, is_none, cond, codes, string_bytes}
 use Rattle.std.specs.Option.{option_map}
-use Rattle.wc_uses.specs.Views.{CallView, OwnerView, adapter_owner, main_owner}
+use Rattle.wc_plan.specs.Views.{CallView, OwnerView, adapter_owner, main_owner}
 use Rattle.wc_texts.specs.declared.refused.Refused.{Refused}
 use Rattle.wc_world.specs.Options.{memory_flag, realloc_flag}
-use Rattle.wc_world.specs.Slots.{all_imports, imports_of}
 use Rattle.wc_world.specs.Views.{ComponentWorldView, LoweringView}
-use Rattle.wc_plan.specs.Calls.{IsNameable, Wanted, wanted}
+use Rattle.wc_plan.specs.Calls.{Wanted, wanted}
 use Rattle.wc_plan.specs.Plans.{has_memory, import_realloc, lowering_of, needs}
 use Rattle.wc_plan.specs.declared.fault.PlanFault.{PlanFault}
 use Rattle.wc_plan.specs.declared.fault.PlanPlace.{PlanPlace}
@@ -81,10 +80,6 @@ IsMemoryRefusal x = (x.fault ≡ Memory) × (x.place ≡ None)
 -- a fault is that of the first function that has one, and about this function; or an allocation failed
 abbrev pub IsPlanRefusal : ComponentWorldView → RefusedPlan → Type 0
 IsPlanRefusal w x = IsMemoryRefusal x ⊎ ((first : IsFirstFault w x.fault) × (option_map place_view x.place ≡ Some first.at.0))
-
--- what is imported can be named
-abbrev pub AreNameable : ComponentWorldView → Type 0
-AreNameable w = All (IsNameable w.encoder.resolve) (imports_of (all_imports w.info w.adapters))
 
 -- the text of a fault
 abbrev pub plan_fault_text : PlanFault → List ℕ

@@ -5,7 +5,8 @@ use Rattle.wc_encoder.specs.EncoderParts.{EncoderView}
 use Rattle.wc_world.specs.Options.{OptionsOf}
 use Rattle.wc_world.specs.Views.{ComponentWorldView, NamedWorldAdapter}
 use Rattle.wc_world.specs.World.{IsWorldOf}
-use Rattle.wc_plan.specs.Fault.{AreNameable, HasNoFault, IsFirstFault}
+use Rattle.wc_plan.specs.Fault.{HasNoFault, IsFirstFault}
+use Rattle.wc_world.specs.Nameable.{AreNameable}
 use Rattle.wc_plan.specs.declared.fault.PlanFault.{PlanFault}
 
 -- in a world that is made of an encoder, what is imported can be named

@@ -5,3 +5,5 @@ pub mod Laws
 pub mod Lines
 pub mod Plans
 pub mod Planner
+pub mod Views
+pub mod PlanViews

@@ -3,7 +3,7 @@ use Rattle.std.specs.Prelude.{ℕ, List, ◌++◌, Option, Some, None, codes, de
 use Rattle.std.specs.List.{flat_map}
 use Rattle.wc_resolve.specs.declared.functions.AbiVariant.{AbiVariant}
 use Rattle.wc_resolve.specs.declared.functions.AbiVariant.TheVariants.{GuestImportAsync}
-use Rattle.wc_uses.specs.Views.{CallView, OwnerView, UseView, adapter_owner, main_owner}
+use Rattle.wc_plan.specs.Views.{CallView, OwnerView, UseView, adapter_owner, main_owner}
 
 abbrev pub owner_text : OwnerView → List ℕ
 owner_text main_owner = codes "main"

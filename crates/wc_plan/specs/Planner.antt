@@ -7,16 +7,13 @@ use Rattle.std.specs.declared.alloc.Global.{Global}
 use Rattle.wc_resolve.specs.declared.functions.AbiVariant.{AbiVariant}
 use Rattle.wc_resolve.specs.Kinds.{ResolveView}
 use Rattle.wc_names.specs.Views.{ImportView}
-use Rattle.wc_validate.specs.Imports.Map.{imports_in}
-use Rattle.wc_validate.specs.Validate.{ModuleRecord}
-use Rattle.wc_world.specs.Slots.{imports_of}
 use Rattle.wc_world.specs.Views.{ComponentWorldView, NamedWorldAdapter}
 use Rattle.wc_world.specs.WorldViews.{world_view}
-use Rattle.wc_plan.specs.Calls.{IsNameable, Wanted, call_eq, call_of, firsts, wanted, wanted_by}
+use Rattle.wc_plan.specs.Calls.{Wanted, call_eq, call_of, firsts, wanted, wanted_by}
 use Rattle.wc_plan.specs.Fault.{IsFaultNamed, IsFirstFault, IsMemoryRefusal, IsPlanRefusal, IsServable, RefusedPlan, UseFault, fault_of, owner_named, place_view}
 use Rattle.wc_plan.specs.Plans.{has_memory, uses_from}
-use Rattle.wc_uses.specs.PlanViews.{call_view, use_view}
-use Rattle.wc_uses.specs.Views.{CallView, OwnerView, UseView, adapter_owner}
+use Rattle.wc_plan.specs.PlanViews.{call_view, use_view}
+use Rattle.wc_plan.specs.Views.{CallView, OwnerView, UseView, adapter_owner}
 use Rattle.wc_plan.specs.declared.fault.PlanFault.{PlanFault}
 use Rattle.wc_plan.specs.declared.fault.PlanFault.TheVariants.{Memory}
 use Rattle.wc_plan.specs.declared.planner.Context.{Context}
@@ -44,10 +41,6 @@ wanted_call importer call = (call_view (owner_in importer.owner) call, importer.
 -- the function that an import is, if it is one
 abbrev pub wanted_import : ResolveView → Importer → ImportView → Option Wanted
 wanted_import r importer import = option_map (λ (c : CallView). (c, importer.exports.now)) (call_of r (owner_in importer.owner) import)
-
--- what the imports of a module name has names
-abbrev pub AreModuleNameable : ResolveView → ModuleRecord → Type 0
-AreModuleNameable r m = All (IsNameable r) (imports_of (imports_in m.imports))
 
 -- the functions that adapters import
 abbrev pub wanted_by_adapters : ComponentWorldView → List Wanted

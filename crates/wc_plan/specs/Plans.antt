@@ -9,7 +9,7 @@ use Rattle.wc_world.specs.FunctionsLowered.{lowering_at}
 use Rattle.wc_world.specs.Options.{realloc_flag}
 use Rattle.wc_world.specs.Views.{ComponentWorldView, LoweringView, direct, indirect, resource_drop}
 use Rattle.wc_plan.specs.Calls.{Wanted, wanted}
-use Rattle.wc_uses.specs.Views.{CallView, UseView}
+use Rattle.wc_plan.specs.Views.{CallView, UseView}
 
 -- the lowering of a function
 abbrev pub lowering_of : ComponentWorldView → CallView → Option LoweringView

@@ -3,9 +3,10 @@
 ghost use Rattle.std.specs.Prelude.{◌≡◌, IfOk};
 ghost use Rattle.std.specs.Option.{option_map};
 ghost use Rattle.wc_names.specs.Views.{import_view};
-ghost use Rattle.wc_plan.specs.Calls.{IsNameable, call_of};
-ghost use Rattle.wc_uses.specs.PlanViews.{call_view};
-ghost use Rattle.wc_uses.specs.Views.{OwnerView};
+ghost use Rattle.wc_plan.specs.Calls.{call_of};
+ghost use Rattle.wc_world.specs.Nameable.{IsNameable};
+ghost use Rattle.wc_plan.specs.PlanViews.{call_view};
+ghost use Rattle.wc_plan.specs.Views.{OwnerView};
 
 use std::alloc::{AllocError, Global};
 use wc_names::Import;

@@ -3,17 +3,17 @@
 ghost use Rattle.std.specs.Prelude.{◌≡◌, IfErr, IfOk};
 ghost use Rattle.wc_plan.specs.Encoder.{ForWorlds, IsEncoderFault, IsFaultWith, IsLowered};
 ghost use Rattle.wc_plan.specs.Fault.{HasNoFault};
-ghost use Rattle.wc_uses.specs.PlanViews.{plan_view};
+ghost use Rattle.wc_plan.specs.PlanViews.{plan_view};
 ghost use Rattle.wc_plan.specs.Plans.{plan_of};
 ghost use Rattle.wc_world.specs.Views.{ComponentWorldView};
 ghost use Rattle.wc_world.specs.World.{IsWorldOf};
 
+use crate::Plan;
 use crate::fault::PlanFault;
 use crate::laws::{worlds_nameable, worlds_unique};
 use crate::planner::plan;
 use std::alloc::Global;
 use wc_encoder::ComponentEncoder;
-use wc_uses::Plan;
 use wc_world::laws::{recorded_functions_lowered, worlds_exclude_faults};
 use wc_world::{ComponentWorld, ImportOptions};
 

@@ -11,9 +11,10 @@ pub mod laws;
 mod lines;
 mod lowerings;
 mod planner;
+mod uses;
 
 pub use encoder::plan_encoder;
 pub use fault::{PlanFault, PlanPlace};
 pub use lines::write_plan;
 pub use planner::{plan, plan_explained};
-pub use wc_uses::{Owner, Plan, Use};
+pub use uses::{Owner, Plan, Use};

@@ -5,13 +5,13 @@ ghost use Rattle.std.specs.Option.{option_map};
 ghost use Rattle.std.specs.Io.KnownBytes.{Appends};
 ghost use Rattle.wc_texts.specs.Puts.{Puts, PutsAny};
 ghost use Rattle.wc_plan.specs.Lines.{call_text, called_text, needs_text, owner_text, plan_text, slot_text, use_line};
-ghost use Rattle.wc_uses.specs.PlanViews.{owner_view, plan_view, use_view};
+ghost use Rattle.wc_plan.specs.PlanViews.{owner_view, plan_view, use_view};
 
 use crate::fault::PlanFault;
+use crate::{Owner, Plan, Use};
 use itoa::Buffer;
 use wc_resolve::AbiVariant;
 use wc_texts::{PutFailed, Sink};
-use wc_uses::{Owner, Plan, Use};
 
 /// Between the parts of a line.
 const SPACE: &[u8] = b" ";

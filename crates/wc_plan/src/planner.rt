@@ -7,21 +7,22 @@ ghost use Rattle.wc_names.specs.Views.{import_view};
 ghost use Rattle.wc_validate.specs.Validate.{module_record};
 ghost use Rattle.wc_world.specs.Options.{realloc_flag};
 ghost use Rattle.wc_world.specs.WorldViews.{lowering_view, world_view};
-ghost use Rattle.wc_plan.specs.Calls.{IsNameable, all_wanted, wanted_by};
+ghost use Rattle.wc_plan.specs.Calls.{all_wanted, wanted_by};
+ghost use Rattle.wc_world.specs.Nameable.{IsNameable, AreModuleNameable, AreNameable};
 ghost use Rattle.wc_plan.specs.Plans.{has_memory, import_realloc, needs, plan_of, use_of};
-ghost use Rattle.wc_uses.specs.PlanViews.{call_view, owner_view, plan_view, use_view};
-ghost use Rattle.wc_plan.specs.Fault.{AreNameable, HasNoFault, IsMemoryRefusal, IsPlanRefusal, IsServable, place_view};
-ghost use Rattle.wc_uses.specs.Views.{OwnerView};
-ghost use Rattle.wc_plan.specs.Planner.{AreModuleNameable, IsCallRefusal, IsContext, IsCounted, IsPlanFault, IsPlanned, Plans, RefusesPlan, owner_in, wanted_by_adapters, wanted_call, wanted_import, world_in};
+ghost use Rattle.wc_plan.specs.PlanViews.{call_view, owner_view, plan_view, use_view};
+ghost use Rattle.wc_plan.specs.Fault.{HasNoFault, IsMemoryRefusal, IsPlanRefusal, IsServable, place_view};
+ghost use Rattle.wc_plan.specs.Views.{OwnerView};
+ghost use Rattle.wc_plan.specs.Planner.{IsCallRefusal, IsContext, IsCounted, IsPlanFault, IsPlanned, Plans, RefusesPlan, owner_in, wanted_by_adapters, wanted_call, wanted_import, world_in};
 
 use crate::calls::{Call, call_of};
 use crate::fault::{PlanFault, PlanPlace};
 use crate::lowerings::{has_memory_option, has_realloc_option, is_indirect, lowering_of};
+use crate::{Owner, Plan, Use};
 use std::alloc::{AllocError, AllocFailed, Global};
 use wc_maps::Set;
 use wc_names::Import;
 use wc_texts::Refused;
-use wc_uses::{Owner, Plan, Use};
 use wc_validate::{ExportMap, ValidatedModule};
 use wc_world::{ComponentWorld, Lowering};
 

@@ -1,5 +1,5 @@
 //! The shell of a program of the command line: files, outputs, arguments and exit statuses. `wctrim_command` and
-//! `wcplan_command` stand on it.
+//! `wcplan` stand on it.
 //!
 //! A `Shell` has what a program needs: files (`FileStore`, `DirectoryStore`) and outputs (`Output`, `Screen`). `run` runs
 //! any `Program` in one, with its arguments or without. `print` is how a program ends by printing a text, and

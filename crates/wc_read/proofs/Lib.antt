@@ -29,6 +29,7 @@ pub mod NamesAtLemmas
 pub mod ProducersLemmas
 pub mod ProducersReadLemmas
 pub mod ModulesLemmas
+pub mod CausesLemmas
 pub mod PlaceLemmas
 pub mod DistinctNamesLemmas
 pub mod SignedLoopLemmas
@@ -50,3 +51,4 @@ pub mod LabelsLemmas
 pub mod PassKindsLemmas
 pub mod PassingLemmas
 pub mod LocalRunsLemmas
+pub mod EntryLemmas

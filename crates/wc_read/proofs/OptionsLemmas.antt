@@ -1,10 +1,8 @@
 -- Options, and one step after another.
 use Rattle.std.proofs.Common.{◌≡◌, Option, Some, None, refl, ap}
 use Rattle.wc_read.specs.Options.{◌>>=◌}
+pub use Rattle.wc_maps.proofs.OptionLemmas.{some_none}
 pub use Rattle.std.proofs.lemmas.Option.{same_Some as some_same, some_pair_parts as some_pair}
-
-pub some_none : {A : Type 0} {P : Type 0} (x : A) → ◌≡◌ {A = Option A} (Some x) None → P
-some_none x e = absurd cc
 
 -- a step whose front gives nothing, or something
 pub bind_none : {A B : Type 0} (o : Option A) (f : A → Option B) → o ≡ None → (o >>= f) ≡ None

@@ -57,3 +57,10 @@ func_values fs = map func_value fs
 
 abbrev pub global_values : List (Item GlobalType (Bor (List ℕ))) → List GlobalValue
 global_values gs = map global_value gs
+
+abbrev pub def_seen : {C D : Type 0} → (C → D) → DefValue C → DefValue D
+def_seen view (imported m n) = imported m n
+def_seen view (local x) = local (view x)
+
+abbrev pub item_seen : {T C D : Type 0} → (C → D) → ItemValue T C → ItemValue T D
+item_seen view i = record { ty = i.ty; def = def_seen view i.def }

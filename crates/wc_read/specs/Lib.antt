@@ -18,6 +18,7 @@ pub mod Globals
 pub mod InitTypes
 pub mod SectionContents
 pub mod Modules
+pub mod Causes
 pub mod Place
 pub mod Signed
 pub mod Operators
@@ -35,3 +36,6 @@ pub mod InitOperators
 pub mod Laws
 pub mod Reading
 pub mod Private
+pub mod Decoded
+pub mod Entries
+pub mod ImportItems

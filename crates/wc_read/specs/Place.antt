@@ -1,7 +1,9 @@
 -- Where the bytes of a module that is refused stop to be right, and the text of such a place.
-use Rattle.std.specs.Prelude.{◌≡◌, ◌≢◌, ℕ, ◌+◌, ◌≤◌, List, ◌++◌, length, Option, Some, None, IfSome, MatchOption, Result, Ok, Err, codes, decimal, ◌==◌, if◌then◌else◌}
+use Rattle.std.specs.Prelude.{◌≡◌, ◌≢◌, ℕ, ◌+◌, ◌≤◌, List, ◌∷◌, ◌++◌, length, All, Bool, true, false, ◌⊎◌, Option, Some, None, IfSome, MatchOption, Result, Ok, Err, codes, decimal, ◌==◌, if◌then◌else◌}
 use Rattle.wc_texts.specs.declared.refused.Refused.{Refused}
 use Rattle.wc_read.specs.Sections.{SectionValue, SpellsFrames, SpellsSection}
+use Rattle.wc_read.specs.SectionContents.{SectionContentsValue, HaveSectionContents}
+use Rattle.wc_read.specs.Causes.{is_cause}
 use Rattle.wc_read.specs.declared.fault.ReadFault.{ReadFault}
 use Rattle.wc_read.specs.declared.fault.ReadFault.TheVariants.{Memory}
 use Rattle.wc_read.specs.declared.place.ReadPlace.{ReadPlace}
@@ -30,9 +32,28 @@ pub record IsPlaceIn (bytes : List ℕ) (place : ReadPlace) : Type 0 where
   pub within : place.offset ≤ length bytes
   pub in_section : IfSome place.section (λ id. IsInSection bytes id place.offset)
 
--- a fault has a place in the bytes, but where an allocation failed
+-- a place is the start of the content of the first of the sections that passes a test
+pub record HasFirstCause (bytes : List ℕ) (sections : List SectionValue) (causes : ℕ → Bool) (place : ReadPlace) : Type 0 where
+  pub front : List SectionValue
+  pub section : SectionValue
+  pub back : List SectionValue
+  pub cut : sections ≡ front ++ (section ∷ back)
+  pub first : All (λ s. causes s.id ≡ false) front
+  pub causes_it : causes section.id ≡ true
+  pub named : place.section ≡ Some section.id
+  pub content : IsContentAt bytes section place.offset
+  pub after_front : content.before ≡ front
+
+-- where each item of the sections is right by itself, a fault has the place of the first section that it is about, if it
+-- is about one
+abbrev pub IsCausePlace : List ℕ → ReadFault → ReadPlace → Type 0
+IsCausePlace bytes fault place =
+    (sections : List SectionValue) (parts : SectionContentsValue) → SpellsFrames bytes sections → HaveSectionContents sections parts
+    → All (λ s. is_cause parts fault s.id ≡ false) sections ⊎ HasFirstCause bytes sections (is_cause parts fault) place
+
+-- a fault has a place in the bytes, that of what it is about, but where an allocation failed
 abbrev pub IsPlaced : List ℕ → ReadFault → Option ReadPlace → Type 0
-IsPlaced bytes fault place = MatchOption place (fault ≡ Memory) (λ p. (fault ≢ Memory) × IsPlaceIn bytes p)
+IsPlaced bytes fault place = MatchOption place (fault ≡ Memory) (λ p. (fault ≢ Memory) × IsPlaceIn bytes p × IsCausePlace bytes fault p)
 
 -- what is refused is refused with this fault
 abbrev pub IsRefusedWith : {X P : Type 0} → Result X (Refused ReadFault P) → ReadFault → Type 0

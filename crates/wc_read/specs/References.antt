@@ -11,6 +11,7 @@ use Rattle.wc_read.specs.declared.operators.IndexKind.TheVariants.{In, Elem, Dat
 use Rattle.wc_read.specs.declared.operators.Index.{Index}
 use Rattle.wc_read.specs.declared.operators.BlockType.TheVariants.{Empty, Value, FuncType}
 use Rattle.wc_read.specs.declared.operators.Refs.{Refs}
+use Rattle.wc_read.specs.declared.references.TypeRefs.{TypeRefs}
 
 abbrev pub in_space : IndexKind → ℕ → Option (Space × ℕ)
 in_space (In space) number = Some (space, number)
@@ -56,6 +57,10 @@ refs_of (WithLane lane) = one_ref None
 abbrev pub type_refs_of : ImmediatesValue → List ℕ
 type_refs_of (WithValTypes ts) = type_indices ts
 type_refs_of _ = []
+
+-- the types that an iterator over the types of a `select` has yet to yield
+abbrev pub type_refs_left : TypeRefs → List ℕ
+type_refs_left s = type_indices s.types.now
 
 -- whether an operator names a segment
 

@@ -4,6 +4,7 @@ ghost use Rattle.std.specs.Prelude.{◌≡◌, ◌⊎◌, ◌↔◌, ◌<◌, �
 ghost use Rattle.wc_read.specs.Fault.{IfRefused};
 ghost use Rattle.wc_read.specs.Reading.Reader.{Gives};
 ghost use Rattle.wc_read.specs.Types.{has_type_index};
+ghost use Rattle.wc_read.specs.Causes.{init_has_types, null_has_type};
 ghost use Rattle.wc_read.specs.Items.{global_value, global_values};
 ghost use Rattle.wc_read.specs.Operators.{immediates_value, instr_value};
 ghost use Rattle.wc_read.specs.InitOperators.{index_instr};
@@ -11,13 +12,13 @@ ghost use Rattle.wc_read.specs.InitTypes.{types_of, class_of, is_non_null, class
 ghost use Rattle.wc_read.specs.Reading.InitTypes.{scope_value, is_same, next_depth, step_of, step_at};
 
 use crate::fault::ReadFault;
-use crate::init_operators::{InitIndex, init_index};
+use crate::init_operators::{InitIndex, InitOperators, init_index};
 use crate::inits::{Constant, ValueClass, constant_of, is_end};
 use crate::items::{self, Def};
 use crate::operators::{Immediates, Instr, Opcode};
 use crate::reader::Reader;
 use crate::types::ValType;
-use std::alloc::Global;
+use std::alloc::{AllocError, Global};
 
 /// The items that an initialiser may name (WebAssembly core specification, 3.3.10).
 #[derive(Drop)]
@@ -76,32 +77,40 @@ pub fn init_fault(alloc: Global, types: usize, globals: &[items::Global<'_>]) ->
 {
     for global in globals {
         match global.def {
-            Def::Local(init) if names_missing_type(alloc, types, init) => {
-                return ReadFault::BadIndex;
-            }
-            _ => {}
+            Def::Local(init) => match init_has_types(alloc, types, init) {
+                Ok(false) => return ReadFault::BadIndex,
+                _ => {}
+            },
+            Def::Import(_, _) => {}
         }
     }
     ReadFault::BadInitialiser
 }
 
-/// Whether an initialiser has a null of a type whose index is not below `types`. There is a byte at least to each
-/// operator.
-fn names_missing_type(alloc: Global, types: usize, init: &[u8]) -> bool {
-    let mut reader = Reader::new(init);
-    for _ in 0..init.len() {
-        match reader.operator(alloc) {
-            Ok(
-                Instr {
-                    immediates: Immediates::RefType(ty),
-                    ..
-                },
-            ) if !has_type_index(types, ty) => return true,
-            Ok(_) => {}
-            Err(_) => return false,
+/// Whether each null of an initialiser is of a type with an index below `types`, or with none.
+pub fn init_has_types(alloc: Global, types: usize, init: &[u8]) -> Result<bool, AllocError>
+    ensures { IfOk result (λ b. b ≡ init_has_types types init.now) }
+{
+    let mut operators = InitOperators::new(init);
+    let mut all = true;
+    loop {
+        match operators.next(alloc) {
+            Ok(Some(operator)) => all = all && null_has_type(types, &operator.immediates),
+            Ok(None) => return Ok(all),
+            Err(ReadFault::Memory) => return Err(AllocError),
+            Err(_) => return Ok(true),
         }
     }
-    false
+}
+
+/// Whether the type that a null is of has no index, or one below `types`.
+fn null_has_type(types: usize, immediates: &Immediates<'_>) -> bool
+    ensures { result ≡ null_has_type types (immediates_value immediates.now) }
+{
+    match immediates {
+        Immediates::RefType(ty) => has_type_index(types, *ty),
+        _ => true,
+    }
 }
 
 fn is_typed(alloc: Global, scope: &Scope<'_>, global: &items::Global<'_>) -> Result<bool, ReadFault>

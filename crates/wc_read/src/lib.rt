@@ -31,12 +31,13 @@
 //! }
 //! ```
 //!
-//! This function is proved in `wc_example_rows`, as `examples::read::exports_memory`.
+//! This function is proved in `wc_tests`, as `examples::read::exports_memory`.
 #![tactic(auto)]
 
 mod blocks;
 mod bodies;
 mod body_operators;
+mod causes;
 pub mod codes;
 mod contents;
 mod core_module;
@@ -93,9 +94,9 @@ pub use operators::{
     BlockType, Form, Immediates, Index, IndexKind, Instr, MemArg, Opcode, Refs, Space, form_of,
 };
 pub use order::section_content;
-pub use place::{ReadPlace, imports_place, read_module_explained};
+pub use place::{ReadPlace, imports_place, module_place, read_module_explained};
 pub use reader::{Reader, Spelled};
-pub use references::{names_segment, refs};
+pub use references::{TypeRefs, names_segment, refs, type_refs};
 pub use section_contents::section_items;
 pub use sections::{Frames, MODULE_HEADER, Section};
 pub use types::{

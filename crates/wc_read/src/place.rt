@@ -1,12 +1,15 @@
 //! The place where the bytes of a refused module stop to be right.
 
-ghost use Rattle.std.specs.Prelude.{◌≡◌, ◌≢◌, ◌≤◌, ◌++◌, ◌↔◌, length, None, IfOk, IfErr};
+ghost use Rattle.std.specs.Prelude.{◌≡◌, ◌≢◌, ◌≤◌, ◌+◌, ◌-◌, ◌++◌, ◌↔◌, length, Some, None, IfOk, IfErr, IfSome};
 ghost use Rattle.wc_read.specs.Fault.{SpellsNothing};
 ghost use Rattle.wc_read.specs.Modules.{SpellsModule, module_value};
-ghost use Rattle.wc_read.specs.Place.{IsPlaced, IsPlaceIn, IsRefusedWith, section_name};
-ghost use Rattle.wc_read.specs.Private.Places.{IsLastRead};
+ghost use Rattle.wc_read.specs.Causes.{is_cause};
+ghost use Rattle.wc_read.specs.Reading.Contents.{section_contents_value};
+ghost use Rattle.wc_read.specs.Place.{IsPlaced, IsPlaceIn, IsCausePlace, IsRefusedWith, section_name};
+ghost use Rattle.wc_read.specs.Private.Places.{IsLastRead, IsFirstCause, HasCausePlace};
 ghost use Rattle.wc_read.specs.Sections.{IsComponent, module_header, section_value};
 
+use crate::causes::is_cause;
 use crate::codes::{
     CODE_ID, CUSTOM_ID, DATA_COUNT_ID, DATA_ID, ELEMENT_ID, EXPORT_ID, FUNCTION_ID, GLOBAL_ID,
     IMPORT_ID, MEMORY_ID, START_ID, TABLE_ID, TYPE_ID,
@@ -16,8 +19,9 @@ use crate::fault::ReadFault;
 use crate::modules::read_module;
 use crate::order::next_position;
 use crate::reader::Reader;
+use crate::section_contents::SectionContents;
 use crate::sections::{MODULE_HEADER, Section};
-use crate::stops::{Sought, invalid_section, passed, stop, stop_in};
+use crate::stops::{Sought, contents_of, passed, stop, stop_in};
 use std::alloc::{AllocError, Global};
 use std::fmt;
 use wc_texts::Refused;
@@ -122,16 +126,69 @@ fn refused(alloc: Global, bytes: &[u8], fault: ReadFault) -> Refused<ReadFault, 
     }
 }
 
-/// Where the bytes of a module stop to be right, which is refused with this fault.
-fn module_place(alloc: Global, bytes: &[u8], fault: ReadFault) -> Result<ReadPlace, AllocError>
-    ensures { IfOk result (IsPlaceIn bytes.now) }
+/// Where the bytes of a module stop to be right, which `read_module` refuses with this fault. It is within the bytes.
+///
+/// # Errors
+///
+/// `AllocError`: an allocation failed.
+pub fn module_place(alloc: Global, bytes: &[u8], fault: ReadFault) -> Result<ReadPlace, AllocError>
+    ensures place { IfOk result (IsPlaceIn bytes.now) }
+    ensures cause { IfOk result (IsCausePlace bytes.now fault) }
 {
-    let whole = Sought {
-        fault,
-        invalid: invalid_section(alloc, bytes, fault)?,
-        imports_alone: false,
+    match whole_place(alloc, bytes, fault)? {
+        Some(place) => Ok(place),
+        None => {
+            let sought = Sought {
+                fault,
+                imports_alone: false,
+            };
+            place_of(alloc, bytes, sought)
+        }
+    }
+}
+
+/// The place of the first section that a fault is about, where each item of the module is right by itself; `None` where
+/// none is, or an item is not.
+fn whole_place(
+    alloc: Global,
+    bytes: &[u8],
+    fault: ReadFault,
+) -> Result<Option<ReadPlace>, AllocError>
+    ensures place { IfOk result (λ place. IfSome place (IsPlaceIn bytes.now)) }
+    ensures cause { IfOk result (λ place. HasCausePlace bytes.now fault place) }
+{
+    let Some(contents) = contents_of(alloc, bytes)? else {
+        return Ok(None);
     };
-    place_of(alloc, bytes, whole)
+    let Some(rest) = bytes.strip_prefix(MODULE_HEADER) else {
+        return Ok(None);
+    };
+    cause_place(alloc, bytes, rest, &contents, fault)
+}
+
+/// The place of the first section that a fault is about.
+fn cause_place(
+    alloc: Global,
+    bytes: &[u8],
+    rest: &[u8],
+    contents: &SectionContents<'_>,
+    fault: ReadFault,
+) -> Result<Option<ReadPlace>, AllocError>
+    requires { bytes.now ≡ module_header ++ rest.now }
+    ensures place { IfOk result (λ place. IfSome place (IsPlaceIn bytes.now)) }
+    ensures first { IfOk result (λ place. IsFirstCause
+        bytes.now (is_cause (section_contents_value contents.now) fault) place) }
+{
+    let mut reader = Reader::new(rest);
+    while !reader.rest.is_empty() {
+        let Ok(section) = reader.section() else {
+            return Ok(None);
+        };
+        if is_cause(alloc, contents, fault, section.id)? {
+            return Ok(Some(inside(bytes, reader.rest, &section, 0)));
+        }
+    }
+    Ok(None)
 }
 
 /// Where bytes stop to be right of which the cut into sections, and the contents of import sections, are read, with
@@ -143,12 +200,11 @@ fn module_place(alloc: Global, bytes: &[u8], fault: ReadFault) -> Result<ReadPla
 pub fn imports_place(alloc: Global, bytes: &[u8], fault: ReadFault) -> Result<ReadPlace, AllocError>
     ensures { IfOk result (IsPlaceIn bytes.now) }
 {
-    let sought = Sought {
+    let imports = Sought {
         fault,
-        invalid: None,
         imports_alone: true,
     };
-    place_of(alloc, bytes, sought)
+    place_of(alloc, bytes, imports)
 }
 
 /// The place of an id or a size.
@@ -166,7 +222,10 @@ fn outside(offset: usize) -> ReadPlace
 fn inside(bytes: &[u8], rest: &[u8], section: &Section, stop: usize) -> ReadPlace
     requires read { IsLastRead bytes.now rest.now (section_value section.now) }
     requires bounded { stop ≤ length section.now.content.now }
-    ensures { IsPlaceIn bytes.now result }
+    ensures place { IsPlaceIn bytes.now result }
+    ensures exact { result.offset
+        ≡ length bytes.now - length rest.now - length section.now.content.now + stop }
+    ensures named { result.section ≡ Some section.now.id }
 {
     let begin = passed(bytes, rest) - section.content.len();
     ReadPlace {

@@ -2,7 +2,8 @@
 
 ghost use Rattle.std.specs.Prelude.{◌≡◌};
 ghost use Rattle.wc_read.specs.Operators.{immediates_value};
-ghost use Rattle.wc_read.specs.References.{reference, two_refs, refs_of, is_segment, names_segment, type_reference};
+ghost use Rattle.wc_read.specs.References.{reference, two_refs, refs_of, is_segment, names_segment, type_reference, type_refs_of, type_refs_left};
+ghost use Rattle.wc_read.specs.Types.{type_indices};
 
 use crate::operators::{BlockType, Immediates, Index, IndexKind, Instr, Refs, Space};
 use crate::types::ValType;
@@ -62,6 +63,53 @@ fn type_reference(ty: ValType) -> Option<(Space, u32)>
     match ty {
         ValType::TypeRef { index, .. } => Some((Space::Types, index)),
         _ => None,
+    }
+}
+
+/// An iterator over the indices of types in value types, in their order. It takes no memory.
+#[derive(Drop)]
+pub struct TypeRefs<'a> {
+    types: &'a [ValType],
+}
+
+impl<'a> TypeRefs<'a> {
+    /// The indices in these value types.
+    fn of(types: &'a [ValType]) -> TypeRefs<'a>
+        ensures { type_refs_left result ≡ type_indices types.now }
+    {
+        TypeRefs { types }
+    }
+}
+
+impl<'a> Iterator for TypeRefs<'a> {
+    type Item = u32;
+
+    ghost use Rattle.std.specs.Iterator.{YieldsFirst, item_count};
+    ghost use Rattle.wc_read.specs.References.{type_refs_left};
+
+    ghost next_gives = { YieldsFirst type_refs_left };
+
+    ghost remaining = { item_count type_refs_left };
+
+    fn next(&mut self) -> Option<u32> {
+        loop {
+            let (first, others) = self.types.split_first()?;
+            self.types = others;
+            if let ValType::TypeRef { index, .. } = *first {
+                return Some(index);
+            }
+        }
+    }
+}
+
+/// The types named by the value types of a `select` (5.4.3), in order. `refs` gives none of these; of any other operator
+/// this gives none.
+pub fn type_refs<'a>(instr: &'a Instr<'_>) -> TypeRefs<'a>
+    ensures { type_refs_left result ≡ type_refs_of (immediates_value instr.now.immediates) }
+{
+    match &instr.immediates {
+        Immediates::ValTypes(types) => TypeRefs::of(types),
+        _ => TypeRefs::of(&[]),
     }
 }
 

@@ -1,22 +1,20 @@
 //! The place where the reading of a section of a refused module stops, in its content.
 
-ghost use Rattle.std.specs.Prelude.{◌≡◌, ◌≤◌, ◌-◌, length, IfOk, IfSome};
+ghost use Rattle.std.specs.Prelude.{◌≡◌, ◌≢◌, ◌≤◌, ◌-◌, length, None, IfOk, IfSome};
+ghost use Rattle.wc_read.specs.Private.Places.{AreContentsOf};
 
 use crate::codes::{
     CODE_ID, CUSTOM_ID, EXPORT_ID, FUNCTION_ID, GLOBAL_ID, IMPORT_ID, MEMORY_ID, START_ID,
     TABLE_ID, TYPE_ID,
 };
-use crate::core_module::Module;
 use crate::exports::Export;
 use crate::fault::ReadFault;
 use crate::framing::frames;
 use crate::globals::LocalGlobal;
-use crate::modules::assemble;
 use crate::reader::{Reader, Spelled};
-use crate::section_contents::read_section_contents;
+use crate::section_contents::{SectionContents, read_section_contents};
 use crate::sections::Section;
 use crate::types::{FuncType, Import, MemoryType, TableType};
-use crate::validity::section_outside;
 use std::alloc::{AllocError, Global};
 
 /// The fault whose place is looked for in a module that is refused.
@@ -24,8 +22,6 @@ use std::alloc::{AllocError, Global};
 pub struct Sought {
     /// The fault that reading returned.
     pub fault: ReadFault,
-    /// The id of the section at fault, where each item is right by itself.
-    pub invalid: Option<u8>,
     /// Whether of the contents only those of import sections were read, and the order of sections was not.
     pub imports_alone: bool,
 }
@@ -80,11 +76,7 @@ pub fn stop_in(
     {
         return Ok(Some(stop(content, rest, fault)));
     }
-    if sought.invalid == Some(section.id) {
-        Ok(Some(0))
-    } else {
-        Ok(None)
-    }
+    Ok(None)
 }
 
 /// The fault of the content of a section, read by itself, and what is left there.
@@ -151,31 +143,30 @@ fn fault_at(fault: ReadFault, rest: &[u8]) -> Result<Option<(ReadFault, &[u8])>,
     }
 }
 
-/// The id of the section that makes a module invalid in which each item is right by itself. The items of a space pass
-/// 2^32 by those that are imported.
-pub fn invalid_section(
+/// The contents of the sections of a module, where bytes spell sections and all their items are right by themselves.
+pub fn contents_of<'a>(
     alloc: Global,
-    bytes: &[u8],
-    fault: ReadFault,
-) -> Result<Option<u8>, AllocError> {
-    match fault {
-        ReadFault::CountMismatch => Ok(Some(CODE_ID)),
-        ReadFault::TooLarge => Ok(Some(IMPORT_ID)),
-        ReadFault::DuplicateExport => Ok(Some(EXPORT_ID)),
-        ReadFault::BadInitialiser => Ok(Some(GLOBAL_ID)),
-        ReadFault::BadStart => Ok(Some(START_ID)),
-        ReadFault::BadIndex => match unchecked_module(alloc, bytes) {
-            Ok(module) => Ok(Some(section_outside(&module))),
-            Err(ReadFault::Memory) => Err(AllocError),
-            Err(_) => Ok(None),
-        },
-        _ => Ok(None),
+    bytes: &'a [u8],
+) -> Result<Option<SectionContents<'a>>, AllocError>
+    ensures { IfOk result (AreContentsOf bytes.now) }
+{
+    let frames = match frames(alloc, bytes) {
+        Ok(frames) => frames,
+        Err(fault) => return unread(fault),
+    };
+    match read_section_contents(alloc, &frames.sections) {
+        Ok(contents) => Ok(Some(contents)),
+        Err(fault) => unread(fault),
     }
 }
 
-/// The module that sections make, valid or not.
-fn unchecked_module(alloc: Global, bytes: &[u8]) -> Result<Module<'_>, ReadFault> {
-    let frames = frames(alloc, bytes)?;
-    let parts = read_section_contents(alloc, &frames.sections)?;
-    assemble(alloc, &frames.sections, parts)
+/// That there are no contents, unless memory ran out.
+fn unread<'a>(fault: ReadFault) -> Result<Option<SectionContents<'a>>, AllocError>
+    ensures { IfOk result (λ found. (found ≡ None) × (fault ≢ ReadFault.Memory)) }
+{
+    if fault == ReadFault::Memory {
+        Err(AllocError)
+    } else {
+        Ok(None)
+    }
 }

@@ -8,14 +8,13 @@ ghost use Rattle.wc_read.specs.Reading.Validity.{name_types};
 ghost use Rattle.wc_read.specs.Reading.Types.{have_type_indices, is_nullary};
 ghost use Rattle.wc_read.specs.Modules.{module_value, count_of, HaveTypes, IsStart, IsModule, CountsFitU32};
 
-use crate::codes::{EXPORT_ID, FUNCTION_ID, GLOBAL_ID, IMPORT_ID, START_ID, TABLE_ID, TYPE_ID};
 use crate::core_module::Module;
 use crate::distinct::have_distinct_names;
 use crate::exports::{Export, ExportKind};
 use crate::fault::ReadFault;
 use crate::init_types::{are_typed, has_type_index, init_fault};
 use crate::items::{self, Func, Table};
-use crate::types::{FuncType, ImportType, ValType};
+use crate::types::{FuncType, ValType};
 use std::alloc::Global;
 
 /// Whether all indices name an item, names of exports are distinct, initialisers leave one value of their globals'
@@ -55,45 +54,6 @@ pub fn check_module(alloc: Global, module: &Module) -> Result<(), ReadFault>
     Ok(())
 }
 
-/// The id of the first section, in the order of the file, that names an index out of range; of the start section where
-/// no other does.
-pub fn section_outside(module: &Module) -> u8 {
-    let types = module.types.len();
-    if !types_name_types(&module.types, types) {
-        return TYPE_ID;
-    }
-    if module
-        .imports
-        .iter()
-        .any(|import| is_outside(types, import.ty))
-    {
-        return IMPORT_ID;
-    }
-    if !have_types(&module.funcs, &module.types) {
-        return FUNCTION_ID;
-    }
-    if !tables_name_types(&module.tables, types) {
-        return TABLE_ID;
-    }
-    if !globals_name_types(&module.globals, types) {
-        return GLOBAL_ID;
-    }
-    if !name_items(&module.exports, module) {
-        return EXPORT_ID;
-    }
-    START_ID
-}
-
-/// Whether the type of an import names a type that is not there.
-fn is_outside(types: usize, ty: ImportType) -> bool {
-    match ty {
-        ImportType::Func(index) => index as usize >= types,
-        ImportType::Table(table) => !has_type_index(types, table.element_type),
-        ImportType::Memory(_) => false,
-        ImportType::Global(global) => !has_type_index(types, global.content_type),
-    }
-}
-
 /// Whether no space has 2^32 items.
 fn counts_fit_u32(module: &Module) -> bool
     ensures { IsTrue result ↔ CountsFitU32 (module_value «module».now) }
@@ -122,7 +82,8 @@ fn name_types(module: &Module) -> bool
         && globals_name_types(&module.globals, types)
 }
 
-fn types_name_types(types: &[FuncType], count: usize) -> bool
+/// Whether all indices of types in function types are below `count`.
+pub fn types_name_types(types: &[FuncType], count: usize) -> bool
     ensures { result ≡ list_all (λ t. have_type_indices count (func_type_value t)) types.now }
 {
     types.iter().all(|ty| have_type_indices(count, ty))

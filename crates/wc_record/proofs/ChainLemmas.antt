@@ -3,7 +3,7 @@ use Rattle.std.proofs.Common.{◌≡◌, ℕ, List, [], ◌∷◌, map, Option, 
 use Rattle.std.specs.Borrow.{Bor}
 use Rattle.std.specs.Option.{option_map}
 use Rattle.json.specs.Json.{Json, string}
-use Rattle.wc_json.specs.Shapes.{array_of, nullable_json}
+use Rattle.wc_texts.specs.Shapes.{array_of, nullable_json}
 use Rattle.wc_record.specs.Chains.{name_json}
 use Rattle.wc_record.proofs.ShapeLemmas.{nullable_same}
 

@@ -8,7 +8,7 @@ use Rattle.wc_adapters.specs.Adapters.{WhichView, main_module, adapter_of, Libra
 use Rattle.wc_json.specs.Fault.{Reading}
 use Rattle.wc_json.specs.FromJson.{list}
 use Rattle.wc_json.specs.Libraries.{argument, export_kind, instance, library, library_item, which}
-use Rattle.wc_json.specs.Shapes.{array_of, object_of}
+use Rattle.wc_texts.specs.Shapes.{array_of, object_of}
 use Rattle.wc_json.proofs.TypeRoundTripLemmas.{items_from-items_json}
 use Rattle.wc_json.proofs.WritableLemmas.{AreDistinct_counted, AreWritable-cons, AreWritable-nil, IsWritable, IsWritable-le, IsWritable-list_json, IsWritable-object, IsWritable-string}
 use Rattle.wc_read.specs.Exports.{export_kind_name}

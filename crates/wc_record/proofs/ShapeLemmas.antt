@@ -6,7 +6,7 @@ use Rattle.std.proofs.lemmas.List.{drop_more, map-id}
 use Rattle.json.specs.Json.{Json}
 use Rattle.json.specs.Token.{Token, begin_array, end_array, begin_object, end_object, key}
 use Rattle.json.specs.Tree.{json_tokens, items_tokens, members_tokens}
-use Rattle.wc_json.specs.Shapes.{Field, array_of, items_of, members_of, nullable_json, object_of}
+use Rattle.wc_texts.specs.Shapes.{Field, array_of, items_of, members_of, nullable_json, object_of}
 use Rattle.wc_record.specs.Objects.{Puts, PutsField, PutsFields, PutsJson, fields_tokens}
 use Rattle.json.specs.Written.{Written}
 

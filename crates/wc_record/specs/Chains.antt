@@ -2,9 +2,9 @@
 use Rattle.std.specs.Prelude.{ℕ, List, [], ◌∷◌, map, codes}
 use Rattle.std.specs.Borrow.{Bor}
 use Rattle.json.specs.Json.{Json, string}
-use Rattle.wc_gc.specs.Decoded.{ItemIndex}
+use Rattle.wc_read.specs.Decoded.{ItemIndex}
 use Rattle.wc_gc.specs.declared.import_chains.ImportChains.{ImportChains}
-use Rattle.wc_json.specs.Shapes.{array_of, nullable_json, number_json, object_of}
+use Rattle.wc_texts.specs.Shapes.{array_of, nullable_json, number_json, object_of}
 use Rattle.wc_read.specs.declared.operators.Space.{Space}
 use Rattle.wc_read.specs.declared.operators.Space.TheVariants.{Types, Funcs, Tables, Memories, Globals}
 

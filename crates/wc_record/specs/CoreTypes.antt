@@ -9,7 +9,7 @@ use Rattle.wc_read.specs.declared.types.MemoryType.{MemoryType}
 use Rattle.wc_read.specs.declared.types.TableType.{TableType}
 use Rattle.wc_read.specs.declared.types.ValType.{ValType}
 use Rattle.wc_read.specs.declared.types.ValType.TheVariants.{I32, I64, F32, F64, V128, FuncRef, ExternRef, FuncRefNonNull, ExternRefNonNull, TypeRef}
-use Rattle.wc_json.specs.Shapes.{array_of, nullable_json, number_json, object_of}
+use Rattle.wc_texts.specs.Shapes.{array_of, nullable_json, number_json, object_of}
 
 -- a value type: its name, or a reference to functions of a type, by its index
 abbrev pub val_type_json : ValType → Json

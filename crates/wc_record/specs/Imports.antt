@@ -12,7 +12,7 @@ use Rattle.wc_resolve.specs.Views.{KeyView}
 use Rattle.wc_resolve.specs.declared.functions.AbiVariant.{AbiVariant}
 use Rattle.wc_record.specs.CoreTypes.{export_kind_json, func_type_json, memory_type_json, val_type_json}
 use Rattle.wc_record.specs.Libraries.{library_item_json}
-use Rattle.wc_json.specs.Shapes.{Field, nullable_json, number_json, object_of}
+use Rattle.wc_texts.specs.Shapes.{Field, nullable_json, number_json, object_of}
 use Rattle.wc_record.specs.Objects.{object_of_kind, plain_kind}
 use Rattle.wc_record.specs.Wit.{abi_json, encoding_json, key_json}
 

@@ -3,7 +3,7 @@ use Rattle.std.specs.Prelude.{ℕ, List, [], ◌∷◌, map, codes}
 use Rattle.json.specs.Json.{Json, boolean, string}
 use Rattle.wc_adapters.specs.Adapters.{WhichView, main_module, adapter_of, LibraryItemView, InstanceView, module_instance, item_instance, LibraryView}
 use Rattle.wc_record.specs.CoreTypes.{export_kind_json}
-use Rattle.wc_json.specs.Shapes.{array_of, object_of}
+use Rattle.wc_texts.specs.Shapes.{array_of, object_of}
 use Rattle.wc_record.specs.Objects.{object_of_kind}
 
 -- the main module, or the adapter of a name

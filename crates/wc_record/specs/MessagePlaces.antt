@@ -7,7 +7,7 @@ use Rattle.wc_gc.specs.declared.fault.GcFault.TheVariants.{MissingExport}
 use Rattle.wc_plan.specs.declared.fault.PlanPlace.{PlanPlace}
 use Rattle.wc_resolve.specs.declared.explain.Part.{Part}
 use Rattle.wc_resolve.specs.declared.explain.Part.TheVariants as part
-use Rattle.wc_json.specs.Shapes.{array_of, nullable_json, number_json}
+use Rattle.wc_texts.specs.Shapes.{array_of, nullable_json, number_json}
 use Rattle.wc_json.specs.declared.places.JsonPlace.{JsonPlace}
 use Rattle.wc_json.specs.declared.places.JsonPlace.TheVariants.{Byte, Path}
 use Rattle.wc_record.specs.Imports.{name_field}

@@ -8,7 +8,7 @@ use Rattle.wc_validate.specs.Validate.{ModuleRecord}
 use Rattle.wc_record.specs.Exports.{export_json}
 use Rattle.wc_record.specs.Imports.{import_json}
 use Rattle.wc_record.specs.Libraries.{which_json}
-use Rattle.wc_json.specs.Shapes.{array_of, object_of}
+use Rattle.wc_texts.specs.Shapes.{array_of, object_of}
 use Rattle.wc_record.specs.Objects.{object_of_kind}
 
 -- an import, and an export, under its name

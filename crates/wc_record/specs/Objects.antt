@@ -4,7 +4,7 @@ use Rattle.json.specs.Json.{Json}
 use Rattle.json.specs.Token.{Token, key}
 use Rattle.json.specs.Tree.{json_tokens}
 use Rattle.json.specs.Written.{Written}
-use Rattle.wc_json.specs.Shapes.{Field, object_of}
+use Rattle.wc_texts.specs.Shapes.{Field, object_of}
 
 -- an object of a kind: its first member says which kind it is
 abbrev pub object_of_kind : List ℕ → List Field → Json

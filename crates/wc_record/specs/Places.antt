@@ -11,7 +11,7 @@ use Rattle.wc_world.specs.declared.places.ModulePlace.TheVariants as place
 use Rattle.wc_world.specs.declared.places.WorldPlace.{WorldPlace}
 use Rattle.wc_record.specs.CoreTypes.{func_type_json}
 use Rattle.wc_record.specs.Imports.{name_field}
-use Rattle.wc_json.specs.Shapes.{Field, nullable_json, number_json, object_of}
+use Rattle.wc_texts.specs.Shapes.{Field, nullable_json, number_json, object_of}
 use Rattle.wc_record.specs.Objects.{object_of_kind}
 
 -- members: the name of the adapter or the library that a place is in, null for the main module; the name of a module; the

@@ -1,8 +1,8 @@
 -- A plan as JSON.
 use Rattle.std.specs.Prelude.{List, [], ◌∷◌, map, codes}
 use Rattle.json.specs.Json.{Json, string}
-use Rattle.wc_uses.specs.Views.{OwnerView, UseView, adapter_owner, main_owner}
-use Rattle.wc_json.specs.Shapes.{array_of, nullable_json, number_json, object_of}
+use Rattle.wc_plan.specs.Views.{OwnerView, UseView, adapter_owner, main_owner}
+use Rattle.wc_texts.specs.Shapes.{array_of, nullable_json, number_json, object_of}
 use Rattle.wc_record.specs.Objects.{object_of_kind}
 use Rattle.wc_record.specs.Wit.{abi_json}
 

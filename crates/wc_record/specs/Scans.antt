@@ -3,7 +3,7 @@ use Rattle.std.specs.Prelude.{ℕ, List, [], ◌∷◌, map, Option, Some, codes
 use Rattle.std.specs.List.{slice_get}
 use Rattle.std.specs.Option.{option_and_then, option_map}
 use Rattle.json.specs.Json.{Json, string}
-use Rattle.wc_json.specs.Shapes.{array_of, nullable_json, number_json, object_of}
+use Rattle.wc_texts.specs.Shapes.{array_of, nullable_json, number_json, object_of}
 use Rattle.wc_read.specs.Exports.{ExportValue}
 use Rattle.wc_read.specs.Imports.{ImportValue}
 use Rattle.wc_read.specs.Modules.{ModuleValue}

@@ -3,7 +3,7 @@ use Rattle.std.specs.Prelude.{ℕ, List}
 use Rattle.json.specs.Json.{Json}
 use Rattle.json.specs.Print.{print}
 use Rattle.json.specs.Tree.{json_tokens}
-use Rattle.wc_uses.specs.Views.{UseView}
+use Rattle.wc_plan.specs.Views.{UseView}
 use Rattle.wc_validate.specs.Validate.{ModuleRecord}
 use Rattle.wc_world.specs.Views.{ComponentWorldView}
 use Rattle.wc_record.specs.Modules.{module_json}

@@ -9,7 +9,7 @@ use Rattle.wc_resolve.specs.declared.flat.WasmType.{WasmType}
 use Rattle.wc_resolve.specs.declared.flat.WasmType.TheVariants.{I32, I64, F32, F64, Pointer, PointerOrI64, Length}
 use Rattle.wc_resolve.specs.declared.functions.AbiVariant.{AbiVariant}
 use Rattle.wc_resolve.specs.declared.functions.AbiVariant.TheVariants.{GuestImport, GuestExport, GuestImportAsync, GuestExportAsync, GuestExportAsyncStackful}
-use Rattle.wc_json.specs.Shapes.{array_of, number_json, object_of}
+use Rattle.wc_texts.specs.Shapes.{array_of, number_json, object_of}
 
 -- a plain name, or an interface
 abbrev pub key_json : KeyView → Json

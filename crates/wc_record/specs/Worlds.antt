@@ -7,13 +7,13 @@ use Rattle.wc_dedupe.specs.Dedupe.{renames_in}
 use Rattle.wc_dedupe.specs.Renaming.{RenameView}
 use Rattle.wc_encoder.specs.Distinct.{exported_interfaces}
 use Rattle.wc_encoder.specs.EncoderParts.{world_exports}
-use Rattle.wc_uses.specs.Views.{UseView}
+use Rattle.wc_plan.specs.Views.{UseView}
 use Rattle.wc_world.specs.Used.{UsedView}
 use Rattle.wc_world.specs.Views.{ComponentWorldView, ImportedView, LoweringKey, LoweringView, NamedWorldAdapter, direct, indirect, resource_drop}
 use Rattle.wc_record.specs.Libraries.{library_json}
 use Rattle.wc_record.specs.Modules.{module_json}
 use Rattle.wc_record.specs.Plans.{plan_json}
-use Rattle.wc_json.specs.Shapes.{Field, array_of, nullable_json, number_json, object_of}
+use Rattle.wc_texts.specs.Shapes.{Field, array_of, nullable_json, number_json, object_of}
 use Rattle.wc_record.specs.Objects.{object_of_kind}
 use Rattle.wc_record.specs.Wit.{abi_json, signature_json}
 

@@ -45,7 +45,7 @@ fn put_item(out: &mut Writer, space: Space, index: u32) -> Result<(), AllocError
 }
 
 impl ToJson for (Space, u32) {
-    ghost use Rattle.wc_gc.specs.Decoded.{ItemIndex};
+    ghost use Rattle.wc_read.specs.Decoded.{ItemIndex};
     ghost use Rattle.wc_record.specs.Chains.{item_json};
 
     ghost View = { ItemIndex };

@@ -33,7 +33,7 @@ pub(crate) trait EntryToJson<K> {
 /// The entries in order.
 impl<K: Eq + Hash, V: EntryToJson<K>, S: BuildHasher> ToJson for IndexMap<K, V, S> {
     ghost use Rattle.std.specs.Prelude.{List, map};
-    ghost use Rattle.wc_json.specs.Shapes.{array_of};
+    ghost use Rattle.wc_texts.specs.Shapes.{array_of};
 
     ghost View = { List V.EntryView };
 

@@ -77,7 +77,7 @@ impl ToJson for ImportMap {
     ghost use Rattle.std.specs.Prelude.{map};
     ghost use Rattle.wc_validate.specs.Imports.Entries.{Records};
     ghost use Rattle.wc_record.specs.Modules.{instance_entry_json};
-    ghost use Rattle.wc_json.specs.Shapes.{array_of};
+    ghost use Rattle.wc_texts.specs.Shapes.{array_of};
 
     ghost View = { Records };
 
@@ -115,7 +115,7 @@ impl ToJson for ExportMap {
     ghost use Rattle.std.specs.Prelude.{map};
     ghost use Rattle.wc_validate.specs.Exports.Map.{ExportRecord};
     ghost use Rattle.wc_record.specs.Modules.{export_entry_json};
-    ghost use Rattle.wc_json.specs.Shapes.{array_of};
+    ghost use Rattle.wc_texts.specs.Shapes.{array_of};
 
     ghost View = { ExportRecord };
 

@@ -3,7 +3,7 @@
 ghost use Rattle.std.specs.Prelude.{OnOk, ◌∷◌, [], codes, map};
 ghost use Rattle.json.specs.Json.{string};
 ghost use Rattle.json.specs.Token.{begin_object, end_object};
-ghost use Rattle.wc_json.specs.Shapes.{array_of};
+ghost use Rattle.wc_texts.specs.Shapes.{array_of};
 ghost use Rattle.wc_record.specs.Objects.{Puts, PutsField, PutsJson, object_of_kind, plain_kind};
 
 use crate::to_json::{ToJson, put_list};

@@ -2,18 +2,18 @@
 
 ghost use Rattle.std.specs.Prelude.{◌≡◌, IfOk};
 ghost use Rattle.std.specs.Str.{IsUtf8};
-ghost use Rattle.wc_uses.specs.PlanViews.{plan_view};
+ghost use Rattle.wc_plan.specs.PlanViews.{plan_view};
 ghost use Rattle.wc_record.specs.Texts.{plan_text};
 
 use crate::objects::{begin_object, end_object, put_kind_with, put_member, put_plain_kind};
 use crate::to_json::ToJson;
 use json::Writer;
 use std::alloc::{AllocError, Global};
-use wc_uses::{Owner, Plan, Use};
+use wc_plan::{Owner, Plan, Use};
 
 impl ToJson for Owner {
-    ghost use Rattle.wc_uses.specs.PlanViews.{owner_view};
-    ghost use Rattle.wc_uses.specs.Views.{OwnerView};
+    ghost use Rattle.wc_plan.specs.PlanViews.{owner_view};
+    ghost use Rattle.wc_plan.specs.Views.{OwnerView};
     ghost use Rattle.wc_record.specs.Plans.{owner_json};
 
     ghost View = { OwnerView };
@@ -31,8 +31,8 @@ impl ToJson for Owner {
 }
 
 impl ToJson for Use {
-    ghost use Rattle.wc_uses.specs.PlanViews.{use_view};
-    ghost use Rattle.wc_uses.specs.Views.{UseView};
+    ghost use Rattle.wc_plan.specs.PlanViews.{use_view};
+    ghost use Rattle.wc_plan.specs.Views.{UseView};
     ghost use Rattle.wc_record.specs.Plans.{use_json};
 
     ghost View = { UseView };

@@ -4,7 +4,7 @@
 ghost use Rattle.std.specs.Prelude.{OnOk, [], map, ◌∷◌};
 ghost use Rattle.json.specs.Json.{Json};
 ghost use Rattle.json.specs.Token.{begin_array, end_array};
-ghost use Rattle.wc_json.specs.Shapes.{array_of};
+ghost use Rattle.wc_texts.specs.Shapes.{array_of};
 ghost use Rattle.wc_record.specs.Objects.{Puts, PutsJson};
 
 use json::Writer;
@@ -47,7 +47,7 @@ impl ToJson for bool {
 
 impl ToJson for u8 {
     ghost use Rattle.std.specs.Prelude.{ℕ};
-    ghost use Rattle.wc_json.specs.Shapes.{number_json};
+    ghost use Rattle.wc_texts.specs.Shapes.{number_json};
 
     ghost View = { ℕ };
 
@@ -62,7 +62,7 @@ impl ToJson for u8 {
 
 impl ToJson for u32 {
     ghost use Rattle.std.specs.Prelude.{ℕ};
-    ghost use Rattle.wc_json.specs.Shapes.{number_json};
+    ghost use Rattle.wc_texts.specs.Shapes.{number_json};
 
     ghost View = { ℕ };
 
@@ -77,7 +77,7 @@ impl ToJson for u32 {
 
 impl ToJson for u64 {
     ghost use Rattle.std.specs.Prelude.{ℕ};
-    ghost use Rattle.wc_json.specs.Shapes.{number_json};
+    ghost use Rattle.wc_texts.specs.Shapes.{number_json};
 
     ghost View = { ℕ };
 
@@ -92,7 +92,7 @@ impl ToJson for u64 {
 
 impl ToJson for usize {
     ghost use Rattle.std.specs.Prelude.{ℕ};
-    ghost use Rattle.wc_json.specs.Shapes.{number_json};
+    ghost use Rattle.wc_texts.specs.Shapes.{number_json};
 
     ghost View = { ℕ };
 
@@ -139,7 +139,7 @@ impl ToJson for String {
 impl<T: ToJson> ToJson for Option<T> {
     ghost use Rattle.std.specs.Prelude.{Option};
     ghost use Rattle.std.specs.Option.{option_map};
-    ghost use Rattle.wc_json.specs.Shapes.{nullable_json};
+    ghost use Rattle.wc_texts.specs.Shapes.{nullable_json};
 
     ghost View = { Option T.View };
 
@@ -197,7 +197,7 @@ pub(crate) fn put_list<T: ToJson>(out: &mut Writer, items: &[T]) -> Result<(), A
 /// The values in order.
 impl<T: ToJson> ToJson for Vec<T> {
     ghost use Rattle.std.specs.Prelude.{List, map};
-    ghost use Rattle.wc_json.specs.Shapes.{array_of};
+    ghost use Rattle.wc_texts.specs.Shapes.{array_of};
 
     ghost View = { List T.View };
 

@@ -1,7 +1,7 @@
 //! Ids, keys of worlds, ways to call functions, and core signatures.
 
 ghost use Rattle.std.specs.Prelude.{◌≡◌, OnOk, ◌∷◌, []};
-ghost use Rattle.wc_json.specs.Shapes.{object_of};
+ghost use Rattle.wc_texts.specs.Shapes.{object_of};
 ghost use Rattle.wc_record.specs.Objects.{PutsJson};
 ghost use Rattle.wc_record.specs.Wit.{abi_text, encoding_text, wasm_type_text};
 
@@ -14,7 +14,7 @@ use wc_resolve::{AbiVariant, InterfaceId, TypeId, WasmSignature, WasmType, World
 
 impl ToJson for InterfaceId {
     ghost use Rattle.std.specs.Prelude.{ℕ};
-    ghost use Rattle.wc_json.specs.Shapes.{number_json};
+    ghost use Rattle.wc_texts.specs.Shapes.{number_json};
 
     ghost View = { ℕ };
 
@@ -29,7 +29,7 @@ impl ToJson for InterfaceId {
 
 impl ToJson for TypeId {
     ghost use Rattle.std.specs.Prelude.{ℕ};
-    ghost use Rattle.wc_json.specs.Shapes.{number_json};
+    ghost use Rattle.wc_texts.specs.Shapes.{number_json};
 
     ghost View = { ℕ };
 

@@ -4,7 +4,7 @@ ghost use Rattle.std.specs.Prelude.{◌≡◌, IfOk, OnOk, codes, map};
 ghost use Rattle.std.specs.Option.{option_copied};
 ghost use Rattle.std.specs.Str.{IsUtf8};
 ghost use Rattle.wc_dedupe.specs.Dedupe.{renames_in};
-ghost use Rattle.wc_json.specs.Shapes.{array_of};
+ghost use Rattle.wc_texts.specs.Shapes.{array_of};
 ghost use Rattle.wc_record.specs.Objects.{PutsField};
 ghost use Rattle.wc_record.specs.Texts.{planned_world_text, world_text};
 ghost use Rattle.wc_record.specs.Worlds.{rename_json};
@@ -13,7 +13,7 @@ ghost use Rattle.wc_world.specs.Views.{indirect};
 ghost use Rattle.wc_world.specs.WorldViews.{world_view};
 ghost use Rattle.wc_record.specs.Worlds.{lowering_json, planned_world_json, world_json, world_members};
 ghost use Rattle.wc_record.specs.Objects.{PutsFields, PutsJson};
-ghost use Rattle.wc_uses.specs.PlanViews.{plan_view};
+ghost use Rattle.wc_plan.specs.PlanViews.{plan_view};
 
 use crate::maps::EntryToJson;
 use crate::objects::{
@@ -26,8 +26,8 @@ use json::Writer;
 use std::alloc::{AllocError, Global};
 use wc_dedupe::{ModuleImportMap, Rename, RenameList};
 use wc_maps::Set;
+use wc_plan::Plan;
 use wc_resolve::{AbiVariant, InterfaceId, TypeId, WasmSignature};
-use wc_uses::Plan;
 use wc_world::{ComponentWorld, ImportedInterface, Lowering, RequiredOptions, WorldAdapter};
 
 impl<'a> ToJson for Rename<'a> {
@@ -53,7 +53,7 @@ impl<'a> ToJson for Rename<'a> {
 impl ToJson for RenameList {
     ghost use Rattle.std.specs.Prelude.{List, map};
     ghost use Rattle.wc_dedupe.specs.Renaming.{RenameView};
-    ghost use Rattle.wc_json.specs.Shapes.{array_of};
+    ghost use Rattle.wc_texts.specs.Shapes.{array_of};
     ghost use Rattle.wc_record.specs.Worlds.{rename_json};
 
     ghost View = { List RenameView };
@@ -106,7 +106,7 @@ impl<'a, 'b> EntryToJson<&'a str> for WorldAdapter<'b> {
 
 impl ToJson for RequiredOptions {
     ghost use Rattle.std.specs.Prelude.{ℕ};
-    ghost use Rattle.wc_json.specs.Shapes.{number_json};
+    ghost use Rattle.wc_texts.specs.Shapes.{number_json};
 
     ghost View = { ℕ };
 

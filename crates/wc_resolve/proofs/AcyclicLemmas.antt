@@ -12,7 +12,7 @@ use Rattle.wc_resolve.specs.declared.types.WitType.TheVariants.{Id}
 use Rattle.wc_resolve.specs.Views.{TypeView}
 use Rattle.wc_resolve.specs.Kinds.{ResolveView, HasCycle, Leads, refers, further, IsChildrenFirst, children, referenced_indices, referenced_types, type_index}
 use Rattle.wc_resolve.specs.Ranges.{AreIdsInRange, IsTypeDefIn, IsTypeIn}
-use Rattle.wc_resolve.proofs.SearchLemmas.{contains_cons, contains_none}
+use Rattle.wc_maps.proofs.ListLemmas.{contains_cons, contains_none}
 use Rattle.wc_resolve.proofs.ResourcesByValueLemmas.{kind_none}
 
 -- an element among the first i is at an index before i

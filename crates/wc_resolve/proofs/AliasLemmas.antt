@@ -11,7 +11,7 @@ use Rattle.wc_resolve.specs.Kinds.{ResolveView, kind_at, referenced_indices}
 use Rattle.wc_resolve.specs.Ranges.{AreIdsInRange, AreNamesIn}
 use Rattle.wc_resolve.specs.Dependencies.{alias_target, dependency}
 use Rattle.wc_resolve.proofs.AcyclicLemmas.{children_within, ids_of_types}
-use Rattle.wc_resolve.proofs.SearchLemmas.{contains_none, contains_head, contains_tail, contains_cons}
+use Rattle.wc_maps.proofs.ListLemmas.{contains_none, contains_head, contains_tail, contains_cons}
 use Rattle.wc_resolve.proofs.PushedLemmas.{IsPushed, push_end}
 
 target_referenced : (o : Option KindView) (t : ℕ) → option_and_then alias_target o ≡ Some t → Contains (option_map_or referenced_indices o []) t

@@ -6,7 +6,7 @@ use Rattle.wc_resolve.specs.declared.walk.TypeStep.{TypeStep}
 use Rattle.wc_resolve.specs.Views.{TypeView}
 use Rattle.wc_resolve.specs.Live.{Keeps, list_union, listing_from, with_live}
 use Rattle.wc_resolve.proofs.ListUnionLemmas.{with_there, with_cases}
-use Rattle.wc_resolve.proofs.SearchLemmas.{contains_none}
+use Rattle.wc_maps.proofs.ListLemmas.{contains_none}
 use Rattle.wc_resolve.proofs.WalkLemmas.{IsLiveWalk}
 
 -- the walk over known types and the live ones after them

@@ -8,7 +8,7 @@ use Rattle.std.proofs.lemmas.Slice.Eq.{bytes_eq-Decides}
 use Rattle.semver.specs.declared.Version.{Version}
 use Rattle.semver.specs.Identifiers.{parts_of}
 use Rattle.wc_resolve.specs.declared.packages.PackageName.{PackageName}
-use Rattle.wc_resolve.specs.Characters.{at_sign, colon, slash}
+use Rattle.wc_texts.specs.Characters.{at_sign, colon, slash}
 use Rattle.wc_resolve.specs.Names.{IsLeftAfter, full_version, release_track, track}
 use Rattle.wc_resolve.specs.Resolve.{VersionView, joined_id, member_text, versioned}
 use Rattle.wc_resolve.specs.Views.{PackageNameView, package_name_view}

@@ -6,17 +6,18 @@ use Rattle.std.specs.Option.{option_map_or}
 use Rattle.std.specs.declared.alloc.Global.{Global}
 use Rattle.std.proofs.lemmas.Bool.{cases_lt}
 use Rattle.std.proofs.lemmas.List.{length-replicate, get_or_past}
+use Rattle.wc_maps.proofs.ListLemmas.{any_viewed, contains_head, contains_tail}
 use Rattle.wc_resolve.specs.declared.types.WitType.{WitType}
 use Rattle.wc_resolve.specs.declared.types.WitType.TheVariants.{Id}
 use Rattle.wc_resolve.specs.Contents.{AreTextFlags, has_text, is_list, text_flag, text_of, text_rule}
 use Rattle.wc_resolve.specs.Futures.{carried_types}
 use Rattle.wc_resolve.specs.Validate.{IsOrder}
 use Rattle.wc_resolve.specs.TypeRules.{Follows, repeated, value_by_rule}
-use Rattle.wc_resolve.specs.Views.{KindView, TypeView, named_view}
+use Rattle.wc_resolve.specs.Views.{KindView, TypeView}
+use Rattle.wc_texts.specs.Names.{named_view}
 use Rattle.wc_resolve.specs.Kinds.{children, kind_at, referenced_indices, type_index}
 use Rattle.wc_resolve.proofs.FuturesEntryLemmas.{carried_referenced}
 use Rattle.wc_resolve.proofs.ResourcesByValueLemmas.{kind_none}
-use Rattle.wc_resolve.proofs.SearchLemmas.{contains_head, contains_tail}
 use Rattle.wc_resolve.proofs.TableEntryLemmas.{AreEntries, table_start, table_step, table_end}
 use Rattle.wc_resolve.proofs.TypeRuleLemmas.{LooksDown, value_by_rule_follows}
 
@@ -60,11 +61,6 @@ texts_step lists types order flags i x b o small x_at bound made m =
 
 pub texts_end : (lists : Bool) (types : List TypeView) (order : List ℕ) (flags : List Bool) (i : ℕ) → IsOrder types order → length order ≤ i → TextFlagsOf lists types flags (take i order) → AreTextFlags lists types flags
 texts_end lists types order flags i o past m = record { same_length = m.same_length; each = λ x h. table_end (IsTextFlag lists types) false flags order i past m.each x (o.all x h) }
-
--- tests of what is seen of elements
-pub any_viewed : {X Y : Type 0} (f : X → Y) (test : Y → Bool) (xs : List X) → list_any test (map f xs) ≡ list_any (λ x. test (f x)) xs
-any_viewed f test [] = refl
-any_viewed f test (x ∷ xs) = ap (λ b. test (f x) || b) (any_viewed f test xs)
 
 one_optional : (test : WitType → Bool) (o : Option WitType) (ts : List WitType) → list_any test (cons_option o ts) ≡ (option_map_or test o false || list_any test ts)
 one_optional test None ts = refl

@@ -19,7 +19,8 @@ use Rattle.wc_resolve.specs.declared.types.WitType.TheVariants.{Id}
 use Rattle.wc_resolve.specs.Flat.{AreFlattened, flat_entry, flat_of, flat_payload, flat_types_kept, flatten_types}
 use Rattle.wc_resolve.specs.Ranges.{IsFunctionIn, IsTypeIn}
 use Rattle.wc_resolve.specs.Signature.{SignatureView, flatten_functype, core_of, has_indirect_result, max_flat_params_of, passed_types, result_pointer, returned_types, is_exported_method, first_as_pointer}
-use Rattle.wc_resolve.specs.Views.{FunctionView, TypeView, function_view, named_view}
+use Rattle.wc_resolve.specs.Views.{FunctionView, TypeView, function_view}
+use Rattle.wc_texts.specs.Names.{named_view}
 use Rattle.wc_resolve.specs.Kinds.{SignatureHasOnly}
 use Rattle.wc_resolve.proofs.FrontAgreementLemmas.{AgreeAtFront, agree_cut}
 use Rattle.wc_resolve.proofs.FlatteningAgreementLemmas.{AgreeAtFrontOfType, agree_types, agree_payload}

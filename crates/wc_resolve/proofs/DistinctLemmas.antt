@@ -13,7 +13,7 @@ use Rattle.wc_resolve.specs.Explain.{IsRepeatAt}
 use Rattle.wc_resolve.specs.WellFormed.{HaveDistinctNames}
 use Rattle.wc_resolve.proofs.PackageNameLemmas.{names_law}
 use Rattle.wc_resolve.specs.Views.{PackageNameView, PackageView, package_name_view, package_view}
-use Rattle.wc_resolve.proofs.SearchLemmas.{contains_cons, contains_head, contains_none, contains_tail}
+use Rattle.wc_maps.proofs.ListLemmas.{contains_cons, contains_head, contains_none, contains_tail}
 
 -- no two of the names are equal
 abbrev pub AreDistinct : List PackageNameView → Type 0

@@ -11,7 +11,7 @@ use Rattle.wc_resolve.specs.Explain.{DoesWorldFollow, DoesInterfaceFollow, DoesT
 use Rattle.wc_resolve.specs.Ranges.{AreIdsInRange}
 use Rattle.wc_resolve.specs.WellFormed.{AreNamed, KeysMatch, AreNamesSpelled, HasNoResourceByValue, HasNoEmptyType}
 use Rattle.wc_resolve.specs.Kinds.{ResolveView, DoAllTypesPass}
-use Rattle.wc_resolve.proofs.ViewedLemmas.{view_found}
+use Rattle.wc_maps.proofs.ListLemmas.{view_found}
 
 -- a loop that has found an item that is not so
 pub breach_found : {X Y : Type 0} (f : X → Y) (P : Y → Type 0) (xs : List X) (i : ℕ) (x : X) (b : Bool) → i < length xs → x ≡ get_or xs i x

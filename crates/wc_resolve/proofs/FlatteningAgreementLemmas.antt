@@ -12,7 +12,7 @@ use Rattle.wc_resolve.specs.Views.{KindView, record_kind, tuple_kind, variant_ki
 use Rattle.wc_resolve.specs.Kinds.{children, kind_at, referenced_indices, type_index}
 use Rattle.wc_resolve.proofs.FrontAgreementLemmas.{AgreeAtFront, agree_cons, agree_flat_map, agree_same}
 use Rattle.wc_resolve.proofs.TypeRuleLemmas.{LooksDown}
-use Rattle.wc_resolve.proofs.SearchLemmas.{contains_none, contains_head, contains_cons}
+use Rattle.wc_maps.proofs.ListLemmas.{contains_none, contains_head, contains_cons}
 
 -- tables that agree at each index of the list
 abbrev pub AgreeAtFrontAt : ℕ → (ℕ → List WasmType) → (ℕ → List WasmType) → List ℕ → Type 0

@@ -3,7 +3,7 @@ use Rattle.std.proofs.Common.{◌≡◌, ℕ, zero, suc, ◌+◌, ◌≤◌, Lis
 use Rattle.std.specs.List.{Contains, flat_map}
 use Rattle.std.proofs.lemmas.List.{take-take, take_all}
 use Rattle.std.proofs.lemmas.List.Elements.{Contains-append_right}
-use Rattle.wc_resolve.proofs.SearchLemmas.{contains_head}
+use Rattle.wc_maps.proofs.ListLemmas.{contains_head}
 
 abbrev pub AgreeAtFront : {X : Type 0} → ℕ → List X → List X → Type 0
 AgreeAtFront n xs ys = take n xs ≡ take n ys

@@ -12,7 +12,7 @@ use Rattle.wc_resolve.specs.Views.{TypeView}
 use Rattle.wc_resolve.specs.Roots.{id_index}
 use Rattle.wc_resolve.specs.Live.{listing_of}
 use Rattle.wc_resolve.specs.Futures.{EntryView, IsFuturesEntry, futures_of, itself}
-use Rattle.wc_resolve.proofs.SearchLemmas.{contains_none}
+use Rattle.wc_maps.proofs.ListLemmas.{contains_none}
 use Rattle.wc_resolve.proofs.ListingLemmas.{step_index, walk_length, walk_length_append, walk_length_reverse}
 use Rattle.wc_resolve.proofs.WalkLemmas.{contains_reverse, ids_within}
 

@@ -13,12 +13,13 @@ use Rattle.wc_resolve.specs.declared.functions.Function.{Function}
 use Rattle.wc_resolve.specs.declared.ids.TypeId.{TypeId}
 use Rattle.wc_resolve.specs.declared.types.WitType.{WitType}
 use Rattle.wc_resolve.specs.Ranges.{IsFunctionIn, IsTypeIn}
-use Rattle.wc_resolve.specs.Views.{FunctionView, TypeView, function_view, named_view}
+use Rattle.wc_resolve.specs.Views.{FunctionView, TypeView, function_view}
+use Rattle.wc_texts.specs.Names.{named_view}
 use Rattle.wc_resolve.specs.Kinds.{SignatureHasOnly}
 use Rattle.wc_resolve.specs.Roots.{indices, param_roots, passed_roots, type_roots}
 use Rattle.wc_resolve.specs.Live.{listing_of}
 use Rattle.wc_resolve.specs.Futures.{EntryView, IsFuturesEntry, IsPartWith, ends_of, futures_from, futures_of, itself}
-use Rattle.wc_resolve.proofs.SearchLemmas.{contains_none, contains_cons, contains_head, contains_tail}
+use Rattle.wc_maps.proofs.ListLemmas.{contains_none, contains_cons, contains_head, contains_tail}
 use Rattle.wc_resolve.proofs.ViewedLemmas.{all_unviewed}
 
 -- so much of a list was passed over that an index in all of it is this one in the rest

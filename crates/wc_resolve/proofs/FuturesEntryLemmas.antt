@@ -20,12 +20,11 @@ use Rattle.wc_resolve.specs.Live.{listing_from, listing_of, listing_rule}
 use Rattle.wc_resolve.specs.Futures.{AreFuturesEntries, EntryView, IsEntryFor, IsFuturesEntry, carried_indices, count_of, ends_from, ends_of, entry_at, entry_view, futures_from}
 use Rattle.wc_resolve.specs.Futures.{futures_of, futures_rule, is_carrier, itself, max_count, no_futures, only_part, part_for}
 use Rattle.wc_resolve.proofs.KeyLemmas.{nat_from}
-use Rattle.wc_resolve.proofs.SearchLemmas.{contains_none, contains_head, contains_tail, contains_cons}
+use Rattle.wc_maps.proofs.ListLemmas.{contains_none, contains_head, contains_tail, contains_cons, view_found}
 use Rattle.wc_resolve.proofs.ListUnionLemmas.{joined_same}
 use Rattle.wc_resolve.proofs.ListingLemmas.{listing_looks_down}
 use Rattle.wc_resolve.proofs.TableEntryLemmas.{AreEntries, table_start, table_step, table_end}
 use Rattle.wc_resolve.proofs.TypeRuleLemmas.{LooksDown, value_by_rule_follows}
-use Rattle.wc_resolve.proofs.ViewedLemmas.{view_found}
 use Rattle.wc_resolve.proofs.WalkLemmas.{one_listed}
 
 -- what a type contains by value, and an alias's target, is referred to

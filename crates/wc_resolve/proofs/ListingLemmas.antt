@@ -14,7 +14,7 @@ use Rattle.wc_resolve.specs.TypeRules.{Follows, repeated, value_by_rule}
 use Rattle.wc_resolve.specs.Roots.{id_index, type_id}
 use Rattle.wc_resolve.specs.Live.{listing_rule, listing_of, with_live, list_union, IsComplete, Keeps}
 use Rattle.wc_resolve.proofs.TypeRuleLemmas.{LooksDown}
-use Rattle.wc_resolve.proofs.SearchLemmas.{contains_none}
+use Rattle.wc_maps.proofs.ListLemmas.{contains_none}
 use Rattle.wc_resolve.proofs.ListUnionLemmas.{contains_joined, joined_from, joined_same, with_keeps, with_from, with_extends, keeps_same, keeps_more, list_union_append, list_union_there, list_union_has, list_union_extends}
 
 pub ids_indices : (ts : List WitType) → map id_index (filter_map type_id ts) ≡ filter_map type_index ts

@@ -1,16 +1,15 @@
 -- Look-ups by keys and names, and look-ups among the views of what is there.
-use Rattle.std.proofs.Common.{◌≡◌, ◌↔◌, ℕ, String, Bool, true, false, cond, List, [], ◌∷◌, map, Option, Some, None, is_some, Contains, refl, sym, ◌∙◌, subst, inl, inr, string_bytes}
+use Rattle.std.proofs.Common.{◌≡◌, ◌↔◌, Bool, true, false, cond, List, [], ◌∷◌, map, Option, Some, None, is_some, Contains, refl, sym, ◌∙◌, subst, inl, inr}
 use Rattle.std.specs.Borrow.{Bor}
 use Rattle.std.specs.Map.{lookup}
 use Rattle.std.specs.Option.{option_copied, option_map}
-use Rattle.std.specs.Str.{bytes_eq}
-use Rattle.std.specs.declared.alloc.Global.{Global}
+use Rattle.wc_maps.proofs.LookupLemmas.{lookup_viewed}
 use Rattle.wc_resolve.specs.declared.worlds.WorldKey.{WorldKey}
 use Rattle.wc_resolve.specs.declared.worlds.WorldItem.{WorldItem}
 use Rattle.wc_resolve.specs.contracts.worlds.WorldKeyPartialEq.TheImpl.{eq-value as key_eq}
 use Rattle.wc_resolve.specs.Views.{KeyView, ItemView, item_view, key_view, world_entry}
 use Rattle.wc_resolve.proofs.KeyLemmas.{key_view_eq, keys_viewed}
-use Rattle.wc_resolve.proofs.SearchLemmas.{contains_cons, contains_head, contains_none, contains_tail}
+use Rattle.wc_maps.proofs.ListLemmas.{contains_cons, contains_head, contains_none, contains_tail}
 
 -- the keys of what a world imports or exports
 abbrev pub view_keys : List (KeyView × ItemView) → List KeyView
@@ -37,27 +36,9 @@ module _ (test : WorldKey → Bool) (k : KeyView) (law : (y : WorldKey) → (tes
   lookup_contains [] = ((λ t. absurd (let bad : ⊥ = cc t in bad)), (λ h. absurd (contains_none k h)))
   lookup_contains (e ∷ es) = first_contains (test e.0) e es refl (lookup_contains es)
 
-module _ {K X A B : Type 0} (f : K → A) (g : X → B) (test : K → Bool) (view_test : A → Bool) (same : (k : K) → test k ≡ view_test (f k)) where
-  first_viewed : (e : K × X) (es : List (K × X)) (b c : Bool) → b ≡ c → option_map g (lookup test es) ≡ lookup view_test (map (λ x. (f x.0, g x.1)) es)
-      → option_map g (cond b (Some e.1) (lookup test es)) ≡ cond c (Some (g e.1)) (lookup view_test (map (λ x. (f x.0, g x.1)) es))
-  first_viewed e es true true is rest = refl
-  first_viewed e es true false is rest = absurd (let bad : ⊥ = cc is in bad)
-  first_viewed e es false true is rest = absurd (let bad : ⊥ = cc is in bad)
-  first_viewed e es false false is rest = rest
-
-  -- a look-up, and the look-up among views
-  pub lookup_viewed : (es : List (K × X)) → option_map g (lookup test es) ≡ lookup view_test (map (λ e. (f e.0, g e.1)) es)
-  lookup_viewed [] = refl
-  lookup_viewed (e ∷ es) = first_viewed e es (test e.0) (view_test (f e.0)) (same e.0) (lookup_viewed es)
-
 -- the item under a key
 pub item_viewed : (key : WorldKey) (es : List (WorldKey × WorldItem)) → option_map item_view (lookup (key_eq.it key) es) ≡ lookup (key_view_eq (key_view key)) (map world_entry es)
 item_viewed key es = lookup_viewed key_view item_view (key_eq.it key) (key_view_eq (key_view key)) (keys_viewed key) es
-
--- what is listed under a name
-pub name_viewed : {X B : Type 0} (g : X → B) (es : List (String Global × X)) (name : List ℕ)
-    → option_map g (lookup (λ k. bytes_eq name (string_bytes k)) es) ≡ lookup (bytes_eq name) (map (λ e. (string_bytes e.0, g e.1)) es)
-name_viewed g es name = lookup_viewed string_bytes g (λ k. bytes_eq name (string_bytes k)) (bytes_eq name) (λ k. refl) es
 
 -- what a reference points to
 pub copied_viewed : {X B : Type 0} (g : X → B) (r : Option (Bor X)) → option_map (λ (x : Bor X). g x.now) r ≡ option_map g (option_copied r)

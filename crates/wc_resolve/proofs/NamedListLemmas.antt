@@ -2,7 +2,7 @@
 use Rattle.std.proofs.Common.{◌≡◌, List, [], ◌∷◌, map, Option, String, refl, ap}
 use Rattle.std.specs.List.{filter_map, cons_option}
 use Rattle.std.specs.declared.alloc.Global.{Global}
-use Rattle.wc_resolve.specs.Views.{named_view}
+use Rattle.wc_texts.specs.Names.{named_view}
 
 pub named_values : {Y : Type 0} (xs : List (String Global × Y)) → map (λ f. f.1) (map named_view xs) ≡ map (λ f. f.1) xs
 named_values [] = refl

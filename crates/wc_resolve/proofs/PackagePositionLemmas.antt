@@ -15,7 +15,7 @@ use Rattle.wc_resolve.specs.Views.{PackageNameView, PackageView, package_name_vi
 use Rattle.wc_resolve.specs.Resolve.{package_name_at}
 use Rattle.wc_resolve.specs.Validate.{AreNamesOf}
 use Rattle.wc_resolve.proofs.PackageNameLemmas.{names_law}
-use Rattle.wc_resolve.proofs.ViewedLemmas.{view_found}
+use Rattle.wc_maps.proofs.ListLemmas.{view_found}
 
 -- the name at the position that was found
 pub name_found : (names : List PackageName) (name : PackageName) (i : ℕ) → position (eq-value.it name) names ≡ Some i → slice_get (map package_name_view names) i ≡ Some (package_name_view name)

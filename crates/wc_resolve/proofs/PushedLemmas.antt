@@ -9,7 +9,8 @@ use Rattle.wc_resolve.specs.declared.functions.Function.{Function}
 use Rattle.wc_resolve.specs.declared.ids.TypeId.{TypeId}
 use Rattle.wc_resolve.specs.declared.types.WitType.{WitType}
 use Rattle.wc_resolve.specs.Roots.{function_roots, type_roots}
-use Rattle.wc_resolve.specs.Views.{FunctionView, function_entry, function_view, named_view, type_entry}
+use Rattle.wc_resolve.specs.Views.{FunctionView, function_entry, function_view, type_entry}
+use Rattle.wc_texts.specs.Names.{named_view}
 
 pub record IsPushed {E : Type 0} (f : E → List ℕ) (full left : List E) (old new : List ℕ) : Type 0 where
   pub front : List E

@@ -12,7 +12,7 @@ use Rattle.wc_resolve.specs.Views.{FunctionView, InterfaceView, ItemView, interf
 use Rattle.wc_resolve.specs.Kinds.{ResolveView, SignatureHasOnly}
 use Rattle.wc_resolve.specs.Ranges.{AreIdsInRange, AreNamesIn, IsFunctionIn, IsItemIn, IsKindIn, IsTypeIn}
 use Rattle.wc_resolve.specs.Roots.{type_roots, static_roots, passed_roots, function_roots, interface_roots, item_roots}
-use Rattle.wc_resolve.proofs.SearchLemmas.{contains_none}
+use Rattle.wc_maps.proofs.ListLemmas.{contains_none}
 use Rattle.wc_resolve.proofs.ListUnionLemmas.{joined_from}
 use Rattle.wc_resolve.proofs.WellFormedLemmas.{interface_names_in}
 

@@ -6,6 +6,7 @@ use Rattle.std.proofs.lemmas.Bool.{cases_eq, cases_lt}
 use Rattle.std.proofs.lemmas.List.Elements.{Contains-append_left, Contains-append_right, Contains-append_cases, Contains-push, Contains-push_cases}
 use Rattle.std.proofs.lemmas.List.{map-append, get_or-set_same, get_or-set_other, get_or_append_left, get_or_default, length-map, length-replicate, take-append-le}
 use Rattle.std.proofs.Math.Seq.{take-append_seam, get_or-append_seam}
+use Rattle.wc_maps.proofs.ListLemmas.{contains_cons, contains_head, contains_none, contains_tail}
 use Rattle.wc_resolve.specs.Kinds.{Leads, refers, further, IsChildrenFirst}
 use Rattle.wc_resolve.specs.declared.validate.order.Progress.{Progress}
 use Rattle.wc_resolve.specs.declared.validate.order.Progress.TheVariants.{New, Open, Done}
@@ -46,22 +47,6 @@ chain_join : (next : ℕ → List ℕ) (parent : Option ℕ) (xs ys : List Index
 chain_join next parent [] ys h k = k
 chain_join next parent (Enter x ∷ xs) ys h k = (h.0, chain_join next parent xs ys h.1 k)
 chain_join next parent (Leave x ∷ xs) ys h k = (h.0, chain_join next (Some x) xs ys h.1 k)
-
-pub contains_none : {X : Type 0} (x : X) → Contains [] x → ⊥
-contains_none x h = omega (arith, h.1)
-
-pub contains_head : {X : Type 0} (xs : List X) (x : X) → Contains (x ∷ xs) x
-contains_head xs x = Contains-append_left (x ∷ []) xs x (Contains-push [] x)
-
-pub contains_tail : {X : Type 0} (y : X) (xs : List X) (x : X) → Contains xs x → Contains (y ∷ xs) x
-contains_tail y xs x h = Contains-append_right (y ∷ []) xs x h
-
-pub contains_cons : {X : Type 0} (y : X) (xs : List X) (x : X) → Contains (y ∷ xs) x → (y ≡ x) ⊎ Contains xs x
-contains_cons y xs x h =
-    elim (Contains-append_cases (y ∷ []) xs x h) [
-      | inl front ↦ elim (Contains-push_cases [] y x front) [ inl none ↦ absurd (contains_none x none) | inr same ↦ inl same ]
-      | inr rest ↦ inr rest
-    ]
 
 chain_enters : (next : ℕ → List ℕ) (parent : ℕ) (xs : List ℕ) → ((c : ℕ) → Contains xs c → Contains (next parent) c) → IsChain next (Some parent) (map Enter xs)
 chain_enters next parent [] h = tt

@@ -1,8 +1,6 @@
 -- What is true of each element of a list, and of each element's view.
-use Rattle.std.proofs.Common.{◌≡◌, ℕ, ◌<◌, ◌+◌, ◌↔◌, Bool, true, false, IsTrue, List, [], ◌∷◌, map, length, take, get_or, Some, Result, Ok, Err, sym, ap, subst, ◌∙◌, arith}
-use Rattle.std.specs.Prelude.{slice_get, IfOk}
-use Rattle.std.specs.Option.{option_map}
-use Rattle.std.proofs.lemmas.Option.{slice_get-map, slice_get-get_or}
+use Rattle.std.proofs.Common.{◌≡◌, ℕ, ◌<◌, ◌+◌, ◌↔◌, Bool, true, false, IsTrue, List, [], ◌∷◌, map, length, take, get_or, Result, Ok, Err, sym, subst, ◌∙◌, arith}
+use Rattle.std.specs.Prelude.{IfOk}
 use Rattle.std.specs.List.{All}
 use Rattle.std.proofs.lemmas.List.{map_more}
 use Rattle.std.proofs.lemmas.List.Elements.{All-map, All-cons, All-head, All-tail, All-push}
@@ -28,10 +26,6 @@ not_all f P xs i x b small read test fail = (
       let mine : P (f x) = subst (λ z. P (f z)) (sym read) holds in
       sym fail ∙ test.1 mine),
 )
-
--- the view of the element at an index
-pub view_found : {X Y : Type 0} (f : X → Y) (xs : List X) (i : ℕ) (d : X) → i < length xs → slice_get (map f xs) i ≡ Some (f (get_or xs i d))
-view_found f xs i d small = slice_get-map f xs i ∙ ap (λ o. option_map f o) (slice_get-get_or xs i d small)
 
 pub iff_trans : {A B C : Type 0} → A ↔ B → B ↔ C → A ↔ C
 iff_trans f g = ((λ a. g.0 (f.0 a)), (λ c. f.1 (g.1 c)))

@@ -18,7 +18,7 @@ use Rattle.std.specs.Result.{OnErr}
 use Rattle.wc_resolve.specs.TypeRules.{Follows}
 use Rattle.wc_resolve.specs.Roots.{id_index}
 use Rattle.wc_resolve.specs.Live.{listing_rule, listing_of, listing_from, with_live, list_union, IsComplete, AddsAll, AddsSome, Keeps}
-use Rattle.wc_resolve.proofs.SearchLemmas.{contains_none}
+use Rattle.wc_maps.proofs.ListLemmas.{contains_none}
 use Rattle.wc_resolve.proofs.ListUnionLemmas.{keeps_same, keeps_more, with_extends, list_union_extends}
 use Rattle.wc_resolve.proofs.ListingLemmas.{step_index, finished, finished_extends, IsAdding, finished_enters, ready_enters, adding_skip, adding_leave}
 use Rattle.wc_resolve.proofs.ListingLemmas.{adding_enter, walk_length, walk_length_append, walk_length_reverse}

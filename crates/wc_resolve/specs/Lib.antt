@@ -1,4 +1,3 @@
-pub mod Characters
 pub mod Contents
 pub mod Dependencies
 pub mod Fault

@@ -3,7 +3,7 @@ use Rattle.std.specs.Prelude.{◌≡◌, ◌≢◌, ℕ, ◌⊎◌, zero, suc, L
 use Rattle.std.specs.Borrow.{Bor}
 use Rattle.std.specs.Fmt.{decimal}
 use Rattle.wc_texts.specs.Finds.{Finds}
-use Rattle.wc_resolve.specs.Characters.{hyphen, full_stop, digit_zero, opening_bracket, closing_bracket, IsSmallLetter, IsCapitalLetter, IsDigit}
+use Rattle.wc_texts.specs.Characters.{hyphen, full_stop, digit_zero, opening_bracket, closing_bracket, IsSmallLetter, IsCapitalLetter, IsDigit}
 
 -- a small letter, a capital letter, a digit or a hyphen
 abbrev pub IsNameCharacter : ℕ → Type 0

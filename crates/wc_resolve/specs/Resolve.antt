@@ -4,7 +4,7 @@ use Rattle.std.specs.Option.{option_and_then, option_map}
 use Rattle.wc_resolve.specs.Views.{KeyView, plain_key, interface_key, ItemView, interface_item, InterfaceView, PackageView, PackageNameView}
 use Rattle.wc_resolve.specs.Kinds.{ResolveView}
 use Rattle.semver.specs.Identifiers.{parts_text}
-use Rattle.wc_resolve.specs.Characters.{hash_sign, slash, colon, at_sign}
+use Rattle.wc_texts.specs.Characters.{hash_sign, slash, colon, at_sign}
 use Rattle.wc_resolve.specs.Names.{track}
 use Rattle.wc_resolve.specs.WellFormed.{interface_name}
 

@@ -4,6 +4,7 @@ use Rattle.std.specs.Prelude.{ℕ, List, map, Option, String, string_bytes}
 use Rattle.std.specs.Option.{option_map}
 use Rattle.std.specs.Rc.{rc_slice_items}
 use Rattle.std.specs.declared.alloc.Global.{Global}
+use Rattle.wc_texts.specs.Names.{named_view}
 use Rattle.semver.specs.Identifiers.{parts_of}
 use Rattle.wc_resolve.specs.declared.ids.InterfaceId.{InterfaceId}
 use Rattle.wc_resolve.specs.declared.ids.PackageId.{PackageId}
@@ -24,10 +25,6 @@ use Rattle.wc_resolve.specs.declared.worlds.World.{World}
 use Rattle.wc_resolve.specs.declared.worlds.Interface.{Interface}
 use Rattle.wc_resolve.specs.declared.packages.PackageName.{PackageName}
 use Rattle.wc_resolve.specs.declared.packages.Package.{Package}
-
--- a name with its value
-abbrev pub named_view : {Y : Type 0} → String Global × Y → List ℕ × Y
-named_view p = (string_bytes p.0, p.1)
 
 pub data KindView : Type 0 where
   record_kind : List (List ℕ × WitType) → KindView

@@ -3,7 +3,7 @@
 ghost use Rattle.std.specs.Prelude.{◌≡◌, ◌↔◌, ◌++◌, ◌∷◌, IsTrue};
 ghost use Rattle.std.specs.Fmt.{decimal};
 ghost use Rattle.semver.specs.Identifiers.{parts_of, pre_text};
-ghost use Rattle.wc_resolve.specs.Characters.{full_stop, hyphen};
+ghost use Rattle.wc_texts.specs.Characters.{full_stop, hyphen};
 ghost use Rattle.wc_resolve.specs.Names.{IsLeftAfter, release_track, track};
 ghost use Rattle.wc_resolve.specs.Resolve.{joined_id, member_text};
 ghost use Rattle.wc_resolve.specs.Views.{package_name_view};

@@ -52,7 +52,7 @@
 //! }
 //! ```
 //!
-//! This function is proved in `wc_example_rows`, as `examples::resolve::interface_id`.
+//! This function is proved in `wc_tests`, as `examples::resolve::interface_id`.
 #![tactic(auto)]
 
 mod canonical_ids;

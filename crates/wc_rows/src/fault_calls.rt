@@ -9,23 +9,10 @@ use wc_lines::values::put_fault_text;
 use wc_read::ReadFault;
 use wc_texts::PutFailed;
 use wc_write::WriteFault;
-use wctrim_command::CommandFault;
-
-/// Appends the answer of a call for the texts of faults. False where a row has another call.
-pub fn answer(alloc: Global, row: &Row<'_>, out: &mut Lines) -> bool {
-    match row.call {
-        "read_faults" => put_read_faults(alloc, out),
-        "write_faults" => put_write_faults(alloc, out),
-        "dedupe_faults" => put_dedupe_faults(alloc, out),
-        "gc_faults" => put_gc_faults(alloc, out),
-        "command_faults" => put_wctrim_faults(alloc, out),
-        _ => return false,
-    }
-    true
-}
+use wctrim_command::ToolFault;
 
 /// Each with its number before it.
-fn put_read_faults(alloc: Global, out: &mut Lines) {
+pub(crate) fn put_read_faults(alloc: Global, out: &mut Lines) {
     for fault in ReadFault::ALL {
         out.number("", fault.number() as u64);
         out.push_str(" ");
@@ -34,14 +21,14 @@ fn put_read_faults(alloc: Global, out: &mut Lines) {
 }
 
 /// Those of writers, and that of sinks, which no other fault carries.
-fn put_write_faults(alloc: Global, out: &mut Lines) {
+pub(crate) fn put_write_faults(alloc: Global, out: &mut Lines) {
     for fault in WriteFault::ALL {
         put_fault_text(alloc, &fault, out);
     }
     writeln!(out, "{}", PutFailed);
 }
 
-fn put_dedupe_faults(alloc: Global, out: &mut Lines) {
+pub(crate) fn put_dedupe_faults(alloc: Global, out: &mut Lines) {
     put_fault_text(alloc, &DedupeFault::Memory, out);
     put_fault_text(alloc, &DedupeFault::TooLarge, out);
     for fault in ReadFault::ALL {
@@ -89,7 +76,7 @@ fn plain_gc_fault(number: u32) -> GcFault {
     }
 }
 
-fn put_gc_faults(alloc: Global, out: &mut Lines) {
+pub(crate) fn put_gc_faults(alloc: Global, out: &mut Lines) {
     for number in 0..GC_FAULTS {
         let fault = gc_fault(alloc, number, out);
         put_fault_text(alloc, &fault, out);
@@ -99,13 +86,13 @@ fn put_gc_faults(alloc: Global, out: &mut Lines) {
     }
 }
 
-fn put_wctrim_faults(alloc: Global, out: &mut Lines) {
-    put_fault_text(alloc, &CommandFault::Memory, out);
-    put_fault_text(alloc, &CommandFault::Output, out);
-    put_fault_text(alloc, &CommandFault::Dedupe(DedupeFault::Memory), out);
-    put_fault_text(alloc, &CommandFault::Dedupe(DedupeFault::TooLarge), out);
+pub(crate) fn put_wctrim_faults(alloc: Global, out: &mut Lines) {
+    put_fault_text(alloc, &ToolFault::Memory, out);
+    put_fault_text(alloc, &ToolFault::Output, out);
+    put_fault_text(alloc, &ToolFault::Dedupe(DedupeFault::Memory), out);
+    put_fault_text(alloc, &ToolFault::Dedupe(DedupeFault::TooLarge), out);
     for number in 0..GC_FAULTS {
-        let fault = CommandFault::Trim(gc_fault(alloc, number, out));
+        let fault = ToolFault::Trim(gc_fault(alloc, number, out));
         put_fault_text(alloc, &fault, out);
     }
     put_wctrim_reads(alloc, out);
@@ -114,8 +101,8 @@ fn put_wctrim_faults(alloc: Global, out: &mut Lines) {
 /// Those that carry a fault of the reader, or a fault that carries one.
 fn put_wctrim_reads(alloc: Global, out: &mut Lines) {
     for fault in ReadFault::ALL {
-        put_fault_text(alloc, &CommandFault::Read(fault), out);
-        put_fault_text(alloc, &CommandFault::Dedupe(DedupeFault::Read(fault)), out);
-        put_fault_text(alloc, &CommandFault::Trim(GcFault::Read(fault)), out);
+        put_fault_text(alloc, &ToolFault::Read(fault), out);
+        put_fault_text(alloc, &ToolFault::Dedupe(DedupeFault::Read(fault)), out);
+        put_fault_text(alloc, &ToolFault::Trim(GcFault::Read(fault)), out);
     }
 }

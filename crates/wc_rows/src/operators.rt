@@ -4,6 +4,7 @@ use wc_lines::lines::Lines;
 use wc_lines::values::{put_bytes, put_val_type, put_val_types};
 use wc_read::{
     BlockType, Body, Form, Immediates, Index, IndexKind, Instr, MemArg, Opcode, Refs, Space,
+    TypeRefs,
 };
 
 /// The word of an index space in rows, as `func`.
@@ -141,6 +142,14 @@ fn put_reference(out: &mut Lines, word: &str, reference: Option<(Space, u32)>) {
 pub fn put_refs(out: &mut Lines, refs: &Refs) {
     put_reference(out, "first ", refs.first);
     put_reference(out, "second ", refs.second);
+}
+
+/// Appends a line for each type that an operator lists.
+pub fn put_type_refs(out: &mut Lines, types: TypeRefs<'_>) {
+    for number in types {
+        out.number("type ", number as u64);
+        out.end();
+    }
 }
 
 /// The shape of an operator's immediates.

@@ -4,7 +4,7 @@ use std::alloc::Global;
 use std::hash::BuildHasher;
 use std::io::{self, ErrorKind};
 use std::random::RandomSource;
-use wc_lines::input::{Stop, bad_row, bytes_of, end_answer};
+use wc_lines::input::{Stop, bad_row, bytes_of};
 use wc_lines::lines::Lines;
 use wc_lines::rows::Row;
 use wc_maps::Seed;
@@ -25,18 +25,9 @@ impl RandomSource for GivenBytes<'_> {
     }
 }
 
-/// Appends the answer of the call that draws a seed. False where a row has another call.
-pub fn answer(alloc: Global, row: &Row<'_>, out: &mut Lines) -> bool {
-    if row.call != "drawn_seed" {
-        return false;
-    }
-    end_answer(answer_drawn(alloc, row, out), out);
-    true
-}
-
 /// `drawn_seed NUMBER`: the hash of a number of 64 bits under the seed that is drawn from a source with the bytes of the
 /// input, or that the source failed.
-fn answer_drawn(alloc: Global, row: &Row<'_>, out: &mut Lines) -> Result<(), Stop> {
+pub(crate) fn answer_drawn(alloc: Global, row: &Row<'_>, out: &mut Lines) -> Result<(), Stop> {
     let word = row.argument(0);
     let Ok(number) = word.parse::<u64>() else {
         return Err(bad_row(out, "no number", word));

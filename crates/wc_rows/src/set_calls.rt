@@ -2,23 +2,12 @@
 
 use std::alloc::Global;
 use wc_gc::{BitVec, LiveSet, RangeSet, Ranks};
-use wc_lines::input::{Stop, bad_row, end_answer, number_of};
+use wc_lines::input::{Stop, bad_row, number_of};
 use wc_lines::lines::Lines;
 use wc_lines::rows::Row;
 
-/// Appends the answer of a call on a `BitVec` or a `RangeSet`, or on a rank in one. False where a row has another call.
-pub fn answer(alloc: Global, row: &Row<'_>, out: &mut Lines) -> bool {
-    match row.call {
-        "bit_vec" => end_answer(answer_bit_vec(alloc, row, out), out),
-        "range_set" => end_answer(answer_range_set(alloc, row, out), out),
-        "rank" => answer_rank(alloc, row, out),
-        _ => return false,
-    }
-    true
-}
-
 /// `bit_vec`, with lines `insert NUMBER`, `contains NUMBER` and `below NUMBER`: a line for what each answers.
-fn answer_bit_vec(alloc: Global, row: &Row<'_>, out: &mut Lines) -> Result<(), Stop> {
+pub(crate) fn answer_bit_vec(alloc: Global, row: &Row<'_>, out: &mut Lines) -> Result<(), Stop> {
     let mut set = BitVec::new(alloc);
     for line in &row.input {
         put_step(alloc, &mut set, line, out)?;
@@ -27,7 +16,7 @@ fn answer_bit_vec(alloc: Global, row: &Row<'_>, out: &mut Lines) -> Result<(), S
 }
 
 /// `range_set`, with the same lines and `extend [NUMBER..]`: what each answers, and then the ranges.
-fn answer_range_set(alloc: Global, row: &Row<'_>, out: &mut Lines) -> Result<(), Stop> {
+pub(crate) fn answer_range_set(alloc: Global, row: &Row<'_>, out: &mut Lines) -> Result<(), Stop> {
     let mut set = RangeSet::new(alloc);
     for line in &row.input {
         let (step, numbers) = line.split_once(' ').unwrap_or((line, ""));
@@ -106,13 +95,12 @@ fn put_flag(is_set: bool, out: &mut Lines) {
 
 /// `rank SET NUMBER..`, with lines of numbers, which are put into a set: the rank of each argument in it, and the
 /// probes. SET is `bits` or `ranges`.
-fn answer_rank(alloc: Global, row: &Row<'_>, out: &mut Lines) {
-    let answered = match row.argument(0) {
+pub(crate) fn answer_rank(alloc: Global, row: &Row<'_>, out: &mut Lines) -> Result<(), Stop> {
+    match row.argument(0) {
         "bits" => put_ranks::<BitVec>(alloc, row, out),
         "ranges" => put_ranks::<RangeSet>(alloc, row, out),
         _ => Err(bad_row(out, "no kind of set", row.argument(0))),
-    };
-    end_answer(answered, out);
+    }
 }
 
 fn put_ranks<L: LiveSet>(alloc: Global, row: &Row<'_>, out: &mut Lines) -> Result<(), Stop> {

@@ -5,24 +5,13 @@ ghost use Rattle.wctrim_command.specs.Command.{IsExecutable, command_view};
 
 use std::alloc::Global;
 use std::io::{self, Write};
-use wc_lines::input::{Stop, bad_row, bytes_of, end_answer};
+use wc_lines::input::{Stop, bad_row, bytes_of};
 use wc_lines::lines::Lines;
 use wc_lines::rows::Row;
 use wc_lines::seeds::row_seed;
 use wc_lines::values::put_bytes_lines;
 use wc_write::{PutFailed, Sink, WriterSink};
-use wctrim_command::{Command, CommandFault, execute};
-
-/// Appends the answer of a call on a sink over a writer that fails, or on commands over sinks that do. False where a row
-/// has another call.
-pub fn answer(alloc: Global, row: &Row<'_>, out: &mut Lines) -> bool {
-    match row.call {
-        "writer_sink" => answer_writer(alloc, row, out),
-        "each_put_failing" => end_answer(answer_each_failing(alloc, row, out), out),
-        _ => return false,
-    }
-    true
-}
+use wctrim_command::{Command, ToolFault, execute};
 
 /// A writer that fails at one write and at one flush, counted from 1; at 0 it fails at none.
 #[derive(Drop)]
@@ -53,11 +42,6 @@ impl Write for FailingWriter {
     }
 }
 
-/// The number at an argument of the call; 0 where there is none.
-fn number_at(row: &Row<'_>, index: usize) -> u32 {
-    row.argument(index).parse::<u32>().unwrap_or(0)
-}
-
 /// Does what a line says, `put TEXT` or `flush`, and puts what came of it.
 fn put_step(sink: &mut WriterSink<FailingWriter>, line: &str, out: &mut Lines) {
     let done = match line.strip_prefix("put ") {
@@ -74,7 +58,7 @@ fn put_step(sink: &mut WriterSink<FailingWriter>, line: &str, out: &mut Lines) {
 
 /// The sink is over a writer that fails at the write and the flush that the arguments name, and at no other: it has room
 /// for 4,096 bytes.
-fn answer_writer(alloc: Global, row: &Row<'_>, out: &mut Lines) {
+pub(crate) fn answer_writer(alloc: Global, row: &Row<'_>, out: &mut Lines) {
     match Vec::with_capacity(alloc, 4096) {
         Ok(taken) => put_steps(row, taken, out),
         Err(_) => out.lack_memory(),
@@ -83,8 +67,8 @@ fn answer_writer(alloc: Global, row: &Row<'_>, out: &mut Lines) {
 
 fn put_steps(row: &Row<'_>, taken: Vec<u8>, out: &mut Lines) {
     let mut sink = WriterSink::new(FailingWriter {
-        failing_write: number_at(row, 0),
-        failing_flush: number_at(row, 1),
+        failing_write: row.argument(0).parse::<u32>().unwrap_or(0),
+        failing_flush: row.argument(1).parse::<u32>().unwrap_or(0),
         writes: 0,
         flushes: 0,
         taken,
@@ -143,7 +127,11 @@ fn named_command(row: &Row<'_>) -> Option<Command<'static>>
 
 /// `each_put_failing COMMAND`: the command, over sinks that fail after no put, after one, after two, and so on, until all
 /// puts pass. A line for each, and the answer.
-fn answer_each_failing(alloc: Global, row: &Row<'_>, out: &mut Lines) -> Result<(), Stop> {
+pub(crate) fn answer_each_failing(
+    alloc: Global,
+    row: &Row<'_>,
+    out: &mut Lines,
+) -> Result<(), Stop> {
     let bytes = bytes_of(alloc, &row.input, out)?;
     match named_command(row) {
         Some(command) => put_each_failing(alloc, &command, &bytes, out),
@@ -181,7 +169,7 @@ fn put_fails(alloc: Global, command: &Command<'_>, input: &[u8], puts: u32, out:
 }
 
 /// Appends the file that a command wrote, `no bytes`, or the command's fault.
-fn put_answer(out: &mut Lines, answer: &Result<Option<Vec<u8>>, CommandFault>) {
+fn put_answer(out: &mut Lines, answer: &Result<Option<Vec<u8>>, ToolFault>) {
     match answer {
         Ok(Some(bytes)) => put_bytes_lines(out, "bytes", bytes),
         Ok(None) => out.push_str("no bytes\n"),

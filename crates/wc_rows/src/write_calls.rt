@@ -2,8 +2,7 @@
 
 use crate::built::built_of;
 use std::alloc::Global;
-use wc_lines::imports::imports_of;
-use wc_lines::input::{Stop, bad_row, bytes_of, end_answer};
+use wc_lines::input::{Stop, bad_row, bytes_of};
 use wc_lines::lines::Lines;
 use wc_lines::rows::Row;
 use wc_lines::values::{put_bytes_lines, put_fault};
@@ -12,22 +11,6 @@ use wc_write::{
     WriteFault, append_import_section, append_raw_section, raw_section, write_body,
     write_import_section, write_module,
 };
-
-/// Appends the answer of a call of `wc_write`. False where a row has another call.
-pub fn answer(alloc: Global, row: &Row<'_>, out: &mut Lines) -> bool {
-    match row.call {
-        "write_import_section" => end_answer(answer_imports(alloc, row, out), out),
-        "append_import_section" => end_answer(answer_appended_imports(alloc, row, out), out),
-        "raw_section" => end_answer(answer_section(alloc, row, out), out),
-        "append_raw_section" => end_answer(answer_appended_section(alloc, row, out), out),
-        "rewrite_import_section" => end_answer(answer_rewritten_imports(alloc, row, out), out),
-        "write_body" => end_answer(answer_body(alloc, row, out), out),
-        "write_bodies" => end_answer(answer_bodies(alloc, row, out), out),
-        "write_module" => end_answer(answer_module(alloc, row, out), out),
-        _ => return false,
-    }
-    true
-}
 
 /// The bytes that were written, or why there are none.
 fn put_written(out: &mut Lines, written: &Result<Vec<u8>, WriteFault>) {
@@ -45,26 +28,19 @@ fn put_appended(out: &mut Lines, appended: Result<(), WriteFault>, bytes: &[u8])
     put_bytes_lines(out, "bytes", bytes);
 }
 
-fn answer_imports(alloc: Global, row: &Row<'_>, out: &mut Lines) -> Result<(), Stop> {
-    let imports = imports_of(alloc, &row.input, out)?;
-    put_written(out, &write_import_section(alloc, &imports));
-    Ok(())
-}
-
-/// Appends to the bytes that the arguments are.
-fn answer_appended_imports(alloc: Global, row: &Row<'_>, out: &mut Lines) -> Result<(), Stop> {
+/// Appends, to the bytes that the arguments are, the section of imports that are read out of a section's content.
+pub(crate) fn answer_appended_imports(
+    alloc: Global,
+    row: &Row<'_>,
+    out: &mut Lines,
+) -> Result<(), Stop> {
     let mut bytes = bytes_of(alloc, &row.arguments, out)?;
-    let imports = imports_of(alloc, &row.input, out)?;
-    let appended = append_import_section(&mut bytes, &imports);
-    put_appended(out, appended, &bytes);
-    Ok(())
-}
-
-/// The section of imports that are read out of a section's content.
-fn answer_rewritten_imports(alloc: Global, row: &Row<'_>, out: &mut Lines) -> Result<(), Stop> {
     let content = bytes_of(alloc, &row.input, out)?;
     match read_imports(alloc, &content) {
-        Ok(imports) => put_written(out, &write_import_section(alloc, &imports)),
+        Ok(imports) => {
+            let appended = append_import_section(&mut bytes, &imports);
+            put_appended(out, appended, &bytes);
+        }
         Err(fault) => put_fault(out, fault),
     }
     Ok(())
@@ -79,7 +55,7 @@ fn section_id(row: &Row<'_>, out: &mut Lines) -> Result<u8, Stop> {
     }
 }
 
-fn answer_section(alloc: Global, row: &Row<'_>, out: &mut Lines) -> Result<(), Stop> {
+pub(crate) fn answer_section(alloc: Global, row: &Row<'_>, out: &mut Lines) -> Result<(), Stop> {
     let id = section_id(row, out)?;
     let content = bytes_of(alloc, &row.input, out)?;
     put_written(out, &raw_section(alloc, id, &content));
@@ -87,19 +63,17 @@ fn answer_section(alloc: Global, row: &Row<'_>, out: &mut Lines) -> Result<(), S
 }
 
 /// Appends to the bytes that the arguments after the id are.
-fn answer_appended_section(alloc: Global, row: &Row<'_>, out: &mut Lines) -> Result<(), Stop> {
+pub(crate) fn answer_appended_section(
+    alloc: Global,
+    row: &Row<'_>,
+    out: &mut Lines,
+) -> Result<(), Stop> {
     let id = section_id(row, out)?;
     let before = row.arguments.get(1..).unwrap_or(&[]);
     let mut bytes = bytes_of(alloc, before, out)?;
     let content = bytes_of(alloc, &row.input, out)?;
     let appended = append_raw_section(&mut bytes, id, &content);
     put_appended(out, appended, &bytes);
-    Ok(())
-}
-
-fn answer_body(alloc: Global, row: &Row<'_>, out: &mut Lines) -> Result<(), Stop> {
-    let bytes = bytes_of(alloc, &row.input, out)?;
-    put_body_text(alloc, &bytes, out);
     Ok(())
 }
 
@@ -111,16 +85,6 @@ fn put_body_text(alloc: Global, bytes: &[u8], out: &mut Lines) {
     }
 }
 
-/// The text of each body of a module.
-fn answer_bodies(alloc: Global, row: &Row<'_>, out: &mut Lines) -> Result<(), Stop> {
-    let bytes = bytes_of(alloc, &row.input, out)?;
-    match read_module(alloc, &bytes) {
-        Ok(module) => put_body_texts(alloc, &module.funcs, out),
-        Err(fault) => put_fault(out, fault),
-    }
-    Ok(())
-}
-
 fn put_body_texts(alloc: Global, funcs: &[Func<'_>], out: &mut Lines) {
     for func in funcs {
         if let Def::Local(body) = func.def {
@@ -129,12 +93,21 @@ fn put_body_texts(alloc: Global, funcs: &[Func<'_>], out: &mut Lines) {
     }
 }
 
-/// Reads a module, and answers with what is written of it.
-fn answer_module(alloc: Global, row: &Row<'_>, out: &mut Lines) -> Result<(), Stop> {
-    let bytes = bytes_of(alloc, &row.input, out)?;
-    match built_of(alloc, &bytes) {
-        Ok(built) => put_written(out, &write_module(alloc, &built)),
-        Err(fault) => put_fault(out, fault),
+/// Reads bytes as what the call names, and answers with what is written of it; or the fault.
+pub(crate) fn put_rewritten(alloc: Global, call: &str, bytes: &[u8], out: &mut Lines) {
+    match call {
+        "write_body" => put_body_text(alloc, bytes, out),
+        "write_bodies" => match read_module(alloc, bytes) {
+            Ok(module) => put_body_texts(alloc, &module.funcs, out),
+            Err(fault) => put_fault(out, fault),
+        },
+        "write_module" => match built_of(alloc, bytes) {
+            Ok(built) => put_written(out, &write_module(alloc, &built)),
+            Err(fault) => put_fault(out, fault),
+        },
+        _ => match read_imports(alloc, bytes) {
+            Ok(imports) => put_written(out, &write_import_section(alloc, &imports)),
+            Err(fault) => put_fault(out, fault),
+        },
     }
-    Ok(())
 }

@@ -15,7 +15,7 @@ use Rattle.wc_resolve.specs.Views.{KeyView, key_view}
 use Rattle.wc_resolve.specs.declared.worlds.WorldKey.{WorldKey}
 use Rattle.wc_resolve.specs.contracts.worlds.WorldKeyPartialEq.TheImpl.{eq-value as key_eq}
 use Rattle.wc_selection.proofs.KeyListLemmas.{first_key, unheld}
-use Rattle.wc_selection.proofs.ListLemmas.{length_one, passed_more}
+use Rattle.wc_maps.proofs.ListLemmas.{length_one, passed_more}
 use Rattle.wc_selection.proofs.PositionLemmas.{sorted_is}
 use Rattle.wc_selection.proofs.RequiredLemmas.{Pair, filter_same, under_in, under_more}
 use Rattle.wc_selection.specs.KeyIndex.{AreApart, AreSorted, IsKeyIndex, key_at, keys_under, listed_positions, positions_from, viewed_key}
@@ -24,7 +24,7 @@ use Rattle.wc_selection.specs.ModuleKeys.{is_pair, is_required, required_keys}
 use Rattle.wc_selection.specs.Requests.{RequestValue}
 use Rattle.wc_selection.specs.RequiredTexts.{texts_under}
 use Rattle.wc_selection.specs.TextLists.{ListsMore, listed}
-use Rattle.wc_selection.specs.Texts.{is_in, second_parts, text_of, text_pair}
+use Rattle.wc_maps.specs.Texts.{is_in, second_parts, text_of, text_pair}
 
 abbrev Lists : Type 0
 Lists = List (Bor (List ℕ) × Vec ℕ Global)

@@ -1,11 +1,11 @@
 -- Keys under the texts by which they are given.
-use Rattle.std.proofs.Common.{◌≡◌, ◌≢◌, ℕ, ◌==◌, arith, suc, true, false, List, [], ◌∷◌, Bool, map, filter, cond, length, All, refl, ap}
+use Rattle.std.proofs.Common.{◌≡◌, ◌≢◌, ℕ, ◌==◌, arith, false, List, [], ◌∷◌, map, All}
 use Rattle.std.specs.List.{AllPairs}
 use Rattle.std.proofs.lemmas.Bool.Decides.{nat_tests}
 use Rattle.std.proofs.lemmas.Grind.{common_steps}
 use Rattle.std.proofs.lemmas.List.Elements.{All-cons, All-head, All-nil, All-tail}
 use Rattle.std.proofs.lemmas.List.Kept.{AllPairs-cons}
-use Rattle.wc_adapters.proofs.PairLemmas.{pairs_head, pairs_none, pairs_tail}
+use Rattle.wc_maps.proofs.PairLemmas.{pairs_head, pairs_none, pairs_tail}
 use Rattle.wc_selection.specs.Keys.{NamedKey}
 
 -- some keys, under other texts
@@ -31,13 +31,3 @@ module _ (text : NamedKey → List ℕ) where
 -- a number is not one
 pub not_one : (n : ℕ) → ¬ (n ≡ 1) → (n == 1) ≡ false
 not_one n other = grind (arith, nat_tests, common_steps)
-
--- elements that pass a test are as many as those whose views do
-pub count_map : {A B : Type 0} (f : A → B) (test : B → Bool) (xs : List A) → length (filter test (map f xs)) ≡ length (filter (λ x. test (f x)) xs)
-count_map f test [] = refl
-count_map f test (x ∷ xs) = count_step (test (f x)) (count_map f test xs)
-  where
-    count_step : (b : Bool) → length (filter test (map f xs)) ≡ length (filter (λ x. test (f x)) xs)
-        → length (cond b (f x ∷ filter test (map f xs)) (filter test (map f xs))) ≡ length (cond b (x ∷ filter (λ x. test (f x)) xs) (filter (λ x. test (f x)) xs))
-    count_step true same = ap suc same
-    count_step false same = same

@@ -8,12 +8,12 @@ use Rattle.std.proofs.lemmas.Slice.Eq.{bytes_eq-Decides}
 use Rattle.wc_resolve.specs.Views.{KeyView, interface_key, plain_key}
 use Rattle.wc_resolve.specs.declared.worlds.WorldKey.{WorldKey}
 use Rattle.wc_selection.proofs.KeyNameLemmas.{not_one, texted}
-use Rattle.wc_selection.proofs.ListLemmas.{length_one, passed_more}
+use Rattle.wc_maps.proofs.ListLemmas.{length_one, passed_more}
 use Rattle.wc_selection.specs.KeyNames.{count_unversioned, index_text, keys_as_given, keys_by_index, text_as_given, text_or_index_of, unversioned}
 use Rattle.wc_selection.specs.Keys.{NamedKey, named_key, texts_of}
 use Rattle.wc_selection.specs.KeyTexts.{HasSingles, IsUnknownKey, ShortTexts, found_short, is_single, keys_found, single, text_found}
 use Rattle.wc_selection.specs.ModuleKeys.{IsKeysCause}
-use Rattle.wc_selection.specs.Texts.{HasTexts, IsFirstMissing, is_in}
+use Rattle.wc_maps.specs.Texts.{HasTexts, IsFirstMissing, is_in}
 use Rattle.wc_selection.specs.declared.fault.RequestFault.{RequestFault}
 use Rattle.wc_selection.specs.declared.fault.RequestFault.TheVariants.{UnknownKey, SeveralKeys, RepeatedKey}
 

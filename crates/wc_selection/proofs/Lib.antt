@@ -1,12 +1,9 @@
 mod FaultLemmas
 pub mod TestLemmas
-pub mod ListLemmas
 pub mod WorldLemmas
 pub mod WorldPartLemmas
 pub mod KeyListLemmas
 pub mod KeyNameLemmas
-pub mod FirstLemmas
-pub mod SetLemmas
 pub mod KeyTextLemmas
 pub mod RequiredLemmas
 pub mod TextListLemmas

@@ -16,11 +16,11 @@ use Rattle.std.proofs.lemmas.List.Sorted.{list_any-IsPermutation}
 use Rattle.std.proofs.lemmas.Map.Keys.{IsStrictlyIncreasing-dedup}
 use Rattle.wc_resolve.proofs.KeyLemmas.{nat_from, nat_to}
 use Rattle.wc_resolve.specs.declared.worlds.WorldKey.{WorldKey}
-use Rattle.wc_selection.proofs.ListLemmas.{or_step, passed_more}
+use Rattle.wc_maps.proofs.ListLemmas.{or_step, passed_more}
 use Rattle.wc_selection.specs.KeyIndex.{AreSorted, ArePositions, has_text, listed_positions, positions_from}
 use Rattle.wc_selection.specs.Keys.{NamedKey, named_key}
 use Rattle.wc_selection.specs.TextLists.{ListsMore, listed}
-use Rattle.wc_selection.specs.Texts.{is_in}
+use Rattle.wc_maps.specs.Texts.{is_in}
 
 abbrev Pair : Type 0
 Pair = WorldKey × String Global

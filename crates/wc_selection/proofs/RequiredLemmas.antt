@@ -7,12 +7,12 @@ use Rattle.std.proofs.lemmas.List.Elements.{filter-append}
 use Rattle.std.specs.Borrow.{Bor}
 use Rattle.std.specs.List.{list_any}
 use Rattle.std.specs.Str.{bytes_eq}
-use Rattle.wc_selection.proofs.ListLemmas.{passed_more}
+use Rattle.wc_maps.proofs.ListLemmas.{passed_more}
 use Rattle.wc_selection.specs.Keys.{NamedKey}
 use Rattle.wc_selection.specs.ModuleKeys.{is_pair, is_required, is_required_of_main, required_keys}
 use Rattle.wc_selection.specs.RequiredTexts.{exporter_texts, gives_keys, has_any, is_required_in, required_in, texts_or_seconds, texts_under}
 use Rattle.wc_selection.specs.Requests.{RequestValue}
-use Rattle.wc_selection.specs.Texts.{HasTexts, is_in, second_parts, text_of, text_pair}
+use Rattle.wc_maps.specs.Texts.{HasTexts, is_in, second_parts, text_of, text_pair}
 
 abbrev pub Pair : Type 0
 Pair = Bor (List ℕ) × Bor (List ℕ)

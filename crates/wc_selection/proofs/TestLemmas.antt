@@ -4,10 +4,10 @@ use Rattle.std.specs.Prelude.{string_bytes}
 use Rattle.std.specs.Borrow.{Bor}
 use Rattle.std.specs.List.{list_any}
 use Rattle.std.specs.Str.{bytes_eq}
-use Rattle.wc_resolve.proofs.ContentLemmas.{any_viewed}
+use Rattle.wc_maps.proofs.ListLemmas.{any_viewed}
 use Rattle.wc_resolve.specs.declared.worlds.WorldKey.{WorldKey}
 use Rattle.wc_selection.specs.Keys.{named_key, texts_of}
-use Rattle.wc_selection.specs.Texts.{is_in, text_of}
+use Rattle.wc_maps.specs.Texts.{is_in, text_of}
 
 -- texts, and those of keys, as bytes
 pub text_in : (texts : List (Bor (List ℕ))) (text : List ℕ) → list_any (λ t. bytes_eq t.now text) texts ≡ is_in (map text_of texts) text

@@ -1,15 +1,10 @@
 -- Worlds that are parts of others.
-use Rattle.std.proofs.Common.{◌≡◌, ◌≢◌, ◌↔◌, ◌<◌, ◌+◌, ℕ, Bool, true, false, IsTrue, List, length, map, get_or, Some, refl, sym, ap, ◌∙◌, subst, inl, inr, arith}
+use Rattle.std.proofs.Common.{◌≡◌, ◌≢◌, ◌↔◌, ◌<◌, ◌+◌, ℕ, Bool, true, false, IsTrue, List, length, Some, refl, sym, ◌∙◌, subst, inl, inr, arith}
 use Rattle.std.proofs.lemmas.Bool.Decides.{eqb_tells}
 use Rattle.std.proofs.lemmas.Option.{same_Some, slice_get_within}
 use Rattle.std.specs.List.{slice_get}
 use Rattle.wc_resolve.specs.Views.{WorldView}
-use Rattle.wc_resolve.proofs.ViewedLemmas.{view_found}
 use Rattle.wc_selection.specs.WorldParts.{HasAllParts, IsOtherPart, IsPart, IsProperPart}
-
--- the view of the element at an index
-pub viewed_at : {X Y : Type 0} (f : X → Y) (xs : List X) (i : ℕ) (x : X) → i < length xs → x ≡ get_or xs i x → slice_get (map f xs) i ≡ Some (f x)
-viewed_at f xs i x lt is = view_found f xs i x lt ∙ ap (λ z. Some (f z)) (sym is)
 
 -- of worlds below an index: the only one that has all others for parts is the one at another index
 abbrev pub FoundBelow : List WorldView → ℕ → ℕ → Type 0

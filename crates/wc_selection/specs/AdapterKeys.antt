@@ -4,7 +4,7 @@ use Rattle.wc_selection.specs.Keys.{NamedKey}
 use Rattle.wc_selection.specs.Requests.{RequestValue}
 use Rattle.wc_selection.specs.RequiredTexts.{texts_under}
 use Rattle.wc_selection.specs.TextLists.{listed}
-use Rattle.wc_selection.specs.Texts.{text_of}
+use Rattle.wc_maps.specs.Texts.{text_of}
 use Rattle.wc_selection.specs.declared.key_index.AdapterKeys.{AdapterKeys}
 
 -- the index of these keys, and the texts that a request gives adapters, under their names

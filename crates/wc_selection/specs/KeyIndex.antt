@@ -11,7 +11,7 @@ use Rattle.wc_resolve.specs.Views.{KeyView, key_view, plain_key}
 use Rattle.wc_resolve.specs.declared.worlds.WorldKey.{WorldKey}
 use Rattle.wc_selection.specs.Keys.{AreKeysApart, NamedKey}
 use Rattle.wc_selection.specs.TextLists.{listed}
-use Rattle.wc_selection.specs.Texts.{is_in}
+use Rattle.wc_maps.specs.Texts.{is_in}
 
 -- the keys that have one of these texts, in order
 abbrev pub keys_under : List (List ℕ) → List NamedKey → List KeyView

@@ -6,7 +6,7 @@ use Rattle.wc_resolve.specs.Views.{KeyView, plain_key, interface_key}
 use Rattle.wc_resolve.specs.Kinds.{ResolveView}
 use Rattle.wc_selection.specs.Keys.{NamedKey, export_keys, texts_of}
 use Rattle.wc_selection.specs.Requests.{RequestValue, given_keys}
-use Rattle.wc_selection.specs.Texts.{is_in}
+use Rattle.wc_maps.specs.Texts.{is_in}
 
 -- the code of `@`
 abbrev pub at_sign : ℕ

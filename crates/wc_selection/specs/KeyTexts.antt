@@ -5,7 +5,7 @@ use Rattle.std.specs.Map.{lookup}
 use Rattle.std.specs.Str.{bytes_eq}
 use Rattle.wc_selection.specs.KeyNames.{count_unversioned, unversioned}
 use Rattle.wc_selection.specs.Keys.{NamedKey, texts_of}
-use Rattle.wc_selection.specs.Texts.{is_in}
+use Rattle.wc_maps.specs.Texts.{is_in}
 use Rattle.wc_selection.specs.declared.fault.RequestFault.{RequestFault}
 use Rattle.wc_selection.specs.declared.fault.RequestFault.TheVariants.{UnknownKey, SeveralKeys, RepeatedKey}
 

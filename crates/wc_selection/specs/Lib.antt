@@ -1,4 +1,3 @@
-pub mod Texts
 pub mod Fault
 pub mod Worlds
 pub mod WorldParts

@@ -1,6 +1,6 @@
 -- Which keys of a world's exports a request gives, as bytes.
 use Rattle.std.specs.Prelude.{ℕ, ◌++◌, List, map, Option, Some, None}
-use Rattle.wc_selection.specs.Texts.{second_parts, text_of, text_pair}
+use Rattle.wc_maps.specs.Texts.{second_parts, text_of, text_pair}
 use Rattle.wc_selection.specs.declared.requests.KeyRequest.{KeyRequest}
 use Rattle.wc_selection.specs.declared.requests.Exporter.{Exporter}
 use Rattle.wc_selection.specs.declared.requests.Exporter.TheVariants.{Main, Adapter}

@@ -4,7 +4,7 @@ use Rattle.std.specs.Str.{bytes_eq}
 use Rattle.wc_resolve.specs.Views.{KeyView}
 use Rattle.wc_selection.specs.Keys.{NamedKey}
 use Rattle.wc_selection.specs.Requests.{RequestValue}
-use Rattle.wc_selection.specs.Texts.{is_in, second_parts}
+use Rattle.wc_maps.specs.Texts.{is_in, second_parts}
 
 -- the second of each pair that has this first one
 abbrev pub texts_under : List ℕ → List (List ℕ × List ℕ) → List (List ℕ)

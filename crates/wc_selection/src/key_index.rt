@@ -10,7 +10,7 @@ ghost use Rattle.wc_selection.specs.ModuleKeys.{required_keys};
 ghost use Rattle.wc_selection.specs.RequiredTexts.{texts_under};
 ghost use Rattle.wc_selection.specs.Requests.{RequestValue, request_value};
 ghost use Rattle.wc_selection.specs.TextLists.{ListsMore, listed};
-ghost use Rattle.wc_selection.specs.Texts.{text_of, text_pair};
+ghost use Rattle.wc_maps.specs.Texts.{text_of, text_pair};
 
 use crate::requests::KeyRequest;
 use std::alloc::{AllocError, Global};

@@ -6,13 +6,12 @@ ghost use Rattle.wc_selection.specs.KeyNames.{count_unversioned, index_or_text, 
 ghost use Rattle.wc_selection.specs.Keys.{AreKeysApart, named_key};
 ghost use Rattle.wc_selection.specs.KeyTexts.{HasSingles, is_single, keys_found, text_found};
 ghost use Rattle.wc_selection.specs.Requests.{request_value};
-ghost use Rattle.wc_selection.specs.Texts.{is_in, text_of};
+ghost use Rattle.wc_maps.specs.Texts.{is_in, text_of};
 
 use crate::keys::{export_keys, key_text_set};
 use crate::requests::{KeyRequest, given_keys};
-use crate::texts::{is_in_set, text_set};
 use std::alloc::{AllocError, Global};
-use wc_maps::{Map, Seed, Set};
+use wc_maps::{Map, Seed, Set, is_in_set, text_set};
 use wc_resolve::{Resolve, WorldId, WorldKey};
 
 /// The keys of a world's exports, in order, each with the text by which the request gives it: for the key of an interface

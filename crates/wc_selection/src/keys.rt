@@ -9,7 +9,7 @@ ghost use Rattle.wc_resolve.specs.Resolve.{key_text};
 ghost use Rattle.wc_resolve.specs.Ranges.{IsKeyIn};
 ghost use Rattle.wc_resolve.specs.Views.{world_entry};
 ghost use Rattle.wc_selection.specs.Keys.{AreKeysApart, export_keys, import_keys, named_key, named_keys, texts_of};
-ghost use Rattle.wc_selection.specs.Texts.{HasTexts, is_in, text_of};
+ghost use Rattle.wc_maps.specs.Texts.{HasTexts, is_in, text_of};
 
 use std::alloc::{AllocError, Global};
 use wc_maps::{Map, Seed, Set};

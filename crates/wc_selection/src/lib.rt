@@ -16,7 +16,6 @@ mod main_module;
 mod module_keys;
 mod requests;
 mod task_hook;
-mod texts;
 mod world_parts;
 mod worlds;
 
@@ -28,6 +27,5 @@ pub use main_module::MainModule;
 pub use module_keys::{check_keys, required_keys};
 pub use requests::{Exporter, KeyRequest};
 pub use task_hook::{no_export_is_hook, no_task_hook};
-pub use texts::{first_missing, first_repeated, has_text};
 pub use world_parts::whole_world;
 pub use worlds::{select_world, world_name};

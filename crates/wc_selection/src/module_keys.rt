@@ -8,15 +8,14 @@ ghost use Rattle.wc_selection.specs.KeyTexts.{IsUnknownKey};
 ghost use Rattle.wc_selection.specs.Requests.{exporter_name, given_keys, request_value};
 ghost use Rattle.wc_selection.specs.ModuleKeys.{AreKeysThere, IsKeysCause, required_keys};
 ghost use Rattle.wc_selection.specs.RequiredTexts.{exporter_texts, gives_keys, is_required_in, required_in, texts_under};
-ghost use Rattle.wc_selection.specs.Texts.{IsFirstMissing, second_parts, text_of, text_pair};
+ghost use Rattle.wc_maps.specs.Texts.{IsFirstMissing, second_parts, text_of, text_pair};
 
 use crate::fault::RequestFault;
 use crate::key_names::count_unversioned;
 use crate::keys::{is_export, key_text_set};
 use crate::requests::{Exporter, KeyRequest, given_keys};
-use crate::texts::{first_outside, first_repeated, is_in_set, text_set};
 use std::alloc::{AllocError, Global};
-use wc_maps::{Seed, Set};
+use wc_maps::{Seed, Set, first_outside, first_repeated, is_in_set, text_set};
 use wc_resolve::WorldKey;
 
 /// Checks the keys of a request against a world's exports: `keys`, each with the text by which the request gives it. `own`:

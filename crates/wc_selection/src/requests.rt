@@ -2,7 +2,7 @@
 
 ghost use Rattle.std.specs.Prelude.{◌≡◌, IfOk, map};
 ghost use Rattle.wc_selection.specs.Requests.{given_keys, request_value};
-ghost use Rattle.wc_selection.specs.Texts.{text_of};
+ghost use Rattle.wc_maps.specs.Texts.{text_of};
 
 use std::alloc::{AllocError, Global};
 

@@ -12,9 +12,9 @@ use Rattle.std.proofs.lemmas.List.Sums.{sum_by-cons}
 use Rattle.std.proofs.lemmas.Option.{get_or_from_slice_get, slice_get-get_or, slice_get-map, slice_get_within}
 use Rattle.std.proofs.lemmas.Slice.Eq.{bytes_eq-Decides}
 use Rattle.wc_texts.specs.Names.{first_occurrences}
-use Rattle.wc_gc.proofs.ChainLemmas.{in_filter}
-use Rattle.wc_gc.proofs.TwiceReachLemmas.{from_filter}
-use Rattle.wc_spread.specs.Positions.{IsAt}
+use Rattle.wc_graph.proofs.ListLemmas.{in_filter}
+use Rattle.wc_graph.proofs.ListLemmas.{from_filter}
+use Rattle.wc_graph.specs.Positions.{IsAt}
 use Rattle.wc_summary.specs.Leads.{Tags, count_tag, is_tag}
 use Rattle.wc_summary.specs.Private.Tags.{AreTagsAt, count_place, tag_at}
 use Rattle.wc_summary.proofs.LeadLemmas.{mapped_at}

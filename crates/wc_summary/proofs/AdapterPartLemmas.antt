@@ -14,10 +14,10 @@ use Rattle.wc_read.specs.Items.{FuncValue, func_value}
 use Rattle.wc_read.specs.declared.items.Item.{Item}
 use Rattle.wc_read.specs.Modules.{ModuleValue, module_value}
 use Rattle.wc_read.specs.declared.operators.Space.TheVariants.{Funcs}
-use Rattle.wc_write.specs.BuiltValues.{item_seen}
+use Rattle.wc_read.specs.Items.{item_seen}
 use Rattle.wc_read.specs.BodyOperators.{body_in}
 use Rattle.wc_read.specs.declared.core_module.Module.{Module}
-use Rattle.wc_gc.specs.Decoded.{decode, decoded_module, is_in}
+use Rattle.wc_read.specs.Decoded.{decode, decoded_module, is_in}
 use Rattle.wc_segments.specs.Data.{DataValue, data_value}
 use Rattle.wc_segments.specs.Elements.{ElementValue, element_value}
 use Rattle.wc_segments.specs.Segments.{SegmentsValue, segments_value}
@@ -25,16 +25,16 @@ use Rattle.wc_segments.specs.declared.data.DataSegment.{DataSegment}
 use Rattle.wc_segments.specs.declared.elements.ElementSegment.{ElementSegment}
 use Rattle.wc_segments.specs.declared.segments.Segments.{Segments}
 use Rattle.wc_gc.specs.LiveChains.{item_named}
-use Rattle.wc_gc.proofs.LiveItemLemmas.{contains_mapped}
+use Rattle.wc_graph.proofs.ListLemmas.{contains_mapped}
 use Rattle.wc_gc.proofs.RootLemmas.{in_option}
 use Rattle.wc_paths.specs.Items.{CountsValue, GraphValue, counts_of, graph_of, has_item, space_item}
 use Rattle.wc_paths.specs.Numbers.{item_count, number_of, numbers_in}
 use Rattle.wc_paths.specs.declared.items.PathItem.{PathItem}
 use Rattle.wc_paths.proofs.NumbersLemmas.{number_below}
 use Rattle.wc_paths.proofs.PathLemmas.{graph_is}
-use Rattle.wc_spread.specs.Alone.{AreAlone, AreCounted}
-use Rattle.wc_spread.specs.Leads.{AreLeads, Leads as LeadsTo}
-use Rattle.wc_spread.specs.Positions.{AreAscending, AreBelow, sets_view}
+use Rattle.wc_graph.specs.Alone.{AreAlone, AreCounted}
+use Rattle.wc_graph.specs.Leads.{AreLeads, Leads as LeadsTo}
+use Rattle.wc_graph.specs.Positions.{AreAscending, AreBelow, sets_view}
 use Rattle.wc_summary.specs.Notes.{NotesAdapterModule}
 use Rattle.wc_summary.specs.Parts.{AdapterValue, IsAdapterPartOf}
 use Rattle.wc_summary.specs.Leads.{IsGone, as_number, found_in, named_in, own_bodies, own_body, sized_body, source_by}

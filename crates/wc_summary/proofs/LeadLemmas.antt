@@ -9,18 +9,18 @@ use Rattle.wc_read.specs.Imports.{ImportValue}
 use Rattle.wc_read.specs.Modules.{ModuleValue}
 use Rattle.wc_read.specs.declared.operators.Space.{Space}
 use Rattle.wc_read.specs.declared.operators.Space.TheVariants.{Types, Funcs, Tables, Memories, Globals}
-use Rattle.wc_gc.specs.Decoded.{DecodedModule, ItemIndex, decode, is_in, size_of}
-use Rattle.wc_gc.specs.Entries.{entry_at, entry_refs, no_entry, present, refs_in}
+use Rattle.wc_read.specs.Decoded.{DecodedModule, ItemIndex, decode, is_in, size_of}
+use Rattle.wc_read.specs.Entries.{entry_at, entry_refs, no_entry, present, refs_in}
 use Rattle.wc_gc.specs.LiveChains.{item_named}
-use Rattle.wc_gc.specs.Reached.{IsPath}
+use Rattle.wc_graph.specs.Reached.{IsPath}
 use Rattle.wc_paths.specs.Items.{CountsValue, counts_of, has_item, space_item}
 use Rattle.wc_paths.specs.Numbers.{item_at, numbers_in}
 use Rattle.wc_paths.specs.declared.items.PathItem.{PathItem}
 use Rattle.wc_paths.specs.declared.items.PathItem.TheVariants.{Item, Elements, Data}
 use Rattle.wc_paths.proofs.NumbersLemmas.{item_back}
-use Rattle.wc_spread.specs.Alone.{IsAlone}
-use Rattle.wc_spread.specs.Leads.{HasPath, Leads as LeadsTo}
-use Rattle.wc_spread.specs.Positions.{AreAscending, IsAt}
+use Rattle.wc_graph.specs.Alone.{IsAlone}
+use Rattle.wc_graph.specs.Leads.{HasPath, Leads as LeadsTo}
+use Rattle.wc_graph.specs.Positions.{AreAscending, IsAt}
 use Rattle.wc_summary.specs.Leads.{IsGone, Leads, LeadsAt, Reaches, Tags, as_number, import_index}
 use Rattle.wc_summary.specs.Private.Leads.{source_in}
 use Rattle.wc_summary.proofs.NoSegmentLemmas.{graph_without, there_in}

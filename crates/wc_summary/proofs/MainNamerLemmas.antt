@@ -16,9 +16,9 @@ use Rattle.wc_read.specs.Imports.{ImportValue}
 use Rattle.wc_read.specs.Modules.{ModuleValue}
 use Rattle.wc_segments.specs.Segments.{SegmentsValue}
 use Rattle.wc_read.specs.declared.operators.Space.TheVariants.{Funcs}
-use Rattle.wc_gc.proofs.LiveItemLemmas.{contains_mapped}
-use Rattle.wc_gc.proofs.ChainLemmas.{contains_unmapped, in_filter}
-use Rattle.wc_gc.proofs.TwiceReachLemmas.{from_filter}
+use Rattle.wc_graph.proofs.ListLemmas.{contains_mapped}
+use Rattle.wc_graph.proofs.ListLemmas.{contains_unmapped, in_filter}
+use Rattle.wc_graph.proofs.ListLemmas.{from_filter}
 use Rattle.wc_paths.specs.Items.{CountsValue, GraphValue, counts_of, graph_of, has_item, names_in}
 use Rattle.wc_paths.specs.Numbers.{item_at, number_of, numbers_of, present}
 use Rattle.wc_paths.specs.Paths.{IsReachedIn, IsReachedInAny}
@@ -28,8 +28,8 @@ use Rattle.wc_paths.specs.declared.items.PathItem.TheVariants.{Item}
 use Rattle.wc_paths.proofs.CallerLemmas.{any_found}
 use Rattle.wc_paths.proofs.NumbersLemmas.{item_back}
 use Rattle.wc_paths.proofs.PathLemmas.{IsThere, item_reached, named_there, number_reached, reached_there}
-use Rattle.wc_spread.specs.Labels.{HasLabel}
-use Rattle.wc_spread.specs.Positions.{AreAscending, AreBelow, IsAt}
+use Rattle.wc_graph.specs.Labels.{HasLabel}
+use Rattle.wc_graph.specs.Positions.{AreAscending, AreBelow, IsAt}
 use Rattle.wc_summary.specs.Leads.{AreReached, as_number, is_root, is_tag}
 use Rattle.wc_summary.specs.Entries.{EntriesView, interfaces_of}
 use Rattle.wc_summary.specs.Private.SummaryMain.{AreOwnersOf, IsNamerBy, NamesBy, NotesNamers, NotesOf, function_number, is_named, is_namer, is_reached_at, named_at}

@@ -15,13 +15,13 @@ use Rattle.std.proofs.lemmas.Option.{slice_get-get_or}
 use Rattle.std.specs.Int.{bit_at}
 use Rattle.std.proofs.lemmas.Bool.Decides.{eqb_tells}
 use Rattle.std.proofs.lemmas.List.{get_or-replicate, get_or-set_other, get_or-set_same, get_or_past, length-replicate}
-use Rattle.wc_dedupe.proofs.NamePositionLemmas.{slice_get_last}
+use Rattle.wc_maps.proofs.ListLemmas.{slice_get_last}
 use Rattle.wc_paths.proofs.CallListLemmas.{nat_eq_same}
 use Rattle.wc_paths.specs.Items.{CountsValue, GraphValue, counts_of, has_item}
 use Rattle.wc_paths.specs.Numbers.{item_count, number_of, numbers_in}
 use Rattle.wc_paths.specs.declared.items.PathItem.{PathItem}
 use Rattle.wc_paths.proofs.NumbersLemmas.{number_below}
-use Rattle.wc_spread.specs.Labels.{HasLabel, IsSpread}
+use Rattle.wc_graph.specs.Labels.{HasLabel, IsSpread}
 use Rattle.wc_summary.specs.Leads.{AreReached, is_root, is_tag}
 use Rattle.wc_summary.specs.Summary.{PartsView}
 use Rattle.wc_summary.specs.Entries.{EntriesView, IsChanged, interfaces_of, parts_of}

@@ -15,8 +15,8 @@ use Rattle.wc_read.specs.declared.operators.IndexKind.TheVariants.{In, Elem, Dat
 use Rattle.wc_read.specs.declared.operators.Space.{Space}
 use Rattle.wc_read.specs.declared.operators.Space.TheVariants.{Types, Funcs, Tables, Memories, Globals}
 use Rattle.wc_read.specs.declared.types.GlobalType.{GlobalType}
-use Rattle.wc_gc.specs.Decoded.{ItemIndex, decode, is_in}
-use Rattle.wc_gc.specs.Entries.{Entry, no_entry, type_entry, func_entry, table_entry, memory_entry, global_entry, body_refs, code_refs, entry_at, entry_refs, func_type_refs, init_refs, instr_refs, present, refs_in, refs_list, type_items, val_type_refs}
+use Rattle.wc_read.specs.Decoded.{ItemIndex, decode, is_in}
+use Rattle.wc_read.specs.Entries.{Entry, no_entry, type_entry, func_entry, table_entry, memory_entry, global_entry, body_refs, code_refs, entry_at, entry_refs, func_type_refs, init_refs, instr_refs, present, refs_in, refs_list, type_items, val_type_refs}
 use Rattle.wc_segments.specs.Segments.{SegmentsValue}
 use Rattle.wc_paths.specs.Items.{GraphValue, body_items, code_items, counts_of, entry_items, expression_items, graph_of, has_item, index_items, kind_item, names_in, operator_items, space_item, space_items}
 use Rattle.wc_paths.specs.declared.items.PathItem.{PathItem}

@@ -7,8 +7,8 @@ use Rattle.std.specs.List.{slice_get}
 use Rattle.std.proofs.lemmas.List.Elements.{filter_agree}
 use Rattle.std.proofs.lemmas.Option.{slice_get_within}
 use Rattle.wc_read.specs.Modules.{ModuleValue}
-use Rattle.wc_spread.specs.Positions.{sets_view}
-use Rattle.wc_spread.specs.declared.alone.Alone.{Alone}
+use Rattle.wc_graph.specs.Positions.{sets_view}
+use Rattle.wc_graph.specs.declared.alone.Alone.{Alone}
 use Rattle.wc_summary.specs.Parts.{AdapterValue, IsAdapterPartOf, library_part}
 use Rattle.wc_summary.specs.Leads.{Tags, count_tag, found_in, named_in, names_at}
 use Rattle.wc_summary.specs.Summary.{AdapterPartView, PartsView}

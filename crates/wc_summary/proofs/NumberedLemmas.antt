@@ -3,16 +3,16 @@ use Rattle.std.proofs.Common.{◌≡◌, ℕ, ◌<◌, true, List, [], ◌∷◌
 use Rattle.std.specs.Prelude.{Contains}
 use Rattle.std.proofs.lemmas.List.{get_or-map, get_or_default, length-map}
 use Rattle.wc_read.specs.Modules.{ModuleValue}
-use Rattle.wc_gc.specs.Decoded.{ItemIndex, decode, is_in}
-use Rattle.wc_gc.specs.Entries.{refs_in}
-use Rattle.wc_gc.specs.Reached.{IsPath}
+use Rattle.wc_read.specs.Decoded.{ItemIndex, decode, is_in}
+use Rattle.wc_read.specs.Entries.{refs_in}
+use Rattle.wc_graph.specs.Reached.{IsPath}
 use Rattle.wc_paths.specs.Items.{counts_of, names_in, space_item, space_items}
 use Rattle.wc_paths.specs.Numbers.{item_at, number_of, numbers_in}
 use Rattle.wc_paths.specs.declared.items.PathItem.{PathItem}
-use Rattle.wc_paths.proofs.NumberingLemmas.{path_numbers, path_things}
+use Rattle.wc_graph.proofs.NumberingLemmas.{path_numbers, path_things}
 use Rattle.wc_paths.proofs.NumbersLemmas.{item_back}
 use Rattle.wc_paths.proofs.PathLemmas.{IsThere, named_there}
-use Rattle.wc_spread.specs.Leads.{HasPath}
+use Rattle.wc_graph.specs.Leads.{HasPath}
 use Rattle.wc_summary.proofs.NoSegmentLemmas.{graph_without, names_without, there_in}
 
 -- what is in a list of items of spaces

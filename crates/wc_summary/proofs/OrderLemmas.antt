@@ -9,8 +9,8 @@ use Rattle.std.proofs.lemmas.Bool.{cases_Bool}
 use Rattle.std.specs.declared.cmp.Ordering.TheVariants.{Equal, Greater}
 use Rattle.std.proofs.lemmas.Cmp.{nat_cmp_total, on_total, then_total, tied_itself}
 use Rattle.std.proofs.lemmas.Map.Keys.{ge_from_not_lt}
-use Rattle.wc_adapters.proofs.PairLemmas.{pairs_head, pairs_none, pairs_tail}
-use Rattle.wc_resolve.proofs.KeyLemmas.{nat_from}
+use Rattle.wc_maps.proofs.PairLemmas.{pairs_head, pairs_none, pairs_tail}
+use Rattle.std.proofs.lemmas.Bool.{eqb-true}
 use Rattle.std.proofs.lemmas.List.Elements.{All-cons, All-head, All-map, All-tail}
 use Rattle.std.proofs.lemmas.List.Kept.{AllPairs-cons, AllPairs-filter}
 use Rattle.std.proofs.lemmas.List.MinMax.{ranks_by}
@@ -104,7 +104,7 @@ rank_lower : (a b : ℕ × ℕ) → is_lt (ranks_cmp a b) ≡ true → IsRankedB
 rank_lower a b h = elim (cases_Bool (nat_lt a.0 b.0)) [
   | inl on ↦ inl (ltb-true a.0 b.0 on)
   | inr off ↦ elim (cases_Bool (a.0 == b.0)) [
-    | inl same ↦ inr (nat_from a.0 b.0 same, nat_lower a.1 b.1 (rw (off, same) at h))
+    | inl same ↦ inr (eqb-true a.0 b.0 same, nat_lower a.1 b.1 (rw (off, same) at h))
     | inr other ↦ absurd (true≢false (sym (rw (off, other) at h)))
   ]
 ]

@@ -23,15 +23,15 @@ use Rattle.wc_read.specs.declared.types.ImportType.{ImportType}
 use Rattle.wc_read.specs.declared.types.ImportType.TheVariants.{Func, Table, Memory, Global as global_import}
 use Rattle.wc_gc.specs.LiveChains.{item_named}
 use Rattle.wc_gc.specs.LiveItems.{names_of}
-use Rattle.wc_gc.specs.RestrictionLaws.{is_in_space}
-use Rattle.wc_gc.proofs.KeptItemLemmas.{get_some}
-use Rattle.wc_gc.proofs.RankLemmas.{range_more}
+use Rattle.wc_read.specs.ImportItems.{is_in_space}
+use Rattle.wc_graph.proofs.ListLemmas.{get_some}
+use Rattle.wc_graph.proofs.ListLemmas.{range_more}
 use Rattle.wc_paths.specs.Items.{CountsValue, has_item, space_item}
 use Rattle.wc_paths.specs.Numbers.{item_at, number_of}
 use Rattle.wc_paths.specs.Roots.{AreImportItems, export_item, import_item, import_space}
 use Rattle.wc_paths.specs.declared.items.PathItem.{PathItem}
 use Rattle.wc_paths.proofs.NumbersLemmas.{item_back}
-use Rattle.wc_spread.specs.Positions.{IsAt}
+use Rattle.wc_graph.specs.Positions.{IsAt}
 use Rattle.wc_summary.specs.Leads.{as_number, own_body, sized_body}
 use Rattle.wc_summary.specs.Private.Leads.{AddsNamed, HasNamed, IsOwned, Named, is_name, sized_in}
 use Rattle.wc_summary.proofs.UseLemmas.{one_listed}

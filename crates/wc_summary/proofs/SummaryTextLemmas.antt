@@ -14,7 +14,7 @@ use Rattle.json.specs.Json.{Json, string}
 use Rattle.json.specs.Token.{Token, begin_array, end_array, key}
 use Rattle.json.specs.Tree.{json_tokens}
 use Rattle.json.specs.Written.{Written}
-use Rattle.wc_json.specs.Shapes.{array_of}
+use Rattle.wc_texts.specs.Shapes.{array_of}
 use Rattle.wc_why.specs.JsonPaths.{text_or_null}
 use Rattle.wc_why.specs.Paths.{name_in, text_of}
 use Rattle.wc_why.specs.Private.Tokens.{Puts}

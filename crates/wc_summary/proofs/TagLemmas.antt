@@ -10,8 +10,8 @@ use Rattle.std.proofs.lemmas.List.Elements.{filter_map-append}
 use Rattle.std.proofs.lemmas.List.Sums.{count_by-le-length, count_by_more_no, count_by_more_yes}
 use Rattle.std.proofs.lemmas.Option.{slice_get-get_or, slice_get_within}
 use Rattle.wc_texts.specs.Names.{first_occurrences}
-use Rattle.wc_spread.specs.Positions.{AreBelow}
-use Rattle.wc_paths.proofs.ChainTreeLemmas.{push_cases}
+use Rattle.wc_graph.specs.Positions.{AreBelow}
+use Rattle.wc_graph.proofs.ChainTreeLemmas.{push_cases}
 use Rattle.wc_summary.specs.Leads.{Tags, named_in, tag_view, tags_view}
 use Rattle.wc_summary.specs.Entries.{EntriesView, IsPlace, Lists, interfaces_of}
 use Rattle.wc_summary.specs.Private.Tags.{AreListed, AreTagsPlaced, IsCounted, IsTagPlaced, count_place, tag_at}

@@ -14,8 +14,8 @@ use Rattle.std.proofs.lemmas.Slice.Eq.{bytes_eq-Decides}
 use Rattle.wc_summary.specs.Summary.{AdapterPartView, PartsView}
 use Rattle.wc_summary.specs.Entries.{EntriesView, IsChanged, IsPlace, Lists, parts_of}
 use Rattle.wc_summary.specs.Private.Entries.{with_part}
-use Rattle.wc_resolve.proofs.LookupLemmas.{name_viewed}
-use Rattle.wc_resolve.specs.Views.{named_view}
+use Rattle.wc_maps.proofs.LookupLemmas.{name_viewed}
+use Rattle.wc_texts.specs.Names.{named_view}
 use Rattle.wc_summary.specs.Private.Uses.{ArePushed, IsPushed}
 use Rattle.wc_summary.proofs.TagLemmas.{lists_more, lists_none}
 

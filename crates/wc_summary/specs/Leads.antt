@@ -10,16 +10,16 @@ use Rattle.wc_read.specs.Imports.{ImportValue}
 use Rattle.wc_read.specs.Items.{FuncValue, imported, local}
 use Rattle.wc_read.specs.Modules.{ModuleValue}
 use Rattle.wc_read.specs.declared.operators.Space.TheVariants.{Funcs}
-use Rattle.wc_gc.specs.Decoded.{ItemIndex, decode, is_in}
-use Rattle.wc_gc.specs.Entries.{refs_in}
+use Rattle.wc_read.specs.Decoded.{ItemIndex, decode, is_in}
+use Rattle.wc_read.specs.Entries.{refs_in}
 use Rattle.wc_gc.specs.LiveChains.{item_named}
-use Rattle.wc_gc.specs.Reached.{IsPath}
-use Rattle.wc_gc.specs.RestrictionLaws.{is_in_space}
+use Rattle.wc_graph.specs.Reached.{IsPath}
+use Rattle.wc_read.specs.ImportItems.{is_in_space}
 use Rattle.wc_paths.specs.Items.{CountsValue, GraphValue, counts_of, has_item, space_item}
 use Rattle.wc_paths.specs.Numbers.{item_count, number_of, numbers_in}
 use Rattle.wc_paths.specs.Roots.{import_space}
 use Rattle.wc_paths.specs.declared.items.PathItem.{PathItem}
-use Rattle.wc_spread.specs.Labels.{HasLabel}
+use Rattle.wc_graph.specs.Labels.{HasLabel}
 
 -- of each import the interface to which it belongs, if there is one
 abbrev pub Tags : Type 0

@@ -7,15 +7,15 @@ use Rattle.std.specs.Str.{bytes_eq}
 use Rattle.wc_read.specs.Imports.{ImportValue}
 use Rattle.wc_read.specs.Modules.{ModuleValue, module_value}
 use Rattle.wc_read.specs.declared.operators.Space.TheVariants.{Funcs}
-use Rattle.wc_resolve.specs.Views.{named_view}
+use Rattle.wc_texts.specs.Names.{named_view}
 use Rattle.wc_gc.specs.LiveItems.{names_of}
 use Rattle.wc_segments.specs.Segments.{SegmentsValue}
 use Rattle.wc_paths.specs.Items.{graph_of, names_in}
 use Rattle.wc_paths.specs.Paths.{IsReachedInAny}
 use Rattle.wc_paths.specs.Roots.{first_roots, import_item, second_roots}
 use Rattle.wc_paths.specs.declared.items.PathItem.TheVariants.{Item}
-use Rattle.wc_spread.specs.Alone.{ArePicked}
-use Rattle.wc_spread.specs.Positions.{AreAscending}
+use Rattle.wc_graph.specs.Alone.{ArePicked}
+use Rattle.wc_graph.specs.Positions.{AreAscending}
 use Rattle.wc_summary.specs.Leads.{IsGone, LeadsAt, Tags, count_tag, named_in, names_at, own_bodies, tags_view}
 use Rattle.wc_summary.specs.Summary.{AdapterPartView, MainPartView}
 use Rattle.wc_summary.specs.declared.summary_adapters.AdapterImports.{AdapterImports}

@@ -1,7 +1,7 @@
 -- What a component imports of each interface, as JSON.
 use Rattle.std.specs.Prelude.{ℕ, nat_lt, List, [], ◌∷◌, ◌++◌, map, cond, codes, None}
 use Rattle.json.specs.Json.{Json, string}
-use Rattle.wc_json.specs.Shapes.{array_of, number_json, object_of}
+use Rattle.wc_texts.specs.Shapes.{array_of, number_json, object_of}
 use Rattle.wc_read.specs.Names.{GlobalNameValue}
 use Rattle.wc_read.specs.declared.operators.Space.TheVariants.{Funcs}
 use Rattle.wc_why.specs.JsonPaths.{text_or_null}

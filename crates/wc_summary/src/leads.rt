@@ -14,10 +14,9 @@ ghost use Rattle.wc_summary.specs.Private.SummaryMain.{AreOwnersOf};
 ghost use Rattle.wc_summary.specs.Private.Leads.{AddsNamed, HasNamed, IsOwned, sized_in};
 
 use std::alloc::{AllocError, Global};
+use wc_graph::Graph;
 use wc_maps::{Map, Seed, Set};
-use wc_paths::{
-    Counts, Graph, ModuleGraph, PathItem, export_item, has_item, import_items, number_of,
-};
+use wc_paths::{Counts, ModuleGraph, PathItem, export_item, has_item, import_items, number_of};
 use wc_read::{Def, Export, Func, Import, Space};
 
 /// Of each item the place that its import has, if it is an import.

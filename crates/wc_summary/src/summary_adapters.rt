@@ -4,7 +4,7 @@ ghost use Rattle.std.specs.Prelude.{◌≡◌, IfOk, OnOk, length};
 ghost use Rattle.wc_gc.specs.LiveItems.{names_of};
 ghost use Rattle.wc_paths.specs.Graph.{graph_value};
 ghost use Rattle.wc_read.specs.Modules.{module_value};
-ghost use Rattle.wc_spread.specs.Positions.{AreBelow};
+ghost use Rattle.wc_graph.specs.Positions.{AreBelow};
 ghost use Rattle.wc_summary.specs.Entries.{entries_view};
 ghost use Rattle.wc_summary.specs.Leads.{tags_view};
 ghost use Rattle.wc_summary.specs.Notes.{NotesAdapterModule, NotesLibraryModule};
@@ -16,11 +16,11 @@ use crate::summary::Entries;
 use crate::tags::{counts_of, place_tags};
 use crate::uses::{Required, Uses, push_uses};
 use std::alloc::{AllocError, Global};
+use wc_graph::{leading, reached_alone};
 use wc_maps::{Map, Set};
 use wc_paths::ModuleGraph;
 use wc_read::Module;
 use wc_segments::Segments;
-use wc_spread::{leading, reached_alone};
 
 /// An adapter that is trimmed, as it is before.
 #[derive(Drop)]
@@ -40,7 +40,7 @@ pub struct AdapterImports<'a, 'm, 'c, T> {
 /// An export leads to an import that a path leads to from its item; a function is live that a path leads to from the item of a
 /// required export. Interfaces that weren't listed are listed last, in the order of the imports.
 ///
-/// It takes time linear in the module for each 64 interfaces and each 64 required exports (`wc_spread::spread`).
+/// It takes time linear in the module for each 64 interfaces and each 64 required exports (`wc_graph::spread`).
 ///
 /// # Errors
 ///

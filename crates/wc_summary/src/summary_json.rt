@@ -7,7 +7,7 @@ ghost use Rattle.json.specs.Lex.{tokens};
 ghost use Rattle.json.specs.Print.{print};
 ghost use Rattle.json.specs.Token.{key};
 ghost use Rattle.json.specs.Tree.{json_tokens};
-ghost use Rattle.wc_json.specs.Shapes.{array_of};
+ghost use Rattle.wc_texts.specs.Shapes.{array_of};
 ghost use Rattle.wc_read.specs.Names.{name_entries};
 ghost use Rattle.wc_why.specs.Private.Tokens.{Puts};
 ghost use Rattle.wc_summary.specs.Summary.{entry_view, main_view, part_view, parts_view};

@@ -9,7 +9,7 @@ ghost use Rattle.wc_paths.specs.Numbers.{item_count};
 ghost use Rattle.wc_paths.specs.Roots.{first_roots, second_roots};
 ghost use Rattle.wc_read.specs.Modules.{module_value};
 ghost use Rattle.wc_segments.specs.Segments.{segments_value};
-ghost use Rattle.wc_spread.specs.Positions.{AreBelow};
+ghost use Rattle.wc_graph.specs.Positions.{AreBelow};
 ghost use Rattle.wc_summary.specs.Entries.{entries_view, interfaces_of};
 ghost use Rattle.wc_summary.specs.Leads.{AreReached, tags_view};
 ghost use Rattle.wc_summary.specs.Notes.{NotesMainModule};
@@ -20,12 +20,10 @@ use crate::leads::owners_of;
 use crate::summary::Entries;
 use crate::tags::place_tags;
 use std::alloc::{AllocError, Global};
-use wc_paths::{
-    Counts, Graph, ModuleGraph, PathItem, first_roots, has_item, number_of, second_roots,
-};
+use wc_graph::{Graph, spread};
+use wc_paths::{Counts, ModuleGraph, PathItem, first_roots, has_item, number_of, second_roots};
 use wc_read::{Module, Space};
 use wc_segments::Segments;
-use wc_spread::spread;
 
 /// Notes what the main module imports: of each interface how many imports are of it, and the functions that are reached and
 /// name one, by their indices. `tags` has of each import, in order, the interface to which it belongs, if there is one.

@@ -1,7 +1,7 @@
 //! The places of interfaces to which imports belong, among others.
 
 ghost use Rattle.std.specs.Prelude.{◌≡◌, ◌<◌, ◌-◌, ◌^◌, ℕ, IfOk, length, slice_index};
-ghost use Rattle.wc_spread.specs.Positions.{AreBelow};
+ghost use Rattle.wc_graph.specs.Positions.{AreBelow};
 ghost use Rattle.wc_summary.specs.Entries.{entries_view};
 ghost use Rattle.wc_summary.specs.Leads.{tag_view, tags_view};
 ghost use Rattle.wc_summary.specs.Private.Tags.{ArePlacesCounted, AreTagsPlaced, IsCounted, IsTagPlaced};

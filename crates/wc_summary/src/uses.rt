@@ -12,8 +12,8 @@ ghost use Rattle.wc_summary.specs.Private.Uses.{ArePushed, IsPushed, alone_at, e
 use crate::entries::{place_of, push_part};
 use crate::summary::{AdapterPart, Entries};
 use std::alloc::{AllocError, Global};
+use wc_graph::Alone;
 use wc_maps::{Map, Set};
-use wc_spread::Alone;
 
 /// The exports of an adapter for which it is trimmed.
 #[derive(Drop)]

@@ -2,16 +2,16 @@
 #![tactic(auto)]
 
 mod answers;
-mod call_example;
+mod encoder_calls;
+mod encoders;
+mod examples;
+mod export_calls;
 mod fault_lists;
-mod library_calls;
-mod path_calls;
+mod module_calls;
+mod parse_calls;
+mod plan_calls;
 mod program;
-mod program_runs;
-mod segment_calls;
-mod wcplan_calls;
-mod wctrim_calls;
-mod wcwhy_calls;
+mod world_calls;
 
 use std::process::ExitCode;
 

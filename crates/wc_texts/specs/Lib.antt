@@ -1,3 +1,5 @@
+pub mod Characters
+pub mod Escape
 pub mod FaultNumbers
 pub mod FaultTexts
 pub mod Finds
@@ -6,4 +8,6 @@ pub mod PieceLaws
 pub mod Pieces
 pub mod Prefixes
 pub mod Puts
+pub mod Shapes
 pub mod Sink
+pub mod Splits

@@ -1,16 +1,18 @@
 //! Texts, below all that reads or writes modules: where they go (`Sink`, `Pieces`), those of faults (`FaultText`), what a
-//! fault is about (`Refused`), and prefixes.
+//! fault is about (`Refused`), prefixes, and texts from outside, escaped (`escaped`).
 //!
 //! A `Sink` takes bytes of output until a write fails, and none from then on. A fault puts its text piece by piece, to a
 //! sink or to a formatter, so its crate says it once.
 #![tactic(auto)]
 
+mod escape;
 mod fault_text;
 mod pieces;
 mod prefixes;
 mod refused;
 mod sink;
 
+pub use escape::{escaped, quoted};
 pub use fault_text::{
     CARRIED, FaultText, OUT_OF_MEMORY, put_about, put_carried, put_quoted, show, text_of,
 };

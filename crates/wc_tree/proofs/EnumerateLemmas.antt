@@ -5,7 +5,7 @@ use Rattle.std.proofs.lemmas.Grind.{flat_map-append}
 use Rattle.std.proofs.lemmas.List.{map-append, take_all, take_more}
 use Rattle.std.proofs.lemmas.List.FromFn.{get_or-enumerate_from, length-enumerate_from}
 use Rattle.std.proofs.lemmas.Option.{get_or_from_slice_get, slice_get_within}
-use Rattle.wc_resolve.proofs.ViewedLemmas.{view_found}
+use Rattle.wc_maps.proofs.ListLemmas.{view_found}
 
 module _ {V : Type 0} (ys : List V) where
   numbered_more : (i : ℕ) (y : V) → slice_get ys i ≡ Some y → take (i + 1) (enumerate_from 0 ys) ≡ take i (enumerate_from 0 ys) ++ (i, y) ∷ []

@@ -4,3 +4,9 @@ pub mod EnumerateLemmas
 pub mod GroupLemmas
 pub mod RunLemmas
 pub mod ShortNameLemmas
+pub mod ListLemmas
+pub mod WalkLemmas
+pub mod EachLemmas
+pub mod WaysTreeLemmas
+pub mod FoundLemmas
+pub mod MainTreeLemmas

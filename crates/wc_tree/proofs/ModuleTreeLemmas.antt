@@ -8,7 +8,7 @@ use Rattle.std.specs.Prelude.{drop}
 use Rattle.std.proofs.lemmas.Bool.{cases_lt}
 use Rattle.std.proofs.lemmas.List.{drop_all, drop_more, get_or-map, get_or_past, length-map, length_push, map-append, same_lists}
 use Rattle.std.proofs.lemmas.Option.{get_or_from_slice_get, same_Some, slice_get-get_or, slice_get-map, slice_get_within}
-use Rattle.wc_gc.proofs.TypedGlobalLemmas.{get_front}
+use Rattle.wc_graph.proofs.ListLemmas.{get_front}
 use Rattle.wc_read.specs.Names.{GlobalNameValue, name_entries}
 use Rattle.wc_paths.specs.Callers.{Calling, calling_of}
 use Rattle.wc_segments.specs.Segments.{segments_value}
@@ -18,7 +18,7 @@ use Rattle.wc_paths.specs.PathTree.{AreUsedInOrder, IsPathTo, IsPathTree, IsRead
 use Rattle.wc_paths.specs.declared.items.PathItem.{PathItem}
 use Rattle.wc_paths.specs.declared.items.PathItem.TheVariants.{Item, Elements, Data}
 use Rattle.wc_paths.specs.declared.path_tree.PathTree.{PathTree}
-use Rattle.wc_paths.proofs.ChainTreeLemmas.{push_cases}
+use Rattle.wc_graph.proofs.ChainTreeLemmas.{push_cases}
 use Rattle.wc_why.specs.MarkedPaths.{marking_of}
 use Rattle.wc_why.specs.Paths.{CalledByView, begun as begun_step, called_by, callers_after, path_step, path_steps}
 use Rattle.wc_tree.specs.ModuleTree.{IsBegun, IsInPathOrder, IsModuleTree, IsReadTo, IsUnreached, IsWayTo, ShownView, begins, called_next, called_of, caller_of, goes_on, item_name, items_in, shown_item, shown_view, step_by, tree_steps, ways_of, ways_one}

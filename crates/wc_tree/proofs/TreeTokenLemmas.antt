@@ -5,12 +5,11 @@ use Rattle.json.specs.Json.{Json}
 use Rattle.json.specs.Token.{Token}
 use Rattle.json.specs.Tree.{members_tokens}
 use Rattle.json.specs.Written.{Written}
-use Rattle.wc_json.specs.Shapes.{members_of}
+use Rattle.wc_texts.specs.Shapes.{members_of, array_of}
 use Rattle.wc_why.specs.Private.Tokens.{Puts}
 use Rattle.wc_why.proofs.TokenLemmas.{then}
 use Rattle.json.specs.Token.{key}
 use Rattle.json.specs.Tree.{json_tokens}
-use Rattle.wc_json.specs.Shapes.{array_of}
 use Rattle.wc_tree.specs.Tree.{tree_caller_view, tree_item_view}
 use Rattle.wc_tree.specs.TreeJson.{item_json, only_members, only_tokens, shown_callers}
 use Rattle.wc_tree.specs.declared.tree.Callers.{Callers}

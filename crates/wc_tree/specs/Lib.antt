@@ -6,3 +6,9 @@ pub mod Groups
 pub mod ShortNames
 pub mod TreeGraph
 pub mod ModuleItems
+pub mod Said
+pub mod Keys
+pub mod WaysTree
+pub mod Found
+pub mod FoundItems
+pub mod FoundTree

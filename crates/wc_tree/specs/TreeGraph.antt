@@ -2,7 +2,7 @@
 use Rattle.std.specs.Prelude.{ℕ, ◌+◌, ◌-◌, Bool, true, false, nat_eq, List, [], ◌++◌, codes, cond, decimal, length, take, Option, Some, None}
 use Rattle.std.specs.List.{enumerate_from, flat_map, slice_get}
 use Rattle.std.specs.Option.{option_map, option_map_or}
-use Rattle.wc_json.specs.Escape.{escaped}
+use Rattle.wc_texts.specs.Escape.{escaped}
 use Rattle.wc_read.specs.declared.operators.Space.{Space}
 use Rattle.wc_read.specs.declared.operators.Space.TheVariants.{Funcs}
 use Rattle.wc_paths.specs.PathRoots.{RootView, by_export, by_start, by_table, by_memory}

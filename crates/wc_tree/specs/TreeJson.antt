@@ -2,7 +2,7 @@
 use Rattle.std.specs.Prelude.{ℕ, Bool, List, [], ◌∷◌, ◌++◌, codes, decimal, drop, map, take, Option, Some, None}
 use Rattle.json.specs.Json.{Json, boolean as boolean_json, null, string}
 use Rattle.json.specs.Token.{Token, boolean, end_object, key}
-use Rattle.wc_json.specs.Shapes.{Field, array_of, nullable_json, number_json, object_of}
+use Rattle.wc_texts.specs.Shapes.{Field, array_of, nullable_json, number_json, object_of}
 use Rattle.wc_paths.specs.PathRoots.{RootView, by_export, by_start, by_table, by_memory}
 use Rattle.wc_paths.specs.declared.items.PathItem.{PathItem}
 use Rattle.wc_paths.specs.declared.items.PathItem.TheVariants.{Item, Elements, Data}

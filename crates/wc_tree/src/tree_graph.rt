@@ -17,10 +17,10 @@ use crate::tree::{Callers, Tree, TreeCaller, TreeItem, TreeModule, TreeRoot, Tre
 use crate::tree_json::shown_callers;
 use std::alloc::{AllocError, Global};
 use std::cmp::min;
-use wc_json::escaped;
 use wc_maps::Seed;
 use wc_paths::{PathItem, PathRoot};
 use wc_read::Space;
+use wc_texts::escaped;
 use wc_why::{
     SegmentKind, graph_text, importer_text, item_text, root_text, segment_text, unfollowed_text,
 };

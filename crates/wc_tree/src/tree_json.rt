@@ -6,7 +6,7 @@ ghost use Rattle.json.specs.Lex.{tokens};
 ghost use Rattle.json.specs.Print.{print};
 ghost use Rattle.json.specs.Token.{boolean, end_object, key, string};
 ghost use Rattle.json.specs.Tree.{json_tokens};
-ghost use Rattle.wc_json.specs.Shapes.{array_of, nullable_json, number_json};
+ghost use Rattle.wc_texts.specs.Shapes.{array_of, nullable_json, number_json};
 ghost use Rattle.wc_paths.specs.PathRoots.{root_view};
 ghost use Rattle.wc_why.specs.Lines.{space_name};
 ghost use Rattle.wc_why.specs.Private.Tokens.{Puts};

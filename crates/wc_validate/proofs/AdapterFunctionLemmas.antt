@@ -10,7 +10,7 @@ use Rattle.std.proofs.lemmas.List.{map-append}
 use Rattle.std.proofs.lemmas.List.Elements.{filter-append}
 use Rattle.indexmap.specs.IndexMap.{insert_entry}
 use Rattle.wc_read.specs.Types.{FuncTypeValue}
-use Rattle.wc_resolve.proofs.LookupLemmas.{name_viewed}
+use Rattle.wc_maps.proofs.LookupLemmas.{name_viewed}
 use Rattle.wc_names.specs.Views.{ImportView}
 use Rattle.wc_validate.specs.declared.imports.instances.ImportInstance.{ImportInstance}
 use Rattle.wc_validate.specs.Imports.Entries.{Records}

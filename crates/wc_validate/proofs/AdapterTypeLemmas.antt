@@ -11,7 +11,7 @@ use Rattle.wc_read.specs.declared.types.ValType.{ValType}
 use Rattle.wc_read.specs.declared.types.FuncType.{FuncType}
 use Rattle.wc_read.specs.Types.{FuncTypeValue, func_type_value}
 use Rattle.wc_names.specs.Builtins.{signature}
-use Rattle.wc_resolve.proofs.LookupLemmas.{lookup_viewed}
+use Rattle.wc_maps.proofs.LookupLemmas.{lookup_viewed}
 use Rattle.wc_validate.specs.Imports.AdapterTypes.{first_some, is_function_key, noted_type, one_type, type_entry}
 
 abbrev pub Key : Type 0

@@ -10,7 +10,7 @@ use Rattle.indexmap.specs.IndexMap.{insert_entry}
 use Rattle.wc_adapters.specs.declared.adapters.Item.{Item}
 use Rattle.wc_adapters.specs.declared.adapters.Instance.{Instance}
 use Rattle.wc_adapters.specs.Adapters.{InstanceView, LibraryView, LibraryItemView, argument_view, instance_view, library_item_view}
-use Rattle.wc_resolve.proofs.LookupLemmas.{lookup_viewed}
+use Rattle.wc_maps.proofs.LookupLemmas.{lookup_viewed}
 use Rattle.wc_validate.specs.declared.imports.arguments.Argument.{Argument}
 use Rattle.wc_validate.specs.Private.Imports.Arguments.{AreMatched, IsArgumentOf, IsIndexOf, Matches, entry_among, entry_by, item_entry_of, module_entry}
 use Rattle.wc_validate.specs.Imports.Record.{alias_entry, argument_entry, library_entry}

@@ -6,8 +6,8 @@ use Rattle.std.specs.Str.{bytes_eq}
 use Rattle.std.proofs.lemmas.Bool.{cases_lt}
 use Rattle.std.proofs.lemmas.List.Elements.{All-cons, All-contains, All-head, All-nil, All-tail, Contains-append_right}
 use Rattle.std.proofs.lemmas.List.Kept.{AllPairs-cons}
-use Rattle.wc_adapters.proofs.PairLemmas.{pairs_head, pairs_none, pairs_tail}
-use Rattle.wc_resolve.proofs.SearchLemmas.{contains_cons, contains_head, contains_none}
+use Rattle.wc_maps.proofs.PairLemmas.{pairs_head, pairs_none, pairs_tail}
+use Rattle.wc_maps.proofs.ListLemmas.{contains_cons, contains_head, contains_none}
 use Rattle.wc_resolve.proofs.WellFormedLemmas.{all_get}
 use Rattle.wc_validate.proofs.ContainedLemmas.{all_by, found_there, kept_from, looked_up, none_some, some_same}
 

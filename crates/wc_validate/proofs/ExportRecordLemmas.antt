@@ -15,8 +15,8 @@ use Rattle.wc_read.specs.declared.exports.Export.{Export as RawExport}
 use Rattle.wc_read.specs.Exports.{ExportValue, export_value}
 use Rattle.wc_read.specs.Modules.{ModuleValue}
 use Rattle.wc_resolve.specs.Views.{KeyView}
-use Rattle.wc_resolve.proofs.LookupLemmas.{name_viewed}
-use Rattle.wc_adapters.proofs.PairLemmas.{pairs_head, pairs_tail}
+use Rattle.wc_maps.proofs.LookupLemmas.{name_viewed}
+use Rattle.wc_maps.proofs.PairLemmas.{pairs_head, pairs_tail}
 use Rattle.wc_names.specs.declared.exports.Export.{Export}
 use Rattle.wc_names.specs.Exports.{ClassifiedExport, CoreExport}
 use Rattle.wc_names.specs.ExportViews.{ExportView, export_view}

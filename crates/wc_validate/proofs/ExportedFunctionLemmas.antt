@@ -19,8 +19,8 @@ use Rattle.wc_read.specs.Types.{FuncTypeValue, func_type_value}
 use Rattle.wc_resolve.specs.declared.ids.InterfaceId.{InterfaceId}
 use Rattle.wc_resolve.specs.contracts.ids.InterfaceIdPartialEq.TheImpl.{eq-value as id_eq}
 use Rattle.wc_resolve.proofs.KeyLemmas.{ids_law, texts_law}
-use Rattle.wc_resolve.proofs.LookupLemmas.{lookup_viewed}
-use Rattle.wc_resolve.proofs.SearchLemmas.{contains_cons, contains_head, contains_none, contains_tail}
+use Rattle.wc_maps.proofs.LookupLemmas.{lookup_viewed}
+use Rattle.wc_maps.proofs.ListLemmas.{contains_cons, contains_head, contains_none, contains_tail}
 use Rattle.wc_names.specs.declared.exports.Export.{Export}
 use Rattle.wc_names.specs.ExportViews.{ExportView}
 use Rattle.wc_names.specs.Imports.{ExternType}

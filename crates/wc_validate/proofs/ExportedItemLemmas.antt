@@ -15,7 +15,7 @@ use Rattle.wc_read.specs.declared.types.TableType.{TableType}
 use Rattle.wc_read.specs.Items.{FuncValue, TableValue, MemoryValue, GlobalValue, func_value, table_value, memory_value, global_value}
 use Rattle.wc_read.specs.Modules.{HaveTypes, count_of, module_value}
 use Rattle.wc_read.specs.Types.{func_type_value}
-use Rattle.wc_resolve.proofs.ViewedLemmas.{view_found}
+use Rattle.wc_maps.proofs.ListLemmas.{view_found}
 use Rattle.wc_resolve.proofs.WellFormedLemmas.{all_get}
 use Rattle.wc_names.specs.Imports.{func_type, global_type, memory_type, table_type}
 use Rattle.wc_validate.specs.Exports.Record.{item_type}

@@ -15,7 +15,7 @@ use Rattle.wc_validate.specs.declared.imports.instances.ImportInstance.{ImportIn
 use Rattle.wc_validate.specs.Imports.AdapterTypes.{first_some}
 use Rattle.wc_validate.specs.Imports.Entries.{InstanceRecord, names_of}
 use Rattle.wc_validate.specs.Imports.FirstFunctions.{HasFirstFunctions, first_functions, function_at, positioned_function, positioned_functions, positions_under}
-use Rattle.wc_resolve.specs.Views.{named_view}
+use Rattle.wc_texts.specs.Names.{named_view}
 use Rattle.wc_validate.specs.Imports.Map.{first_of_names, function_of}
 use Rattle.wc_validate.specs.Imports.Instances.{import_entry, instance_entry, instance_view}
 use Rattle.wc_validate.specs.Private.Imports.AdapterFunctions.{HasFirsts}

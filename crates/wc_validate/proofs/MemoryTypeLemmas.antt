@@ -14,7 +14,7 @@ use Rattle.wc_read.specs.Modules.{ModuleValue, SpellsModule}
 use Rattle.wc_read.specs.Order.{content_of}
 use Rattle.wc_read.specs.Sections.{import_id}
 use Rattle.wc_read.specs.Types.{FuncTypeValue, names_types}
-use Rattle.wc_resolve.proofs.SearchLemmas.{contains_cons, contains_none}
+use Rattle.wc_maps.proofs.ListLemmas.{contains_cons, contains_none}
 use Rattle.wc_resolve.specs.Views.{KeyView, WorldView}
 use Rattle.wc_resolve.specs.Kinds.{ResolveView}
 use Rattle.wc_adapters.specs.Adapters.{InstanceView, LibraryItemView, item_instance, module_instance}

@@ -8,7 +8,7 @@ use Rattle.std.proofs.lemmas.List.{map-append}
 use Rattle.std.specs.Option.{option_map}
 use Rattle.wc_adapters.specs.declared.adapters.MainOrAdapter.{MainOrAdapter}
 use Rattle.wc_adapters.specs.Adapters.{WhichView, which_view}
-use Rattle.wc_resolve.proofs.LookupLemmas.{name_viewed}
+use Rattle.wc_maps.proofs.LookupLemmas.{name_viewed}
 use Rattle.wc_validate.specs.declared.imports.instances.ImportInstance.TheVariants.{Whole, Names}
 use Rattle.indexmap.specs.IndexMap.{insert_entry}
 use Rattle.wc_names.proofs.ExportIndexLemmas.{is_called}

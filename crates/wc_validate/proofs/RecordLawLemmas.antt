@@ -4,7 +4,7 @@ use Rattle.std.specs.List.{All, Contains, cons_option, filter_map, slice_get}
 use Rattle.std.specs.Str.{bytes_eq}
 use Rattle.std.proofs.lemmas.List.Elements.{All-append, All-cons, All-head, All-map, All-nil, All-tail}
 use Rattle.wc_read.specs.Imports.{ImportValue}
-use Rattle.wc_resolve.proofs.SearchLemmas.{contains_head, contains_tail}
+use Rattle.wc_maps.proofs.ListLemmas.{contains_head, contains_tail}
 use Rattle.wc_resolve.specs.Views.{KeyView, WorldView}
 use Rattle.wc_resolve.specs.Kinds.{ResolveView}
 use Rattle.wc_adapters.specs.Adapters.{WhichView}

@@ -42,7 +42,7 @@ read_placed : (j : ValidationInput) (bytes : List ℕ) (f : ReadFault) (o : Opti
     → IsPlaceOrNone (IsPlace j bytes) (of_read f) (option_map bytes_place o)
 read_placed j bytes f None cause placed = subst (λ z. HasNoPlace (of_read z)) (sym placed) tt
 read_placed j bytes f (Some p) cause placed =
-    inl (record { read_fault = f; is_read = refl; cause = cause; place = p; in_bytes = placed.1; subject = refl; types = refl })
+    inl (record { read_fault = f; is_read = refl; cause = cause; place = p; in_bytes = placed.1; at_cause = placed.2; subject = refl; types = refl })
 
 pub read_at : (j : ValidationInput) (bytes : List ℕ) (r : Refused ReadFault ReadPlace) (x : RefusedModule) → IsReadRefusal r x
     → IsValidateCause j bytes (of_read r.fault) → IsPlaced bytes r.fault r.place → IsRefusedAt (IsPlace j bytes) x

@@ -7,10 +7,10 @@ use Rattle.std.specs.Str.{bytes_eq}
 use Rattle.std.proofs.lemmas.List.Elements.{All-append, All-cons, All-contains, All-head, All-map, All-tail, All-weaker, Contains-append_cases, Contains-append_left, Contains-append_right}
 use Rattle.std.proofs.lemmas.List.Kept.{AllPairs-cons}
 use Rattle.wc_read.specs.Types.{FuncTypeValue, names_types}
-use Rattle.wc_resolve.proofs.SearchLemmas.{contains_cons, contains_head, contains_none, contains_tail}
+use Rattle.wc_maps.proofs.ListLemmas.{contains_cons, contains_head, contains_none, contains_tail}
 use Rattle.wc_resolve.specs.Views.{FunctionView, ItemView, KeyView, function_item, interface_item}
 use Rattle.wc_resolve.specs.Kinds.{ResolveView}
-use Rattle.wc_adapters.proofs.PairLemmas.{pairs_head, pairs_none, pairs_tail}
+use Rattle.wc_maps.proofs.PairLemmas.{pairs_head, pairs_none, pairs_tail}
 use Rattle.wc_adapters.specs.Entries.{Entries}
 use Rattle.wc_names.specs.SameButIndices.{AreSameButIndices}
 use Rattle.wc_names.specs.Exports.{CoreExport, ExportMeaning, is_export}

@@ -9,7 +9,7 @@ use Rattle.wc_read.specs.Imports.{ImportValue}
 use Rattle.wc_read.specs.Modules.{ModuleValue}
 use Rattle.wc_read.specs.Types.{FuncTypeValue}
 use Rattle.wc_dedupe.specs.Renaming.{RenameView}
-use Rattle.wc_resolve.proofs.SearchLemmas.{contains_cons, contains_head, contains_none, contains_tail}
+use Rattle.wc_maps.proofs.ListLemmas.{contains_cons, contains_head, contains_none, contains_tail}
 use Rattle.wc_names.specs.SameButIndices.{AreSameButIndices, without_indices}
 use Rattle.wc_names.specs.Imports.{Classified, CoreImport, ExternType, NameScope, extern_kind}
 use Rattle.wc_names.specs.Laws.{MeaningsUnique}

@@ -6,7 +6,7 @@ use Rattle.std.specs.Str.{bytes_eq}
 use Rattle.std.proofs.lemmas.List.Elements.{All-contains, All-head, All-tail, Contains-push_cases}
 use Rattle.wc_read.specs.declared.types.MemoryType.{MemoryType}
 use Rattle.wc_read.specs.Types.{FuncTypeValue}
-use Rattle.wc_resolve.proofs.SearchLemmas.{contains_cons, contains_none}
+use Rattle.wc_maps.proofs.ListLemmas.{contains_cons, contains_none}
 use Rattle.wc_adapters.specs.Adapters.{WhichView}
 use Rattle.wc_names.specs.Views.{ImportView, adapter_export, main_module_memory}
 use Rattle.wc_validate.specs.declared.fault.ValidateFault.TheVariants.{AdapterTypesDiffer, DuplicateImport, SeveralMemoryImports}

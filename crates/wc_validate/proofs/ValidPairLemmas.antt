@@ -4,7 +4,7 @@ use Rattle.std.proofs.lemmas.Bool.{cases_eq}
 use Rattle.std.proofs.lemmas.List.Elements.{All-cons, All-nil, All-push, All-weaker, Contains-append_left, Contains-push}
 use Rattle.std.proofs.lemmas.List.Kept.{AllPairs-cons}
 use Rattle.wc_read.specs.Imports.{ImportValue}
-use Rattle.wc_adapters.proofs.PairLemmas.{pairs_none}
+use Rattle.wc_maps.proofs.PairLemmas.{pairs_none}
 use Rattle.wc_names.specs.Views.{ImportView}
 use Rattle.wc_validate.specs.Imports.Entries.{Entry, single}
 use Rattle.wc_validate.specs.Imports.Record.{AreEntries, ImportScope, IsEntry}

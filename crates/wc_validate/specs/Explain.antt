@@ -6,7 +6,7 @@ use Rattle.wc_read.specs.declared.place.ReadPlace.{ReadPlace}
 use Rattle.wc_read.specs.Exports.{ExportValue}
 use Rattle.wc_read.specs.Imports.{ImportValue}
 use Rattle.wc_read.specs.Modules.{ModuleValue, SpellsModule}
-use Rattle.wc_read.specs.Place.{IsPlaceIn}
+use Rattle.wc_read.specs.Place.{IsCausePlace, IsPlaceIn}
 use Rattle.wc_read.specs.Types.{FuncTypeValue}
 use Rattle.wc_resolve.specs.Resolve.{key_text}
 use Rattle.wc_resolve.specs.Views.{FunctionView, KeyView}
@@ -200,6 +200,7 @@ pub record IsBytesPlace (j : ValidationInput) (bytes : List ℕ) (f : ValidateFa
   pub cause : IsValidateCause j bytes f
   pub place : ReadPlace
   pub in_bytes : IsPlaceIn bytes place
+  pub at_cause : IsCausePlace bytes read_fault place
   pub subject : p.subject ≡ some_bytes place
   pub types : p.types ≡ None
 

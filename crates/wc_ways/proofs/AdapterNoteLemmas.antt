@@ -8,12 +8,12 @@ use Rattle.std.proofs.lemmas.List.Elements.{Contains-append_right}
 use Rattle.wc_read.specs.Modules.{ModuleValue, SpellsModule}
 use Rattle.wc_read.specs.Types.{func_type_value}
 use Rattle.wc_read.specs.declared.types.FuncType.{FuncType}
-use Rattle.wc_resolve.proofs.LookupLemmas.{name_viewed}
+use Rattle.wc_maps.proofs.LookupLemmas.{name_viewed}
 use Rattle.wc_adapters.specs.Adapters.{AdapterView, LibraryView}
 use Rattle.wc_summary.specs.Entries.{EntriesView, parts_of, with_adapters}
 use Rattle.wc_summary.specs.Leads.{Tags, found_in}
 use Rattle.wc_summary.specs.Notes.{NotesAdapterModule, NotesLibraryModule, NotesParts}
-use Rattle.wc_resolve.specs.Views.{named_view}
+use Rattle.wc_texts.specs.Names.{named_view}
 use Rattle.wc_summary.specs.Summary.{AdapterPartView}
 use Rattle.wc_summary.proofs.AdapterPartLemmas.{no_more}
 use Rattle.wc_summary.proofs.NotedLemmas.{adapter_by, wanted_as, with_both}
@@ -25,13 +25,13 @@ use Rattle.wc_world.specs.Views.{ComponentWorldView, NamedWorldAdapter}
 use Rattle.wc_ways.specs.Imports.{AreAdapterParts, AreInterfacesBy, AreInterfacesOf, AreLibraryParts, ArePartsBy, IsOfTrimmed, IsOfWasm, tags_of}
 use Rattle.wc_ways.specs.Tags.{library_tags}
 use Rattle.wc_ways.specs.Originals.{Original, required_of, wanted_of}
-use Rattle.wc_component_tree.specs.Said.{AreEach}
+use Rattle.wc_tree.specs.Said.{AreEach}
 use Rattle.wc_ways.specs.Said.{Saying}
 use Rattle.wc_ways.specs.Words.{is_wanted}
 use Rattle.wc_ways.specs.Private.SummaryAdapters.{NotesAdapter, NotesLibrary, NotesOriginal, NotesWasm, entry_of, info_of, original_in, world_of}
 use Rattle.wc_ways.specs.Private.Notes.{NotesAdapters}
 use Rattle.wc_ways.specs.declared.summary_adapters.Adapter.{Adapter}
-use Rattle.wc_component_tree.proofs.EachLemmas.{each_more}
+use Rattle.wc_tree.proofs.EachLemmas.{each_more}
 
 -- ---- one adapter after another
 

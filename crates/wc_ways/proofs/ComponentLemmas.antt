@@ -11,11 +11,11 @@ use Rattle.std.proofs.lemmas.Bool.{both_ways, cases_Bool, eq-eqb, eqb-true}
 use Rattle.std.proofs.lemmas.List.{length-append, take_all, take_more}
 use Rattle.std.proofs.lemmas.List.Elements.{All-contains, filter_passes}
 use Rattle.std.proofs.lemmas.Option.{get_or_from_slice_get, same_Some, slice_get-get_or, slice_get-map, slice_get_past, slice_get_read, slice_get_within}
-use Rattle.wc_gc.proofs.ChainLemmas.{in_filter}
-use Rattle.wc_gc.proofs.TwiceReachLemmas.{from_filter}
+use Rattle.wc_graph.proofs.ListLemmas.{in_filter}
+use Rattle.wc_graph.proofs.ListLemmas.{from_filter}
 use Rattle.wc_gc.specs.LiveItems.{names_of}
-use Rattle.wc_component_graph.specs.Parts.{PartView, alone_part, missing_part, module_part}
-use Rattle.wc_paths.specs.ChainMarks.{is_set}
+use Rattle.wc_paths.specs.Parts.{PartView, alone_part, missing_part, module_part}
+use Rattle.wc_graph.specs.ChainMarks.{is_set}
 use Rattle.wc_paths.specs.Counts.{counts_value}
 use Rattle.wc_paths.specs.Items.{CountsValue, GraphValue, counts_of, has_item, graph_of}
 use Rattle.wc_paths.specs.Numbers.{item_count, number_of, numbers_of}
@@ -36,17 +36,17 @@ use Rattle.wc_summary.specs.Leads.{AreReached, as_number}
 use Rattle.wc_ways.specs.Private.AdapterPart.{AreLinksTo, HasPlacesIn, IsImportNumber, IsOriginalPart, PutsLink, root_at, source_at, wants}
 use Rattle.wc_ways.specs.Private.PartItems.{asked_by, is_even, item_if, unreached_by}
 use Rattle.wc_ways.specs.Originals.{required_exports}
-use Rattle.wc_component_tree.specs.Said.{AreEach}
+use Rattle.wc_tree.specs.Said.{AreEach}
 use Rattle.wc_ways.specs.Words.{WantedFunctions}
 use Rattle.wc_ways.specs.Private.MainPaths.{HasPlaces, IsFollowing}
-use Rattle.wc_component_tree.specs.Keys.{Key, is_key}
+use Rattle.wc_tree.specs.Keys.{Key, is_key}
 use Rattle.wc_why.specs.declared.paths.Unfollowed.{Unfollowed}
 use Rattle.wc_ways.specs.declared.main_paths.Followed.{Followed}
 use Rattle.wc_ways.specs.declared.main_paths.Following.{Following}
 use Rattle.wc_ways.specs.declared.main_paths.Following.TheVariants.{Unread, Whole}
 use Rattle.wc_ways.specs.declared.part_items.Asking.{Asking}
 use Rattle.wc_ways.specs.declared.wanted.Wanted.{Wanted}
-use Rattle.wc_component_tree.proofs.EachLemmas.{each_more}
+use Rattle.wc_tree.proofs.EachLemmas.{each_more}
 use Rattle.wc_summary.proofs.MainNamerLemmas.{first_bit, label_reached, reached_label}
 use Rattle.wc_ways.proofs.ListLemmas.{after_front}
 

@@ -4,9 +4,9 @@ use Rattle.std.specs.List.{slice_get}
 use Rattle.std.proofs.lemmas.List.{length-map, map-append}
 use Rattle.std.proofs.lemmas.Option.{same_Some, slice_get-map}
 use Rattle.wc_read.specs.Imports.{ImportValue}
-use Rattle.wc_component_tree.specs.Found.{FoundView, FoundWayView, FunctionName, IsChainFound, found_view, is_asked_by}
-use Rattle.wc_component_tree.specs.Said.{Says}
-use Rattle.wc_component_tree.specs.declared.found.FoundModule.{FoundModule}
+use Rattle.wc_tree.specs.Found.{FoundView, FoundWayView, FunctionName, IsChainFound, found_view, is_asked_by}
+use Rattle.wc_tree.specs.Said.{Says}
+use Rattle.wc_tree.specs.declared.found.FoundModule.{FoundModule}
 use Rattle.wc_ways.specs.Originals.{Original, asked_of}
 use Rattle.wc_ways.specs.Private.Adapters.{key_in, original_in}
 use Rattle.wc_ways.specs.Private.Found.{IsFoundImport, IsFoundIn, chained_of, way_of}

@@ -6,15 +6,15 @@ use Rattle.std.specs.Option.{option_to_list}
 use Rattle.std.specs.Prelude.{MatchOption}
 use Rattle.wc_read.specs.Imports.{ImportValue, import_value}
 use Rattle.wc_read.specs.declared.types.Import.{Import}
-use Rattle.wc_gc.specs.Decoded.{ItemIndex}
+use Rattle.wc_read.specs.Decoded.{ItemIndex}
 use Rattle.wc_gc.specs.LiveChains.{AreImportChains, IsChainAt}
-use Rattle.wc_gc.specs.RestrictionLaws.{IsImportItem}
+use Rattle.wc_read.specs.ImportItems.{IsImportItem}
 use Rattle.wc_gc.specs.declared.import_chains.Chain.{Chain}
 use Rattle.wc_gc.specs.declared.import_chains.ImportChains.{ImportChains}
 use Rattle.wc_why.specs.Paths.{PathView, path_view}
 use Rattle.wc_why.specs.declared.paths.Path.{Path}
 use Rattle.wc_why.proofs.ItemLemmas.{index_there}
-use Rattle.wc_component_tree.specs.Found.{FunctionName}
+use Rattle.wc_tree.specs.Found.{FunctionName}
 use Rattle.wc_ways.specs.Originals.{Original, asked_of, required_of}
 use Rattle.wc_ways.specs.Ways.{IsAdapterPath, IsImportPath, IsItemPath, IsPathAt}
 

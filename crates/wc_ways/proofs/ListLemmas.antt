@@ -2,7 +2,7 @@
 use Rattle.std.proofs.Common.{◌≡◌, ℕ, List, [], ◌∷◌, ◌++◌, length, Some, Result, Ok, Err, OnOk, refl, sym, ◌∙◌, ap}
 use Rattle.std.proofs.lemmas.List.Concat.{flat_map-append}
 use Rattle.std.specs.List.{flat_map, slice_get}
-pub use Rattle.wc_component_tree.proofs.ListLemmas.{flat_same}
+pub use Rattle.wc_tree.proofs.ListLemmas.{flat_same}
 pub use Rattle.wc_summary.proofs.ListLemmas.{made_all, made_more}
 
 -- what is made of each of the things that are made

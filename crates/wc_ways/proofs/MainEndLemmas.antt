@@ -4,7 +4,7 @@ use Rattle.std.specs.List.{slice_get}
 use Rattle.std.specs.Map.{lookup}
 use Rattle.std.proofs.lemmas.List.{length_push, take_all, take_more}
 use Rattle.std.proofs.lemmas.Option.{slice_get_within}
-use Rattle.wc_gc.proofs.KeptItemLemmas.{get_some}
+use Rattle.wc_graph.proofs.ListLemmas.{get_some}
 use Rattle.wc_read.specs.Names.{name_entries}
 use Rattle.wc_segments.specs.Segments.{segments_value}
 use Rattle.wc_paths.specs.Callers.{calling_of}
@@ -13,16 +13,16 @@ use Rattle.wc_paths.specs.PathRoots.{IsPathRoot}
 use Rattle.wc_paths.specs.Paths.{ArePaths}
 use Rattle.wc_paths.specs.Roots.{first_roots, second_roots}
 use Rattle.wc_paths.specs.declared.items.PathItem.{PathItem}
-use Rattle.wc_paths.proofs.ChainTreeLemmas.{push_cases}
+use Rattle.wc_graph.proofs.ChainTreeLemmas.{push_cases}
 use Rattle.wc_why.specs.Paths.{StepView, begun as begun_step, path_steps, unfollowed as unfollowed_step}
 use Rattle.wc_tree.specs.Tree.{TreeModuleView}
-use Rattle.wc_component_tree.specs.FoundTree.{AreItemEnds, AreItemSteps, ArePlaces, IsItemEnd, IsItemEndIn, Places}
-use Rattle.wc_component_tree.specs.Keys.{Key, is_key}
-use Rattle.wc_component_tree.specs.WaysTree.{IsMainRead}
-use Rattle.wc_component_tree.specs.declared.main_tree.FollowedMain.{FollowedMain}
-use Rattle.wc_component_tree.specs.declared.main_tree.MainFollowing.{MainFollowing}
-use Rattle.wc_component_tree.specs.declared.main_tree.MainFollowing.TheVariants.{Whole as whole_main, Unread as unread_main}
-use Rattle.wc_component_tree.specs.declared.main_tree.MainSource.{MainSource}
+use Rattle.wc_tree.specs.FoundTree.{AreItemEnds, AreItemSteps, ArePlaces, IsItemEnd, IsItemEndIn, Places}
+use Rattle.wc_tree.specs.Keys.{Key, is_key}
+use Rattle.wc_tree.specs.WaysTree.{IsMainRead}
+use Rattle.wc_tree.specs.declared.main_tree.FollowedMain.{FollowedMain}
+use Rattle.wc_tree.specs.declared.main_tree.MainFollowing.{MainFollowing}
+use Rattle.wc_tree.specs.declared.main_tree.MainFollowing.TheVariants.{Whole as whole_main, Unread as unread_main}
+use Rattle.wc_tree.specs.declared.main_tree.MainSource.{MainSource}
 use Rattle.wc_ways.specs.Main.{AreStepsTo}
 use Rattle.wc_ways.specs.Private.MainEnds.{AreItemsOf, HasEnds, IsFollowedBy, IsFollowingBy, IsImportEnd, IsSourceBy}
 use Rattle.wc_ways.specs.Private.MainPaths.{AreMainPaths, IsFollowing}

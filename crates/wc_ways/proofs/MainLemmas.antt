@@ -24,7 +24,7 @@ use Rattle.wc_why.specs.declared.paths.Step.{Step}
 use Rattle.wc_why.specs.declared.paths.Unfollowed.{Unfollowed}
 use Rattle.wc_why.specs.declared.paths.Unfollowed.TheVariants.{Unreached}
 use Rattle.wc_ways.specs.Main.{AreStepsTo}
-use Rattle.wc_component_tree.specs.Keys.{IsNamed, Key, is_key}
+use Rattle.wc_tree.specs.Keys.{IsNamed, Key, is_key}
 use Rattle.wc_ways.specs.Private.MainPaths.{AreItemSteps, AreMainPaths, ArePathSteps, AreStepsIn, HasPlaces, HasPlacesTo, IsFollowing}
 use Rattle.wc_ways.specs.declared.main_paths.Followed.{Followed}
 use Rattle.wc_ways.specs.declared.main_paths.Following.TheVariants.{Whole, Unread}

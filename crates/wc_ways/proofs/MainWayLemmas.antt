@@ -7,7 +7,7 @@ use Rattle.wc_names.specs.Views.{ImportView}
 use Rattle.wc_world.specs.Views.{ComponentWorldView}
 use Rattle.wc_why.specs.Paths.{PathView, StepView, TargetView, step_view}
 use Rattle.wc_why.specs.declared.paths.Step.{Step}
-use Rattle.wc_component_tree.specs.Found.{FunctionName}
+use Rattle.wc_tree.specs.Found.{FunctionName}
 use Rattle.wc_ways.specs.Asked.{asked_function}
 use Rattle.wc_ways.specs.Originals.{Original}
 use Rattle.wc_ways.specs.Ways.{AreFirstStepsBy, IsMainPath, IsRecordedMainPath}

@@ -8,9 +8,9 @@ use Rattle.std.specs.Str.{bytes_eq}
 use Rattle.std.proofs.lemmas.Bool.{both_ways}
 use Rattle.std.proofs.lemmas.List.{drop_all, drop_more, length-map, map-append}
 use Rattle.std.proofs.lemmas.Option.{same_Some}
-use Rattle.wc_component_graph.specs.Marks.{AreMarks, IsMarkedIn}
-use Rattle.wc_component_graph.specs.Parts.{PartView}
-use Rattle.wc_component_graph.specs.declared.marks.Marks.{Marks}
+use Rattle.wc_paths.specs.Marks.{AreMarks, IsMarkedIn}
+use Rattle.wc_paths.specs.Parts.{PartView}
+use Rattle.wc_paths.specs.declared.marks.Marks.{Marks}
 use Rattle.wc_paths.specs.declared.items.PathItem.{PathItem}
 use Rattle.wc_why.specs.MarkedSteps.{MarkedPathView, MarkedStepView, marked_step_view}
 use Rattle.wc_why.specs.Paths.{PathView, StepView, imported, exported, begun, unfollowed, passed, segment, of_world, of_type, step_view}
@@ -22,7 +22,7 @@ use Rattle.wc_world.specs.declared.adapter.WorldAdapter.{WorldAdapter}
 use Rattle.wc_ways.specs.Component.{AreParts}
 use Rattle.wc_ways.specs.Marked.{AreMarksIn, IsMarking, Marking, Place, is_all, marked_steps, part_of, place_after, step_mark}
 use Rattle.wc_ways.specs.Private.Marked.{AreMarksFor, mark_at, mark_in, marking, marks_along, part_after, plain_by, shown_by}
-use Rattle.wc_component_tree.specs.Said.{Says}
+use Rattle.wc_tree.specs.Said.{Says}
 use Rattle.wc_ways.specs.Ways.{IsTypedBy}
 
 -- the position of an adapter is that of its key

@@ -9,7 +9,7 @@ use Rattle.wc_why.specs.Paths.{PathView, StepView, begun as begun_step}
 use Rattle.wc_tree.specs.ModuleTree.{IsReadTo, begins, called_next, goes_on, step_by, tree_steps}
 use Rattle.wc_tree.specs.Tree.{TreeImportView, TreeItemView, TreeModuleView, TreeRootView, TreeView, TreeWayView, begun, exported, unfollowed}
 use Rattle.wc_world.specs.Views.{ComponentWorldView}
-use Rattle.wc_component_tree.specs.WaysTree.{AreEndSteps, AreExportSteps, AreStepsFrom, AreWaysRead, HasRoot, IsAdapterRead, IsAlone, IsEndRead, IsMainRead}
+use Rattle.wc_tree.specs.WaysTree.{AreEndSteps, AreExportSteps, AreStepsFrom, AreWaysRead, HasRoot, IsAdapterRead, IsAlone, IsEndRead, IsMainRead}
 use Rattle.wc_ways.specs.WaysTree.{AreItemsMarked, IsModuleMarked, IsWaysTree}
 use Rattle.wc_ways.specs.Marked.{IsMarking, Marking}
 use Rattle.wc_ways.specs.Private.MarkedTree.{marked_item, marked_module, marked_tree}

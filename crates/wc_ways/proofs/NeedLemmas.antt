@@ -15,7 +15,8 @@ use Rattle.std.proofs.lemmas.Simd.{map-map}
 use Rattle.wc_names.proofs.FirstMemberLemmas.{or_none}
 use Rattle.wc_resolve.specs.Kinds.{ResolveView}
 use Rattle.wc_resolve.specs.Live.{AddsListings, IsComplete, list_union, listing_of, with_live}
-use Rattle.wc_resolve.specs.Views.{FunctionView, function_entry, interface_view, named_view, type_entry}
+use Rattle.wc_resolve.specs.Views.{FunctionView, function_entry, interface_view, type_entry}
+use Rattle.wc_texts.specs.Names.{named_view}
 use Rattle.wc_resolve.specs.Roots.{function_roots, interface_roots, named_function_roots, named_type_roots, param_roots, static_roots, type_roots}
 use Rattle.wc_resolve.specs.declared.functions.FunctionKind.{FunctionKind}
 use Rattle.wc_resolve.specs.declared.types.WitType.{WitType}
@@ -23,7 +24,7 @@ use Rattle.wc_resolve.specs.declared.worlds.Interface.{Interface}
 use Rattle.wc_resolve.specs.declared.ids.TypeId.{TypeId}
 use Rattle.wc_resolve.proofs.KeyLemmas.{nat_from}
 use Rattle.wc_resolve.proofs.ListUnionLemmas.{list_union_has, with_from}
-use Rattle.wc_resolve.proofs.SearchLemmas.{contains_head, contains_tail}
+use Rattle.wc_maps.proofs.ListLemmas.{contains_head, contains_tail}
 use Rattle.wc_ways.specs.TypeRoots.{Needs, TypeRoot, all_needed, first_root, listing_in, needs_of}
 use Rattle.wc_ways.specs.Private.Needs.{AddsFirst, AddsNeeds, Finds, Noted, noted_in, noted_needs, noted_types, root_view}
 use Rattle.wc_ways.specs.declared.needs.Found.{Found}

@@ -10,7 +10,8 @@ use Rattle.std.specs.Str.{bytes_eq}
 use Rattle.std.specs.declared.alloc.Global.{Global}
 use Rattle.wc_names.specs.Views.{ImportView, import_view}
 use Rattle.wc_names.specs.declared.imports.Import.{Import}
-use Rattle.wc_resolve.proofs.LookupLemmas.{copied_viewed, name_viewed}
+use Rattle.wc_resolve.proofs.LookupLemmas.{copied_viewed}
+use Rattle.wc_maps.proofs.LookupLemmas.{name_viewed}
 use Rattle.wc_validate.specs.Imports.Entries.{InstanceRecord, Records, all_of, names_of}
 use Rattle.wc_validate.specs.Imports.Instances.{import_entry}
 use Rattle.wc_validate.specs.Imports.Map.{imports_in, singles_of}

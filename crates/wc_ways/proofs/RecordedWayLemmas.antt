@@ -5,10 +5,10 @@ use Rattle.std.specs.Option.{option_map_or}
 use Rattle.std.proofs.lemmas.List.{length_push}
 use Rattle.wc_names.specs.Views.{ImportView}
 use Rattle.wc_resolve.specs.Kinds.{ResolveView}
-use Rattle.wc_gc.proofs.TypedGlobalLemmas.{get_front, get_last}
-use Rattle.wc_paths.proofs.ChainTreeLemmas.{push_cases}
+use Rattle.wc_graph.proofs.ListLemmas.{get_front, get_last}
+use Rattle.wc_graph.proofs.ChainTreeLemmas.{push_cases}
 use Rattle.wc_tree.specs.Tree.{TreeItemView}
-use Rattle.wc_component_tree.specs.Found.{FunctionName, FoundView, FoundWayView}
+use Rattle.wc_tree.specs.Found.{FunctionName, FoundView, FoundWayView}
 use Rattle.wc_ways.specs.Asked.{asked_function}
 use Rattle.wc_ways.specs.Private.Found.{AreAlonePut, HasAlone, IsAloneItem, recorded_way}
 

@@ -14,10 +14,10 @@ use Rattle.wc_tree.specs.declared.tree.TreeWay.{TreeWay}
 use Rattle.wc_world.specs.Views.{ComponentWorldView, WorldAdapterView}
 use Rattle.wc_world.specs.WorldViews.{adapter_entry, adapter_view}
 use Rattle.wc_world.specs.declared.adapter.WorldAdapter.{WorldAdapter}
-use Rattle.wc_component_tree.specs.Said.{Says}
+use Rattle.wc_tree.specs.Said.{Says}
 use Rattle.wc_ways.specs.Types.{TypeCite}
-use Rattle.wc_component_tree.specs.Found.{FoundView}
-use Rattle.wc_component_tree.specs.FoundTree.{Places}
+use Rattle.wc_tree.specs.Found.{FoundView}
+use Rattle.wc_tree.specs.FoundTree.{Places}
 use Rattle.wc_ways.specs.Private.TypedFound.{AreTypedFound, EndView, IsEndFor, IsEndInAdapter, IsTypedWay, IsTypedWayPut, TypedView, end_in, nowhere, typed_view}
 use Rattle.wc_ways.specs.declared.typed_found.FoundTyped.{FoundTyped}
 use Rattle.wc_ways.proofs.TypedLemmas.{adapter_found}

@@ -22,7 +22,7 @@ use Rattle.wc_world.specs.Views.{ComponentWorldView, ImportedView, NamedWorldAda
 use Rattle.wc_world.specs.WorldViews.{adapter_entry, adapter_view}
 use Rattle.wc_world.specs.declared.adapter.WorldAdapter.{WorldAdapter}
 use Rattle.wc_ways.specs.Said.{IsTypedSaid}
-use Rattle.wc_component_tree.specs.Said.{Says}
+use Rattle.wc_tree.specs.Said.{Says}
 use Rattle.wc_ways.specs.TypeRoots.{TypeRoot, of_import}
 use Rattle.wc_ways.specs.Types.{SayingTypes, TypeCite, cite, first_live, typed_name}
 use Rattle.wc_gc.specs.declared.fault.GcFault.{GcFault}
@@ -30,19 +30,19 @@ use Rattle.wc_gc.specs.declared.fault.GcFault.TheVariants.{Memory}
 use Rattle.std.proofs.lemmas.Map.Views.{Contains-from_lookup}
 use Rattle.wc_ways.specs.WaysFaults.{IsAdapterFault, IsWaysFault}
 use Rattle.wc_ways.proofs.OriginalLemmas.{fault_of}
-use Rattle.wc_gc.specs.Decoded.{ItemIndex}
-use Rattle.wc_gc.specs.RestrictionLaws.{IsImportItem}
+use Rattle.wc_read.specs.Decoded.{ItemIndex}
+use Rattle.wc_read.specs.ImportItems.{IsImportItem}
 use Rattle.wc_read.specs.Imports.{ImportValue, import_value}
 use Rattle.wc_read.specs.declared.types.Import.{Import}
-use Rattle.wc_component_tree.specs.Found.{FunctionName}
-use Rattle.wc_component_tree.specs.Keys.{IsNamed}
+use Rattle.wc_tree.specs.Found.{FunctionName}
+use Rattle.wc_tree.specs.Keys.{IsNamed}
 use Rattle.wc_ways.specs.Originals.{Original}
 use Rattle.wc_ways.specs.Private.TypeWays.{IsNamedAt, IsNamedHere, is_named}
 use Rattle.wc_ways.specs.declared.type_ways.TypeWay.{TypeWay}
 use Rattle.wc_ways.specs.Ways.{AreAdapterSteps, AreImportSteps, AreNeederSteps, AreStepsAt, IsItemPath, IsTypedBy, IsTypedPath}
-use Rattle.wc_component_tree.specs.WaysTree.{typed_path}
+use Rattle.wc_tree.specs.WaysTree.{typed_path}
 use Rattle.wc_ways.proofs.TypesLemmas.{found_viewed}
-use Rattle.wc_component_tree.proofs.WalkLemmas.{says_one}
+use Rattle.wc_tree.proofs.WalkLemmas.{says_one}
 
 -- of an interface that is asked about, or that isn't
 

@@ -14,24 +14,24 @@ use Rattle.wc_why.specs.Paths.{PathView, StepView, imported, of_world}
 use Rattle.wc_why.specs.declared.paths.WorldSide.{WorldSide}
 use Rattle.wc_tree.specs.Tree.{TreeImportView, TreeModuleView, TreeView, TreeWayView}
 use Rattle.wc_world.specs.Views.{ComponentWorldView, ImportedView, NamedWorldAdapter, WorldAdapterView}
-use Rattle.wc_component_tree.specs.Keys.{IsNamed, is_key}
+use Rattle.wc_tree.specs.Keys.{IsNamed, is_key}
 use Rattle.wc_ways.specs.Originals.{Original, original_of}
-use Rattle.wc_component_tree.specs.Said.{AreEach}
+use Rattle.wc_tree.specs.Said.{AreEach}
 use Rattle.wc_ways.specs.Said.{AreTypesSaid, IsLibrarySaid, IsSaidBy, IsSaidIn, IsSaidOfTrimmed, IsTypedSaid}
 use Rattle.wc_ways.specs.TypeRoots.{TypeRoot, of_import, of_item}
 use Rattle.wc_ways.specs.Types.{TypeCite, cite, typed_name}
 use Rattle.wc_ways.specs.Ways.{AreAdapterSteps, AreImportSteps, AreNeederSteps, AreStepsAt, IsTypedPath, adapter_path, item_steps}
-use Rattle.wc_component_tree.specs.WaysTree.{typed_path, AreEndSteps, AreWaysRead, IsWayRead, path_by, world_import}
+use Rattle.wc_tree.specs.WaysTree.{typed_path, AreEndSteps, AreWaysRead, IsWayRead, path_by, world_import}
 use Rattle.wc_ways.specs.Private.Found.{AreFound, AreFoundIn, AreFoundInLibrary, IsFoundIn, chained_of}
-use Rattle.wc_component_tree.specs.Found.{FoundView, IsEndOf}
+use Rattle.wc_tree.specs.Found.{FoundView, IsEndOf}
 use Rattle.wc_ways.specs.Private.MainEnds.{HasEnds}
-use Rattle.wc_component_tree.specs.FoundTree.{IsModuleFrom, IsModulePut, Places}
+use Rattle.wc_tree.specs.FoundTree.{IsModuleFrom, IsModulePut, Places}
 use Rattle.wc_ways.specs.Private.MainPaths.{AreMainPaths}
 use Rattle.wc_ways.specs.Private.TreeFrom.{IsPlainTree, IsTreeFrom}
 use Rattle.wc_ways.specs.Private.TypedFound.{AreTypedFound, AreTypedWays, EndView, IsEndFor, IsEndInAdapter, IsEndOfRoot, IsTypedFound, IsTypedWay, IsTypedWayPut, IsTypedWayTo, TypedView, adapter_way, end_in, item_end, nowhere, of_adapter, of_main, typed_way}
 use Rattle.wc_ways.specs.declared.main_paths.MainPaths.{MainPaths}
 use Rattle.wc_ways.proofs.TypedLemmas.{adapter_steps, no_adapter_steps, steps_of_import}
-use Rattle.wc_component_tree.proofs.WaysTreeLemmas.{AreWaysIn, chain_end, chain_path_steps, main_end, read_both, ways_in}
+use Rattle.wc_tree.proofs.WaysTreeLemmas.{AreWaysIn, chain_end, chain_path_steps, main_end, read_both, ways_in}
 use Rattle.wc_ways.proofs.WaysTreeLemmas.{adapters_read, main_read, steps_by}
 
 one_same : {X : Type 0} (x y : X) → x ∷ [] ≡ y ∷ [] → x ≡ y

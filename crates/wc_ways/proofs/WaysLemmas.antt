@@ -5,7 +5,7 @@ use Rattle.wc_world.specs.Views.{ComponentWorldView}
 use Rattle.wc_why.specs.Paths.{PathView}
 use Rattle.wc_ways.specs.Marked.{IsMarking, Marking}
 use Rattle.wc_ways.specs.Said.{AreModulesSaid, AreTypesSaid}
-use Rattle.wc_component_tree.specs.Said.{Says}
+use Rattle.wc_tree.specs.Said.{Says}
 use Rattle.wc_ways.specs.Ways.{AreLibraryPaths, AreOriginalPaths, ArePaths, AreRecordedMainPaths, IsTypedPath, IsWaysText, or_none, way_lines}
 use Rattle.wc_ways.proofs.ListLemmas.{flat_same}
 

@@ -6,37 +6,37 @@ use Rattle.std.specs.Map.{lookup}
 use Rattle.std.specs.Option.{option_map_or}
 use Rattle.std.specs.Str.{bytes_eq}
 use Rattle.std.proofs.lemmas.Option.{same_Some}
-use Rattle.wc_paths.specs.Callers.{entry_by}
-use Rattle.wc_gc.proofs.KeptItemLemmas.{get_some}
+use Rattle.wc_graph.specs.Private.Places.{entry_by}
+use Rattle.wc_graph.proofs.ListLemmas.{get_some}
 use Rattle.wc_adapters.specs.Adapters.{AdapterView, LibraryView}
 use Rattle.wc_read.specs.Imports.{ImportValue}
 use Rattle.wc_names.specs.Views.{ImportView}
 use Rattle.wc_validate.specs.Imports.Entries.{Records}
 use Rattle.wc_validate.specs.Imports.Map.{imports_in}
-use Rattle.wc_selection.proofs.ListLemmas.{length_one}
-use Rattle.wc_gc.specs.Decoded.{ItemIndex}
+use Rattle.wc_maps.proofs.ListLemmas.{length_one}
+use Rattle.wc_read.specs.Decoded.{ItemIndex}
 use Rattle.wc_why.specs.Joined.{AreJoined}
 use Rattle.wc_why.specs.Paths.{PathView, StepView, exported as exported_step, imported, item_step}
 use Rattle.wc_tree.specs.Tree.{TreeItemView, TreeModuleView, TreeRootView, TreeView, TreeWayView}
 use Rattle.wc_world.specs.Views.{ComponentWorldView, NamedWorldAdapter}
-use Rattle.wc_component_tree.specs.Found.{FunctionName, FoundView, FoundWayView, IsChainRead, IsEndOf}
+use Rattle.wc_tree.specs.Found.{FunctionName, FoundView, FoundWayView, IsChainRead, IsEndOf}
 use Rattle.wc_ways.specs.Asked.{asked_function}
 use Rattle.wc_ways.specs.Main.{AreMainSteps}
 use Rattle.wc_ways.specs.Originals.{Original, asked_of, original_of, wanted_of}
-use Rattle.wc_component_tree.specs.Said.{AreEach}
+use Rattle.wc_tree.specs.Said.{AreEach}
 use Rattle.wc_ways.specs.Said.{IsLibrarySaid, IsSaidBy, IsSaidIn, IsSaidOfTrimmed}
 use Rattle.wc_ways.specs.Ways.{AreFirstSteps, AreFirstStepsBy, AreLibraryPaths, AreOriginalPaths, AreRecordedMainPaths, IsMainPath, IsPathAt, IsRecordedMainPath, adapter_path, import_path, main_path, recorded_path}
-use Rattle.wc_component_tree.specs.WaysTree.{AreWaysRead, IsAdapterRead, IsAlone, IsMainRead, IsStepsRead, IsWayRead}
+use Rattle.wc_tree.specs.WaysTree.{AreWaysRead, IsAdapterRead, IsAlone, IsMainRead, IsStepsRead, IsWayRead}
 use Rattle.wc_ways.specs.Words.{is_wanted}
 use Rattle.wc_ways.specs.Private.Found.{AreFoundIn, AreFoundInLibrary, IsAloneItem, IsFoundImport, IsFoundIn, IsFoundInLibrary, IsFoundInMain, recorded_way, chained_of}
-use Rattle.wc_component_tree.specs.FoundTree.{AreWaysFrom, IsModuleFrom, IsModulePut, IsPlaceOf, IsRootFrom, IsWayAt, IsWayPut, Places, way_to, ways_to}
+use Rattle.wc_tree.specs.FoundTree.{AreWaysFrom, IsModuleFrom, IsModulePut, IsPlaceOf, IsRootFrom, IsWayAt, IsWayPut, Places, way_to, ways_to}
 use Rattle.wc_ways.specs.Private.MainEnds.{HasEnds}
 use Rattle.wc_ways.specs.Private.MainPaths.{AreMainPaths}
 use Rattle.wc_ways.specs.declared.main_paths.MainPaths.{MainPaths}
 use Rattle.wc_ways.proofs.ImportLemmas.{asked_path, unasked_path}
 use Rattle.wc_ways.proofs.ListLemmas.{after_front, flat_flat}
 use Rattle.wc_ways.proofs.MainWayLemmas.{asked_main, unasked_main}
-use Rattle.wc_component_tree.proofs.WaysTreeLemmas.{AreWaysIn, IsExportRead, chain_end, chain_path_steps, chain_steps, each_joined, flat_alike, flat_of_each, joined_read, main_end, read_both}
+use Rattle.wc_tree.proofs.WaysTreeLemmas.{AreWaysIn, IsExportRead, chain_end, chain_path_steps, chain_steps, each_joined, flat_alike, flat_of_each, joined_read, main_end, read_both}
 
 -- ---- the modules of the tree
 

@@ -8,7 +8,7 @@ use Rattle.wc_resolve.specs.Resolve.{key_text}
 use Rattle.wc_resolve.specs.Views.{KeyView, interface_key, plain_key}
 use Rattle.wc_names.specs.Views.{FunctionImportView, ImportView, PayloadTypeView, PayloadView, async_value, function_import, imported_resource_drop, interface_func, typed, world_func}
 use Rattle.wc_why.specs.Keys.{asks_about}
-use Rattle.wc_component_tree.specs.Found.{FunctionName}
+use Rattle.wc_tree.specs.Found.{FunctionName}
 
 -- an import of a world, to which an import of a module belongs: the interface under a key, or the function or type of a name that is
 -- the world's own

@@ -6,7 +6,7 @@ use Rattle.std.specs.Map.{lookup}
 use Rattle.std.specs.Option.{option_and_then, option_map}
 use Rattle.std.specs.Str.{bytes_eq}
 use Rattle.wc_adapters.specs.Adapters.{AdapterView, LibraryView}
-use Rattle.wc_component_graph.specs.Parts.{PartView, alone_part, missing_part, module_part}
+use Rattle.wc_paths.specs.Parts.{PartView, alone_part, missing_part, module_part}
 use Rattle.wc_gc.specs.LiveChains.{item_named}
 use Rattle.wc_names.specs.Views.{ImportView}
 use Rattle.wc_paths.specs.Items.{CountsValue, GraphValue, counts_of, graph_of, has_item, space_item}
@@ -26,9 +26,9 @@ use Rattle.wc_why.specs.declared.paths.Unfollowed.{Unfollowed}
 use Rattle.wc_world.specs.Views.{ComponentWorldView, NamedWorldAdapter}
 use Rattle.wc_ways.specs.Asked.{asked_function}
 use Rattle.wc_ways.specs.Main.{IsFollowed, IsUnfollowed}
-use Rattle.wc_component_tree.specs.Keys.{IsNamed}
+use Rattle.wc_tree.specs.Keys.{IsNamed}
 use Rattle.wc_ways.specs.Originals.{asked_in, required_exports}
-use Rattle.wc_component_tree.specs.Said.{AreEach}
+use Rattle.wc_tree.specs.Said.{AreEach}
 use Rattle.wc_ways.specs.Words.{WantedFunctions, is_wanted}
 
 -- the items of the imports that are asked about, in order

@@ -15,7 +15,7 @@ use Rattle.wc_resolve.specs.Kinds.{ResolveView}
 use Rattle.wc_validate.specs.Validate.{ModuleRecord}
 use Rattle.wc_adapters.specs.Adapters.{AdapterView, LibraryView}
 use Rattle.wc_segments.specs.Segments.{SegmentsValue}
-use Rattle.wc_spread.specs.Positions.{AreAscending}
+use Rattle.wc_graph.specs.Positions.{AreAscending}
 use Rattle.wc_summary.specs.Leads.{Tags, count_tag, found_in, named_in}
 use Rattle.wc_summary.specs.Parts.{AdapterValue, ArePartsOf, IsAdapterPartOf, IsNamer, library_part}
 use Rattle.wc_summary.specs.Summary.{AdapterPartView, EntryView, IsListedBefore, MainPartView}
@@ -24,7 +24,7 @@ use Rattle.wc_summary.specs.SummaryLines.{entry_lines}
 use Rattle.wc_world.specs.Views.{ComponentWorldView, NamedWorldAdapter}
 use Rattle.wc_ways.specs.Main.{IsFollowed, IsUnfollowed}
 use Rattle.wc_ways.specs.Originals.{Original, original_of, required_of, wanted_of}
-use Rattle.wc_component_tree.specs.Said.{AreEach}
+use Rattle.wc_tree.specs.Said.{AreEach}
 use Rattle.wc_ways.specs.Said.{Saying}
 use Rattle.wc_ways.specs.Tags.{all_key, library_tags, tags_in}
 use Rattle.wc_ways.specs.Types.{typed_name, user_in}

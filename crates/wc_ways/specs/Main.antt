@@ -18,7 +18,7 @@ use Rattle.wc_paths.specs.declared.paths.PathFault.TheVariants.{LiveBody}
 use Rattle.wc_why.specs.Paths.{StepView, begun, path_steps, unfollowed}
 use Rattle.wc_why.specs.declared.paths.Unfollowed.{Unfollowed}
 use Rattle.wc_why.specs.declared.paths.Unfollowed.TheVariants.{Unreached, Body, Section}
-use Rattle.wc_component_tree.specs.Keys.{IsNamed}
+use Rattle.wc_tree.specs.Keys.{IsNamed}
 
 -- a main module that can be followed: it has these segments, and no body that is reached is at fault
 abbrev pub IsFollowed : List ℕ → ModuleValue → SegmentsValue → Type 0

@@ -2,8 +2,8 @@
 use Rattle.std.specs.Prelude.{◌≡◌, ◌↔◌, ℕ, ◌+◌, Bool, true, List, [], ◌∷◌, codes, position, MatchBool, Option, Some, None}
 use Rattle.std.specs.Option.{option_and_then, option_map}
 use Rattle.std.specs.Str.{bytes_eq}
-use Rattle.wc_component_graph.specs.Marks.{IsMarkedIn}
-use Rattle.wc_component_graph.specs.Parts.{PartView}
+use Rattle.wc_paths.specs.Marks.{IsMarkedIn}
+use Rattle.wc_paths.specs.Parts.{PartView}
 use Rattle.wc_paths.specs.declared.items.PathItem.{PathItem}
 use Rattle.wc_paths.specs.declared.items.PathItem.TheVariants.{Item as path_item}
 use Rattle.wc_why.specs.MarkedPaths.{segment_item}

@@ -13,7 +13,7 @@ use Rattle.wc_validate.specs.Imports.Map.{required_in}
 use Rattle.wc_validate.specs.Validate.{ModuleRecord}
 use Rattle.wc_world.specs.Trimming.{required_names}
 use Rattle.wc_world.specs.Views.{ComponentWorldView}
-use Rattle.wc_component_tree.specs.Found.{FunctionName}
+use Rattle.wc_tree.specs.Found.{FunctionName}
 use Rattle.wc_ways.specs.Asked.{asked_function}
 use Rattle.wc_ways.specs.Words.{WantedFunctions}
 

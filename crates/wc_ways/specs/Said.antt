@@ -10,7 +10,7 @@ use Rattle.wc_adapters.specs.Adapters.{AdapterView, LibraryView}
 use Rattle.wc_validate.specs.Imports.Entries.{Records}
 use Rattle.wc_validate.specs.Validate.{ModuleRecord}
 use Rattle.wc_world.specs.Views.{ComponentWorldView, ImportedView, NamedWorldAdapter}
-use Rattle.wc_component_tree.specs.Said.{AreEach}
+use Rattle.wc_tree.specs.Said.{AreEach}
 use Rattle.wc_ways.specs.Originals.{Original, original_of}
 use Rattle.wc_ways.specs.Types.{SayingTypes, cite, typed_name}
 

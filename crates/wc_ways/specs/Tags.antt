@@ -7,7 +7,7 @@ use Rattle.wc_names.specs.Views.{ImportView}
 use Rattle.wc_summary.specs.Leads.{Tags}
 use Rattle.wc_validate.specs.Imports.Entries.{Records}
 use Rattle.wc_validate.specs.Imports.Map.{imports_in}
-use Rattle.wc_component_tree.specs.Found.{FunctionName}
+use Rattle.wc_tree.specs.Found.{FunctionName}
 use Rattle.wc_ways.specs.Asked.{asked_function}
 use Rattle.wc_ways.specs.Originals.{asked_in}
 

@@ -4,7 +4,7 @@ use Rattle.std.specs.List.{flat_map, slice_get}
 use Rattle.std.specs.Map.{lookup}
 use Rattle.std.specs.Option.{option_map_or}
 use Rattle.std.specs.Str.{bytes_eq}
-use Rattle.wc_json.specs.Escape.{escaped}
+use Rattle.wc_texts.specs.Escape.{escaped}
 use Rattle.wc_read.specs.Imports.{ImportValue}
 use Rattle.semver.specs.Identifiers.{parts_text}
 use Rattle.wc_resolve.specs.Kinds.{ResolveView}
@@ -13,22 +13,22 @@ use Rattle.wc_adapters.specs.Adapters.{LibraryView}
 use Rattle.wc_names.specs.Views.{ImportView}
 use Rattle.wc_validate.specs.Imports.Entries.{Records}
 use Rattle.wc_validate.specs.Imports.Map.{imports_in}
-use Rattle.wc_gc.specs.Decoded.{ItemIndex}
+use Rattle.wc_read.specs.Decoded.{ItemIndex}
 use Rattle.wc_gc.specs.LiveItems.{IsLive}
-use Rattle.wc_gc.specs.RestrictionLaws.{IsImportItem}
+use Rattle.wc_read.specs.ImportItems.{IsImportItem}
 use Rattle.wc_world.specs.Views.{ComponentWorldView, WorldAdapterView}
 use Rattle.wc_why.specs.Joined.{AreJoined}
 use Rattle.wc_why.specs.MarkedSteps.{lines_of}
 use Rattle.wc_why.specs.Paths.{PathView, StepView, exported, imported, item_step, named, of_world}
 use Rattle.wc_why.specs.declared.paths.WorldSide.{WorldSide}
-use Rattle.wc_component_tree.specs.Found.{FunctionName, IsChainFrom}
-use Rattle.wc_component_tree.specs.WaysTree.{typed_path}
+use Rattle.wc_tree.specs.Found.{FunctionName, IsChainFrom}
+use Rattle.wc_tree.specs.WaysTree.{typed_path}
 use Rattle.wc_ways.specs.Asked.{asked_function}
 use Rattle.wc_ways.specs.Main.{AreMainSteps}
-use Rattle.wc_component_tree.specs.Keys.{IsNamed}
+use Rattle.wc_tree.specs.Keys.{IsNamed}
 use Rattle.wc_ways.specs.Marked.{IsMarking, Marking, marked_path}
 use Rattle.wc_ways.specs.Originals.{Original, asked_of, required_of, wanted_of}
-use Rattle.wc_component_tree.specs.Said.{AreEach}
+use Rattle.wc_tree.specs.Said.{AreEach}
 use Rattle.wc_ways.specs.Said.{IsAllSaid, IsSaidOfTrimmed}
 use Rattle.wc_ways.specs.TypeRoots.{TypeRoot, of_import, of_item}
 use Rattle.wc_ways.specs.Types.{TypeCite}

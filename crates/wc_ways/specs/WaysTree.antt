@@ -10,7 +10,7 @@ use Rattle.wc_why.specs.Paths.{PathView}
 use Rattle.wc_world.specs.Views.{ComponentWorldView, NamedWorldAdapter}
 use Rattle.wc_ways.specs.Marked.{IsMarking, Marking}
 use Rattle.wc_ways.specs.Ways.{ArePaths}
-use Rattle.wc_component_tree.specs.WaysTree.{AreWaysRead}
+use Rattle.wc_tree.specs.WaysTree.{AreWaysRead}
 
 -- each item has its mark
 abbrev pub IsModuleMarked : Marking → TreeModuleView → Type 0

@@ -2,7 +2,7 @@
 
 ghost use Rattle.std.specs.Prelude.{◌≡◌, ◌++◌, IfOk, OnOk, length};
 ghost use Rattle.std.specs.List.{filter_map, range_with_len};
-ghost use Rattle.wc_component_graph.specs.Parts.{part_view};
+ghost use Rattle.wc_paths.specs.Parts.{part_view};
 ghost use Rattle.wc_gc.specs.LiveItems.{names_of};
 ghost use Rattle.wc_read.specs.Modules.{module_value};
 ghost use Rattle.wc_ways.specs.Component.{link_between};
@@ -13,9 +13,8 @@ use crate::main_paths::place_of;
 use crate::part_items::{Asking, asked_items, numbers_in};
 use crate::wanted::Wanted;
 use std::alloc::{AllocError, Global};
-use wc_component_graph::Part;
 use wc_maps::Set;
-use wc_paths::ModuleGraph;
+use wc_paths::{ModuleGraph, Part};
 use wc_read::{Module, read_module};
 use wc_segments::Segments;
 use wc_summary::{number_if, sources_of};

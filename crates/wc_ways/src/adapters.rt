@@ -1,11 +1,11 @@
 //! Paths to the imports of the adapters of a component's world.
 
 ghost use Rattle.std.specs.Prelude.{◌≡◌, ◌⊎◌, IfErr, OnOk};
-ghost use Rattle.wc_plan.specs.Fault.{AreNameable};
+ghost use Rattle.wc_world.specs.Nameable.{AreNameable};
 ghost use Rattle.wc_validate.specs.Validate.{module_record};
 ghost use Rattle.wc_world.specs.WorldViews.{adapter_view, world_view};
 ghost use Rattle.wc_ways.specs.Said.{AreAllSaid};
-ghost use Rattle.wc_component_tree.specs.Said.{Says};
+ghost use Rattle.wc_tree.specs.Said.{Says};
 ghost use Rattle.wc_ways.specs.Private.Adapters.{HasMain, IsNameableIn, IsSaidAlone, IsSaidBy, IsSaidOfThis, marks_at};
 ghost use Rattle.wc_ways.specs.WaysFaults.{IsAdapterFault, IsOriginalFault, IsWaysFault};
 ghost use Rattle.wc_ways.specs.Private.MainWays.{IsFollowedIn, key_of, marks_in, world_of};

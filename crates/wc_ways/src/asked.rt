@@ -4,18 +4,18 @@ ghost use Rattle.std.specs.Prelude.{◌≡◌, IfOk, string_bytes};
 ghost use Rattle.std.specs.Option.{option_map};
 ghost use Rattle.semver.specs.Identifiers.{parts_text};
 ghost use Rattle.wc_names.specs.Views.{import_view, payload_view};
-ghost use Rattle.wc_plan.specs.Calls.{IsNameable};
+ghost use Rattle.wc_world.specs.Nameable.{IsNameable};
 ghost use Rattle.wc_resolve.specs.Dependencies.{id_of_interface};
 ghost use Rattle.wc_resolve.specs.Resolve.{key_text};
 ghost use Rattle.wc_resolve.specs.Views.{key_view};
 ghost use Rattle.wc_ways.specs.Asked.{asked_function, asked_world_import, asked_interface, asked_name, is_asked, own_name, payload_import, scoped_import, world_import};
-ghost use Rattle.wc_component_tree.specs.Found.{function_value};
+ghost use Rattle.wc_tree.specs.Found.{function_value};
 ghost use Rattle.wc_ways.specs.Private.Imported.{imported_view};
 
 use std::alloc::{AllocError, Global};
-use wc_component_tree::Function;
 use wc_names::{Import, PayloadInfo, PayloadType};
 use wc_resolve::{InterfaceId, Resolve, WorldKey};
+use wc_tree::Function;
 use wc_why::asks_about;
 
 /// The key that asks about all interfaces.

@@ -1,11 +1,10 @@
 //! The modules of a component as parts of one graph.
 
 ghost use Rattle.std.specs.Prelude.{IfOk, map};
-ghost use Rattle.wc_component_graph.specs.Parts.{part_view};
+ghost use Rattle.wc_paths.specs.Parts.{part_view};
 ghost use Rattle.wc_paths.specs.Counts.{counts_value};
 ghost use Rattle.wc_paths.specs.Graph.{graph_value};
-ghost use Rattle.wc_plan.specs.Fault.{AreNameable};
-ghost use Rattle.wc_plan.specs.Planner.{AreModuleNameable};
+ghost use Rattle.wc_world.specs.Nameable.{AreNameable, AreModuleNameable};
 ghost use Rattle.wc_read.specs.Modules.{SpellsModule, module_value};
 ghost use Rattle.wc_segments.specs.Segments.{segments_value};
 ghost use Rattle.wc_validate.specs.Validate.{module_record};
@@ -19,8 +18,7 @@ use crate::main_paths::{Following, MainPaths};
 use crate::part_items::{Asking, asked_items, has_asked, numbers_in, unreached_of};
 use crate::wanted::Wanted;
 use std::alloc::{AllocError, Global};
-use wc_component_graph::Part;
-use wc_paths::{ModuleGraph, PathItem, first_roots, import_items, second_roots};
+use wc_paths::{ModuleGraph, Part, PathItem, first_roots, import_items, second_roots};
 use wc_read::laws::modules_unique;
 use wc_read::{Module, read_module};
 use wc_segments::Segments;

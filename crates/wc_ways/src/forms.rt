@@ -1,12 +1,12 @@
 //! In which form it is said why modules import something: by paths that are printed, or by what of the modules is on these.
 
 ghost use Rattle.std.specs.Prelude.{◌≡◌, ℕ, List, OnOk};
-ghost use Rattle.wc_plan.specs.Fault.{AreNameable};
+ghost use Rattle.wc_world.specs.Nameable.{AreNameable};
 ghost use Rattle.wc_resolve.specs.Kinds.{ResolveView};
 ghost use Rattle.wc_validate.specs.Imports.Entries.{Records};
 ghost use Rattle.wc_world.specs.Views.{ComponentWorldView};
 ghost use Rattle.wc_ways.specs.Originals.{Original};
-ghost use Rattle.wc_component_tree.specs.Said.{Says};
+ghost use Rattle.wc_tree.specs.Said.{Says};
 ghost use Rattle.wc_ways.specs.Private.Adapters.{IsNameableIn, IsSaidAlone, IsWalk, key_in, marks_at, original_in};
 ghost use Rattle.wc_ways.specs.Marked.{Marking};
 ghost use Rattle.wc_ways.specs.Private.MainWays.{IsFollowedIn, key_of, marks_in, world_of};

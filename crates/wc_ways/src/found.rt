@@ -7,8 +7,8 @@ use crate::found_main::found_in_main;
 use crate::modules::MainModule;
 use crate::originals::Walk;
 use std::alloc::{AllocError, Global};
-use wc_component_tree::{FoundModule, ImportKey};
 use wc_maps::Set;
+use wc_tree::{FoundModule, ImportKey};
 
 /// An import of a module, by the position of that.
 pub(crate) type CiteKey<'a> = (usize, ImportKey<'a>);
@@ -24,7 +24,7 @@ pub(crate) struct Found<'a> {
 impl<'a> Form<'a> for Found<'a> {
     ghost use Rattle.std.specs.Prelude.{[], ◌∷◌, map};
     ghost use Rattle.wc_ways.specs.Private.Found.{AreFoundIn, AreFoundInLibrary, AreFoundInMain};
-    ghost use Rattle.wc_component_tree.specs.Found.{FoundView, found_view};
+    ghost use Rattle.wc_tree.specs.Found.{FoundView, found_view};
 
     ghost Part = { FoundView };
 

@@ -2,8 +2,8 @@
 
 ghost use Rattle.std.specs.Prelude.{◌≡◌, IfOk, map};
 ghost use Rattle.wc_read.specs.Imports.{import_value};
-ghost use Rattle.wc_component_tree.specs.Found.{found_view, some_way_view};
-ghost use Rattle.wc_component_tree.specs.FoundItems.{wanted_by};
+ghost use Rattle.wc_tree.specs.Found.{found_view, some_way_view};
+ghost use Rattle.wc_tree.specs.FoundItems.{wanted_by};
 ghost use Rattle.wc_ways.specs.Originals.{wanted_of};
 ghost use Rattle.wc_ways.specs.Words.{is_wanted};
 ghost use Rattle.wc_ways.specs.Private.Adapters.{IsNameableIn, IsWalk, key_in, original_in};
@@ -13,10 +13,9 @@ use crate::found::CiteKey;
 use crate::modules::Adapter;
 use crate::originals::{Walk, asked_import, is_wanted};
 use std::alloc::{AllocError, Global};
-use wc_component_tree::{ChainSource, FoundModule, FoundWay, found_by_chains};
 use wc_maps::Set;
 use wc_read::Import;
-use wc_tree::TreeImport;
+use wc_tree::{ChainSource, FoundModule, FoundWay, TreeImport, found_by_chains};
 
 /// The paths in an adapter to its imports that are asked about, or need types for which something is imported, and are reached: as a
 /// tree. The adapter has a position among the modules.

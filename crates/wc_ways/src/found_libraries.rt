@@ -3,13 +3,13 @@
 ghost use Rattle.std.specs.Prelude.{◌≡◌, ◌∷◌, [], All, IfOk, OnOk, Some};
 ghost use Rattle.std.specs.Option.{option_map};
 ghost use Rattle.wc_names.specs.Views.{import_view};
-ghost use Rattle.wc_plan.specs.Calls.{IsNameable};
+ghost use Rattle.wc_world.specs.Nameable.{IsNameable};
 ghost use Rattle.wc_validate.specs.Imports.Iter.{import_shown};
 ghost use Rattle.wc_validate.specs.Imports.Map.{imports_in};
 ghost use Rattle.wc_world.specs.Slots.{imports_of};
 ghost use Rattle.wc_ways.specs.Asked.{asked_function};
 ghost use Rattle.wc_ways.specs.Private.Adapters.{IsNameableIn, world_in};
-ghost use Rattle.wc_component_tree.specs.Found.{function_value, found_view, found_way_view};
+ghost use Rattle.wc_tree.specs.Found.{function_value, found_view, found_way_view};
 ghost use Rattle.wc_ways.specs.Private.Found.{AreAlonePut, HasAlone, IsFoundInLibrary, recorded_way, recorded_ways};
 
 use crate::asked::asked_function;
@@ -17,12 +17,11 @@ use crate::forms::Library;
 use crate::main_paths::{import_places, place_of};
 use crate::modules::Adapter;
 use std::alloc::{AllocError, Global};
-use wc_component_tree::{FoundModule, FoundWay, Function};
 use wc_maps::{Map, OrderedMap};
 use wc_names::Import;
 use wc_paths::PathItem;
 use wc_read::{function_names, read_module};
-use wc_tree::{TreeImport, TreeItem, name_of};
+use wc_tree::{FoundModule, FoundWay, Function, TreeImport, TreeItem, name_of};
 use wc_validate::ImportMap;
 
 /// A library that is gone through: the items of its imports, by their modules and names, and the names of its functions.

@@ -2,22 +2,20 @@
 
 ghost use Rattle.std.specs.Prelude.{◌≡◌, ◌++◌, All, IfOk, OnOk, map};
 ghost use Rattle.wc_names.specs.Views.{import_view};
-ghost use Rattle.wc_plan.specs.Calls.{IsNameable};
-ghost use Rattle.wc_plan.specs.Fault.{AreNameable};
+ghost use Rattle.wc_world.specs.Nameable.{IsNameable, AreNameable};
 ghost use Rattle.wc_validate.specs.Imports.Iter.{import_shown};
 ghost use Rattle.wc_validate.specs.Imports.Map.{imports_in};
 ghost use Rattle.wc_world.specs.Slots.{imports_of};
 ghost use Rattle.wc_ways.specs.Private.Found.{IsFoundInMain, recorded_way, recorded_ways};
-ghost use Rattle.wc_component_tree.specs.Found.{found_view, some_way_view};
+ghost use Rattle.wc_tree.specs.Found.{found_view, some_way_view};
 ghost use Rattle.wc_ways.specs.Private.MainWays.{key_of, resolve_of, world_of};
 
 use crate::main_ways::asked_of_main;
 use crate::modules::MainModule;
 use std::alloc::{AllocError, Global};
-use wc_component_tree::{FoundModule, FoundWay};
 use wc_maps::Map;
 use wc_names::Import;
-use wc_tree::TreeImport;
+use wc_tree::{FoundModule, FoundWay, TreeImport};
 use wc_validate::ImportMap;
 
 /// The recorded imports of the main module that are asked about, in order.

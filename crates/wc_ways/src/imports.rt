@@ -1,7 +1,7 @@
 //! The imports of a component, by interfaces.
 
 ghost use Rattle.std.specs.Prelude.{IfErr, IfOk, map, string_bytes};
-ghost use Rattle.wc_plan.specs.Fault.{AreNameable};
+ghost use Rattle.wc_world.specs.Nameable.{AreNameable};
 ghost use Rattle.wc_world.specs.WorldViews.{world_view};
 ghost use Rattle.wc_ways.specs.Imports.{AreEntries, IsImportsJson, IsImportsText};
 ghost use Rattle.wc_summary.specs.Summary.{entry_view};
@@ -36,7 +36,7 @@ use wc_world::ComponentWorld;
 /// more bytes go come first, and else the order is that of the imports: of the main module, of each adapter, and for types
 /// alone.
 ///
-/// It takes time linear in the modules for each 64 interfaces and each 64 required exports (`wc_spread::spread`), and in what
+/// It takes time linear in the modules for each 64 interfaces and each 64 required exports (`wc_graph::spread`), and in what
 /// is printed.
 ///
 /// # Errors

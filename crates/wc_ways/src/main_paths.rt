@@ -12,7 +12,7 @@ ghost use Rattle.wc_paths.specs.Paths.{AreClosed, ArePaths, IsPathFault, IsReach
 ghost use Rattle.wc_paths.specs.Roots.{first_roots, second_roots};
 ghost use Rattle.wc_why.specs.Paths.{begun, path_steps, step_view, unfollowed};
 ghost use Rattle.wc_ways.specs.Private.MainPaths.{AreItemSteps, AreMainPaths, AreStepsIn, ArePathSteps, HasPlaces, IsFollowing, IsRefusedAt};
-ghost use Rattle.wc_component_tree.specs.Keys.{is_key};
+ghost use Rattle.wc_tree.specs.Keys.{is_key};
 
 use std::alloc::{AllocError, Global};
 use wc_maps::{Map, OrderedMap, Seed};

@@ -6,12 +6,11 @@ ghost use Rattle.wc_ways.specs.Private.MainEnds.{AreItemsOf, HasEnds, IsFollowin
 
 use crate::main_paths::{Following, MainPaths};
 use std::alloc::{AllocError, Global};
-use wc_component_tree::{
-    FollowedMain, ImportKey, MainFollowing, MainSource, places_of, tree_of_main,
-};
 use wc_maps::{Map, Seed};
 use wc_paths::PathItem;
-use wc_tree::TreeModule;
+use wc_tree::{
+    FollowedMain, ImportKey, MainFollowing, MainSource, TreeModule, places_of, tree_of_main,
+};
 
 /// The main module, and the positions of its imports among its items.
 #[derive(Drop)]

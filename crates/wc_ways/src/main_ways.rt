@@ -3,16 +3,15 @@
 ghost use Rattle.std.specs.Prelude.{◌≡◌, All, IfOk, OnOk};
 ghost use Rattle.std.specs.Option.{option_map};
 ghost use Rattle.wc_names.specs.Views.{import_view};
-ghost use Rattle.wc_plan.specs.Calls.{IsNameable};
-ghost use Rattle.wc_plan.specs.Fault.{AreNameable};
+ghost use Rattle.wc_world.specs.Nameable.{IsNameable, AreNameable};
 ghost use Rattle.wc_validate.specs.Imports.Iter.{import_shown};
 ghost use Rattle.wc_validate.specs.Imports.Map.{imports_in};
 ghost use Rattle.wc_why.specs.Paths.{path_view};
 ghost use Rattle.wc_world.specs.Slots.{imports_of};
 ghost use Rattle.wc_ways.specs.Asked.{asked_function};
-ghost use Rattle.wc_component_tree.specs.Found.{function_value};
+ghost use Rattle.wc_tree.specs.Found.{function_value};
 ghost use Rattle.wc_ways.specs.Private.MainWays.{IsFollowedIn, key_of, marks_in, resolve_of, world_of};
-ghost use Rattle.wc_component_tree.specs.Said.{AreEach, Says};
+ghost use Rattle.wc_tree.specs.Said.{AreEach, Says};
 ghost use Rattle.wc_ways.specs.Ways.{AreRecordedMainPaths, IsMainPath, IsRecordedMainPath};
 ghost use Rattle.wc_ways.specs.Private.Marked.{shown_by};
 
@@ -20,8 +19,8 @@ use crate::asked::asked_function;
 use crate::marked::put_path;
 use crate::modules::MainModule;
 use std::alloc::{AllocError, Global};
-use wc_component_tree::Function;
 use wc_names::Import;
+use wc_tree::Function;
 use wc_validate::ImportMap;
 use wc_why::{MarkedPathPrinter, Path, Step, Target};
 

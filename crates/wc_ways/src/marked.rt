@@ -1,7 +1,7 @@
 //! Paths with marks: on the items through which each path of the whole component to what is asked about goes.
 
 ghost use Rattle.std.specs.Prelude.{◌≡◌, ◌++◌, IfOk, None, OnOk, Some, map};
-ghost use Rattle.wc_plan.specs.Fault.{AreNameable};
+ghost use Rattle.wc_world.specs.Nameable.{AreNameable};
 ghost use Rattle.wc_why.specs.MarkedPaths.{segment_item};
 ghost use Rattle.wc_why.specs.MarkedSteps.{marked_step_view, unmarked, unmarked_steps};
 ghost use Rattle.wc_why.specs.Paths.{path_view, step_view, target_view};
@@ -14,8 +14,7 @@ ghost use Rattle.wc_ways.specs.Private.Marked.{AreMarksFor, mark_at, mark_by, ma
 use crate::component::{Component, parts_of};
 use crate::main_paths::MainPaths;
 use std::alloc::{AllocError, Global};
-use wc_component_graph::Marks;
-use wc_paths::PathItem;
+use wc_paths::{Marks, PathItem};
 use wc_why::{MarkedPath, MarkedPathPrinter, MarkedStep, Path, SegmentKind, Step, Target};
 use wc_world::ComponentWorld;
 

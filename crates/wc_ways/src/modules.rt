@@ -1,7 +1,7 @@
 //! The modules of a component's world, and what is asked about of them.
 
 use crate::main_paths::MainPaths;
-use wc_component_graph::Marks;
+use wc_paths::Marks;
 use wc_validate::ValidatedModule;
 use wc_world::ComponentWorld;
 

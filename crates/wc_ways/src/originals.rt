@@ -10,8 +10,8 @@ ghost use Rattle.wc_world.specs.WorldViews.{world_view};
 ghost use Rattle.wc_validate.specs.Imports.Instances.{instance_view};
 ghost use Rattle.wc_ways.specs.Originals.{asked_in, recorded_at, recorded_in, wanted_of};
 ghost use Rattle.wc_ways.specs.Private.Adapters.{AreChainsFor, HasMain, IsNameableIn, IsSaidFor, IsWalk, marks_at, original_in, required_in};
-ghost use Rattle.wc_component_tree.specs.Found.{function_value};
-ghost use Rattle.wc_component_tree.specs.Said.{Says};
+ghost use Rattle.wc_tree.specs.Found.{function_value};
+ghost use Rattle.wc_tree.specs.Said.{Says};
 ghost use Rattle.wc_ways.specs.WaysFaults.{search_input};
 ghost use Rattle.wc_ways.specs.Words.{is_wanted};
 
@@ -19,12 +19,12 @@ use crate::asked::asked_function;
 use crate::forms::Form;
 use crate::modules::Adapter;
 use std::alloc::{AllocError, Global};
-use wc_component_tree::Function;
 use wc_gc::{GcFault, ImportChains, why_imports};
 use wc_maps::{Map, OrderedMap, Set};
 use wc_names::Import as Recorded;
 use wc_read::laws::modules_unique;
 use wc_read::{FuncType, Import, Module, function_names, read_module};
+use wc_tree::Function;
 use wc_validate::{ImportInstance, ImportMap};
 use wc_world::required_exports;
 

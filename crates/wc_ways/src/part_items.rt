@@ -3,10 +3,10 @@
 ghost use Rattle.std.specs.Prelude.{◌≡◌, ◌||◌, IfOk, filter, is_some, length, map};
 ghost use Rattle.std.specs.List.{filter_map, range_with_len};
 ghost use Rattle.wc_names.specs.Views.{import_view};
-ghost use Rattle.wc_paths.specs.ChainMarks.{is_set};
+ghost use Rattle.wc_graph.specs.ChainMarks.{is_set};
 ghost use Rattle.wc_paths.specs.Graph.{graph_value};
 ghost use Rattle.wc_paths.specs.Items.{counts_of};
-ghost use Rattle.wc_plan.specs.Calls.{IsNameable};
+ghost use Rattle.wc_world.specs.Nameable.{IsNameable};
 ghost use Rattle.wc_read.specs.Imports.{import_value, import_values};
 ghost use Rattle.wc_ways.specs.Asked.{asked_function};
 ghost use Rattle.wc_ways.specs.Component.{asked_items, has_asked};

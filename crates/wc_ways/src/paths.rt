@@ -3,13 +3,13 @@
 ghost use Rattle.std.specs.Prelude.{◌≡◌, ◌<◌, ◌∷◌, [], IfOk, OnOk, Some, length, map};
 ghost use Rattle.std.specs.List.{slice_get};
 ghost use Rattle.std.specs.Option.{option_map, option_to_list};
-ghost use Rattle.wc_gc.specs.Decoded.{ItemIndex};
-ghost use Rattle.wc_gc.specs.RestrictionLaws.{IsImportItem};
+ghost use Rattle.wc_read.specs.Decoded.{ItemIndex};
+ghost use Rattle.wc_read.specs.ImportItems.{IsImportItem};
 ghost use Rattle.wc_read.specs.Imports.{import_value};
 ghost use Rattle.wc_why.specs.Paths.{exported, path_view, step_view};
 ghost use Rattle.wc_ways.specs.Private.Adapters.{AreStepsBy, HasMain, IsWalk, key_in, marks_at, original_in};
-ghost use Rattle.wc_component_tree.specs.Found.{function_value};
-ghost use Rattle.wc_component_tree.specs.Said.{Says};
+ghost use Rattle.wc_tree.specs.Found.{function_value};
+ghost use Rattle.wc_tree.specs.Said.{Says};
 ghost use Rattle.wc_ways.specs.Ways.{AreFirstSteps, AreOriginalPaths, IsAdapterPath, IsItemPath, IsPathAt};
 ghost use Rattle.wc_ways.specs.Private.Marked.{shown_by};
 
@@ -17,9 +17,9 @@ use crate::marked::put_path;
 use crate::modules::Adapter;
 use crate::originals::{Walk, asked_import, is_wanted};
 use std::alloc::{AllocError, Global};
-use wc_component_tree::Function;
 use wc_gc::Chain;
 use wc_read::Import;
+use wc_tree::Function;
 use wc_why::{MarkedPathPrinter, Path, Step, Target, push_items};
 
 /// Prints the paths to all imports of an adapter that are asked about, in the order of the file.

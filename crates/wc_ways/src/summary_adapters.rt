@@ -2,7 +2,7 @@
 
 ghost use Rattle.std.specs.Prelude.{◌≡◌, ◌⊎◌, IfErr, OnOk, map};
 ghost use Rattle.wc_gc.specs.LiveItems.{IsFault, names_of};
-ghost use Rattle.wc_plan.specs.Fault.{AreNameable};
+ghost use Rattle.wc_world.specs.Nameable.{AreNameable};
 ghost use Rattle.wc_read.specs.Modules.{module_value};
 ghost use Rattle.wc_summary.specs.Entries.{entries_view};
 ghost use Rattle.wc_validate.specs.Imports.Map.{required_entry, required_in};

@@ -1,7 +1,7 @@
 //! The imports of each interface by the main module of a component.
 
 ghost use Rattle.std.specs.Prelude.{OnOk};
-ghost use Rattle.wc_plan.specs.Fault.{AreNameable};
+ghost use Rattle.wc_world.specs.Nameable.{AreNameable};
 ghost use Rattle.wc_read.specs.Modules.{SpellsModule, module_value};
 ghost use Rattle.wc_summary.specs.Entries.{entries_view};
 ghost use Rattle.wc_world.specs.WorldViews.{world_view};

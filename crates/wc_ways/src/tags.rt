@@ -2,7 +2,7 @@
 
 ghost use Rattle.std.specs.Prelude.{◌≡◌, All, IfOk};
 ghost use Rattle.wc_names.specs.Views.{import_view};
-ghost use Rattle.wc_plan.specs.Calls.{IsNameable};
+ghost use Rattle.wc_world.specs.Nameable.{IsNameable};
 ghost use Rattle.wc_read.specs.Imports.{import_value, import_values};
 ghost use Rattle.wc_summary.specs.Leads.{tag_view, tags_view};
 ghost use Rattle.wc_validate.specs.Imports.Map.{imports_in};

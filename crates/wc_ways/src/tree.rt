@@ -2,7 +2,7 @@
 
 ghost use Rattle.std.specs.Prelude.{IfOk, map};
 ghost use Rattle.wc_tree.specs.Tree.{tree_view};
-ghost use Rattle.wc_component_tree.specs.Found.{found_view};
+ghost use Rattle.wc_tree.specs.Found.{found_view};
 ghost use Rattle.wc_ways.specs.Private.TreeFrom.{IsTreeFrom};
 ghost use Rattle.wc_ways.specs.Private.TypedFound.{typed_view};
 
@@ -11,9 +11,8 @@ use crate::main_tree::{PlacedMain, placed_main};
 use crate::typed_ends::{put_typed_imports, put_typed_ways};
 use crate::typed_found::FoundTyped;
 use std::alloc::{AllocError, Global};
-use wc_component_tree::{FoundModule, ImportKey, put_wanted, tree_of_found};
 use wc_maps::{Seed, Set};
-use wc_tree::Tree;
+use wc_tree::{FoundModule, ImportKey, Tree, put_wanted, tree_of_found};
 
 /// The tree of these modules, of which the first is the main module, and of the paths for types alone. Paths are in the order of
 /// the modules, and those for types come last.

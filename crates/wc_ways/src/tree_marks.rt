@@ -11,7 +11,7 @@ ghost use Rattle.wc_ways.specs.Private.MarkedTree.{item_by, marked_module, marke
 
 use crate::marked::{mark_by, part_named};
 use std::alloc::{AllocError, Global};
-use wc_component_graph::Marks;
+use wc_paths::Marks;
 use wc_tree::{Tree, TreeItem, TreeModule};
 use wc_world::ComponentWorld;
 

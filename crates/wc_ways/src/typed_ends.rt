@@ -3,17 +3,16 @@
 ghost use Rattle.std.specs.Prelude.{◌≡◌, ◌∷◌, [], IfOk, OnOk, map};
 ghost use Rattle.std.specs.Option.{option_map};
 ghost use Rattle.wc_tree.specs.Tree.{tree_import_view, tree_way_view};
-ghost use Rattle.wc_component_tree.specs.Said.{Says};
-ghost use Rattle.wc_component_tree.specs.WaysTree.{side_text, world_import};
-ghost use Rattle.wc_component_tree.specs.Found.{found_view};
+ghost use Rattle.wc_tree.specs.Said.{Says};
+ghost use Rattle.wc_tree.specs.WaysTree.{side_text, world_import};
+ghost use Rattle.wc_tree.specs.Found.{found_view};
 ghost use Rattle.wc_ways.specs.Private.TypedFound.{AreTypedWays, IsCitedEnd, IsCitedIn, IsTypedWay, IsTypedWayTo, of_adapter, of_main, typed_view, typed_way};
 
 use crate::found::CiteKey;
 use crate::typed_found::{FoundEnd, FoundTyped};
 use std::alloc::{AllocError, Global};
-use wc_component_tree::{FoundModule, ImportKey, place_in};
 use wc_maps::{Map, Seed, Set};
-use wc_tree::{TreeImport, TreeWay};
+use wc_tree::{FoundModule, ImportKey, TreeImport, TreeWay, place_in};
 use wc_why::WorldSide;
 
 /// The imports of adapters at which paths for types end.

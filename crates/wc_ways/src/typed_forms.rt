@@ -1,10 +1,10 @@
 //! In which form it is said why interfaces are imported for their types alone.
 
 ghost use Rattle.std.specs.Prelude.{◌≡◌, ℕ, List, IfErr, OnOk};
-ghost use Rattle.wc_plan.specs.Fault.{AreNameable};
+ghost use Rattle.wc_world.specs.Nameable.{AreNameable};
 ghost use Rattle.wc_world.specs.Views.{ComponentWorldView};
 ghost use Rattle.wc_ways.specs.Marked.{Marking};
-ghost use Rattle.wc_component_tree.specs.Said.{Says};
+ghost use Rattle.wc_tree.specs.Said.{Says};
 ghost use Rattle.wc_ways.specs.Types.{TypeCite};
 ghost use Rattle.wc_ways.specs.WaysFaults.{IsWaysFault};
 ghost use Rattle.wc_ways.specs.Private.MainWays.{IsFollowedIn, marks_in, world_of};

@@ -2,13 +2,13 @@
 
 ghost use Rattle.std.specs.Prelude.{◌≡◌, IfErr, IfOk, OnOk, string_bytes};
 ghost use Rattle.std.specs.Option.{option_map, option_to_list};
-ghost use Rattle.wc_plan.specs.Fault.{AreNameable};
+ghost use Rattle.wc_world.specs.Nameable.{AreNameable};
 ghost use Rattle.wc_resolve.specs.Roots.{id_index};
 ghost use Rattle.wc_why.specs.Paths.{text_of};
 ghost use Rattle.wc_world.specs.WorldViews.{imported_view, live_view, world_view};
 ghost use Rattle.wc_ways.specs.Tags.{all_key};
 ghost use Rattle.wc_ways.specs.Said.{AreTypesSaid, IsTypedSaid};
-ghost use Rattle.wc_component_tree.specs.Said.{Says};
+ghost use Rattle.wc_tree.specs.Said.{Says};
 ghost use Rattle.wc_resolve.specs.WellFormed.{type_name};
 ghost use Rattle.wc_ways.specs.Types.{cite, first_live, has_live_types, root_user, typed_name, user_in};
 ghost use Rattle.wc_ways.specs.WaysFaults.{IsWaysFault};

@@ -1,17 +1,17 @@
 //! The paths to the functions that a component imports.
 
 ghost use Rattle.std.specs.Prelude.{◌≡◌, ◌<◌, [], IfErr, IfOk, OnOk, length, map, string_bytes};
-ghost use Rattle.wc_plan.specs.Fault.{AreNameable};
+ghost use Rattle.wc_world.specs.Nameable.{AreNameable};
 ghost use Rattle.wc_tree.specs.Tree.{tree_view};
 ghost use Rattle.wc_world.specs.WorldViews.{world_view};
 ghost use Rattle.wc_ways.specs.Private.Adapters.{IsMainOf};
 ghost use Rattle.wc_ways.specs.Said.{AreModulesSaid, AreTypesSaid};
-ghost use Rattle.wc_component_tree.specs.Said.{Says};
+ghost use Rattle.wc_tree.specs.Said.{Says};
 ghost use Rattle.wc_ways.specs.Ways.{ArePaths, IsWaysText, or_none, way_lines};
 ghost use Rattle.wc_ways.specs.WaysFaults.{IsWaysFault};
 ghost use Rattle.wc_ways.specs.WaysTree.{IsWaysGraph, IsWaysJson};
 ghost use Rattle.wc_ways.specs.Private.Found.{AreFound};
-ghost use Rattle.wc_component_tree.specs.Found.{found_view};
+ghost use Rattle.wc_tree.specs.Found.{found_view};
 ghost use Rattle.wc_ways.specs.Private.MainWays.{IsFollowedIn, key_of, marks_in, world_of};
 ghost use Rattle.wc_ways.specs.Private.TreeFrom.{IsGraphFrom, IsJsonFrom, IsMarkedFrom};
 ghost use Rattle.wc_ways.specs.Private.TypedFound.{AreTypedFound, typed_view};
@@ -28,10 +28,9 @@ use crate::typed_ends::cites_of;
 use crate::typed_found::{FoundTyped, FoundTypes};
 use crate::types::put_types;
 use std::alloc::{AllocError, Global};
-use wc_component_tree::FoundModule;
 use wc_gc::GcFault;
-use wc_json::escaped;
-use wc_tree::{Tree, tree_to_graph, tree_to_json};
+use wc_texts::escaped;
+use wc_tree::{FoundModule, Tree, tree_to_graph, tree_to_json};
 use wc_world::ComponentWorld;
 
 /// The paths to what the modules of a component import of what its world imports, as lines: of what `key` asks about
@@ -70,7 +69,7 @@ use wc_world::ComponentWorld;
 /// is `type NAME`: the type of INTERFACE that is live first. None of these lines is marked.
 ///
 /// Where nothing is imported that is asked about, there is one line, `KEY: in the world, not imported`. Texts from outside are escaped
-/// (`wc_json::escaped`), and a blank in them is `\u{20}`; in the line of a key it stays.
+/// (`wc_texts::escaped`), and a blank in them is `\u{20}`; in the line of a key it stays.
 ///
 /// It takes time and memory linear in the modules, in the types and in the text; and also time linear in an adapter for each
 /// interface whose types an import of it needs first, and in the types to which it refers for each exported interface.

@@ -10,8 +10,8 @@ use Rattle.wc_read.specs.declared.operators.Space.{Space}
 use Rattle.wc_read.specs.declared.operators.Space.TheVariants.{Funcs, Tables, Memories, Globals}
 use Rattle.wc_read.specs.declared.types.ImportType.{ImportType}
 use Rattle.wc_read.specs.declared.types.ImportType.TheVariants.{Func, Table, Memory, Global}
-use Rattle.wc_gc.specs.Decoded.{ItemIndex}
-use Rattle.wc_gc.specs.RestrictionLaws.{is_in_space, positions_from}
+use Rattle.wc_read.specs.Decoded.{ItemIndex}
+use Rattle.wc_read.specs.ImportItems.{is_in_space, positions_from}
 use Rattle.wc_gc.specs.LiveChains.{AreImportChains, AreWhyImports}
 use Rattle.wc_gc.specs.LiveItems.{TrimInput}
 use Rattle.wc_gc.specs.declared.import_chains.ImportChains.{ImportChains}

@@ -4,7 +4,7 @@ use Rattle.std.proofs.lemmas.Map.Made.{lookup-map_values}
 use Rattle.std.specs.Borrow.{Bor}
 use Rattle.std.specs.Map.{lookup}
 use Rattle.wc_read.specs.declared.operators.Space.TheVariants.{Funcs}
-use Rattle.wc_gc.specs.Decoded.{ItemIndex}
+use Rattle.wc_read.specs.Decoded.{ItemIndex}
 use Rattle.wc_why.specs.Paths.{name_in, text_of}
 
 -- the name of a function, as a map has it

@@ -7,7 +7,7 @@ use Rattle.json.specs.Json.{Json}
 use Rattle.json.specs.Token.{Token, begin_array, begin_object, end_array, end_object, key, string}
 use Rattle.json.specs.Tree.{items_tokens, json_tokens}
 use Rattle.json.specs.Written.{Writes, Written}
-use Rattle.wc_json.specs.Shapes.{array_of, items_of, object_of}
+use Rattle.wc_texts.specs.Shapes.{array_of, items_of, object_of}
 use Rattle.wc_why.specs.JsonPaths.{begun_tokens, ended_tokens}
 use Rattle.wc_why.specs.Private.Tokens.{Puts}
 

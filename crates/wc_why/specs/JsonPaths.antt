@@ -2,7 +2,7 @@
 use Rattle.std.specs.Prelude.{ℕ, List, [], ◌∷◌, ◌++◌, map, codes, Option, Some, None}
 use Rattle.json.specs.Json.{Json, null, string}
 use Rattle.json.specs.Token.{Token, begin_array, begin_object, end_array, end_object, key}
-use Rattle.wc_json.specs.Shapes.{array_of, nullable_json, number_json, object_of}
+use Rattle.wc_texts.specs.Shapes.{array_of, nullable_json, number_json, object_of}
 use Rattle.wc_segments.specs.Segments.{segment_section_name}
 use Rattle.wc_paths.specs.PathRoots.{RootView, by_export, by_start, by_table, by_memory}
 use Rattle.wc_why.specs.Lines.{kind_name, side_name, space_name}

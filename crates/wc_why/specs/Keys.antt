@@ -4,8 +4,8 @@ use Rattle.std.specs.Prelude.{ℕ, ◌==◌, Bool, false, ◌&&◌, ◌||◌, Li
 use Rattle.std.specs.List.{before_first}
 use Rattle.std.specs.Option.{option_map, option_map_or}
 use Rattle.std.specs.Str.{bytes_eq}
-use Rattle.wc_json.specs.Packages.{split_once}
-use Rattle.wc_resolve.specs.Characters.{at_sign, slash}
+use Rattle.wc_texts.specs.Splits.{split_once}
+use Rattle.wc_texts.specs.Characters.{at_sign, slash}
 
 -- a text before and after a character
 abbrev pub Halves : Type 0

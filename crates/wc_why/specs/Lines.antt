@@ -1,7 +1,7 @@
 -- Paths as lines. Each text from outside is a word, or ends its line, so that a line has one reading.
 use Rattle.std.specs.Prelude.{ℕ, ◌==◌, Bool, true, false, cond, List, [], ◌++◌, codes, decimal, Option, Some, None}
 use Rattle.std.specs.List.{flat_map}
-use Rattle.wc_json.specs.Escape.{escaped}
+use Rattle.wc_texts.specs.Escape.{escaped}
 use Rattle.wc_read.specs.declared.operators.Space.{Space}
 use Rattle.wc_read.specs.declared.operators.Space.TheVariants.{Types, Funcs, Tables, Memories, Globals}
 use Rattle.wc_segments.specs.Segments.{segment_section_name}

@@ -3,7 +3,7 @@ use Rattle.std.specs.Prelude.{ℕ, Bool, true, false, List, [], ◌∷◌, ◌++
 use Rattle.std.specs.List.{flat_map}
 use Rattle.std.specs.Option.{option_map}
 use Rattle.json.specs.Json.{Json, boolean, null, string}
-use Rattle.wc_json.specs.Shapes.{array_of, number_json, object_of}
+use Rattle.wc_texts.specs.Shapes.{array_of, number_json, object_of}
 use Rattle.wc_paths.specs.Dominators.{MarksValue, is_marked}
 use Rattle.wc_paths.specs.declared.items.PathItem.{PathItem}
 use Rattle.wc_paths.specs.declared.items.PathItem.TheVariants.{Item as path_item, Elements as path_elements, Data as path_data}

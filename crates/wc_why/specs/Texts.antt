@@ -3,7 +3,7 @@ use Rattle.std.specs.Prelude.{ℕ, ◌==◌, List, ◌++◌, cond, codes}
 use Rattle.std.specs.Char.{encode_utf8}
 use Rattle.std.specs.List.{flat_map}
 use Rattle.std.specs.Str.{chars}
-use Rattle.wc_json.specs.Escape.{escaped}
+use Rattle.wc_texts.specs.Escape.{escaped}
 
 -- a blank as `\u{20}`
 abbrev pub word_char : ℕ → List ℕ

@@ -6,7 +6,7 @@ ghost use Rattle.json.specs.Print.{print};
 ghost use Rattle.json.specs.Lex.{tokens};
 ghost use Rattle.json.specs.Token.{begin_object, end_object, key, null, string};
 ghost use Rattle.json.specs.Tree.{json_tokens};
-ghost use Rattle.wc_json.specs.Shapes.{array_of, number_json};
+ghost use Rattle.wc_texts.specs.Shapes.{array_of, number_json};
 ghost use Rattle.wc_paths.specs.PathRoots.{root_view};
 ghost use Rattle.wc_why.specs.JsonPaths.{begun_tokens, ended_tokens, export_json, fills_json, import_json, item_json, kind_json, named_json, path_json, root_json, step_json, text_or_null, type_json, typed_json, unfollowed_json, unread_body_json, unread_section_json, world_json};
 ghost use Rattle.wc_why.specs.Paths.{path_view, step_view, text_of};

@@ -2,7 +2,7 @@
 
 ghost use Rattle.std.specs.Prelude.{◌≡◌, ◌<◌, IfOk, string_bytes};
 ghost use Rattle.std.specs.Option.{option_map};
-ghost use Rattle.wc_json.specs.Packages.{split_once};
+ghost use Rattle.wc_texts.specs.Splits.{split_once};
 ghost use Rattle.wc_why.specs.Keys.{asks_about, has_version, is_package, names_package, package_of, package_text, unversioned_text, version_of, versioned_package};
 
 use std::alloc::{AllocError, Global};

@@ -12,9 +12,9 @@ use crate::paths::{
 };
 use crate::texts::{two_words, word};
 use std::alloc::{AllocError, Global};
-use wc_json::escaped;
 use wc_paths::PathRoot;
 use wc_read::Space;
+use wc_texts::escaped;
 
 /// The lines of a path (`push_path`).
 impl PathPrinter for String {
@@ -44,7 +44,7 @@ impl PathPrinter for String {
 ///   of the next step (`CalledBy`): `called by func N NAME` for each, and `called by N more`, if there are more;
 /// - `world imports NAME`, or `world exports NAME`, and `type NAME`.
 ///
-/// Texts from outside are escaped (`wc_json::escaped`), and a blank in them is `\u{20}`; but in the name of an item, and of
+/// Texts from outside are escaped (`wc_texts::escaped`), and a blank in them is `\u{20}`; but in the name of an item, and of
 /// an export of a module that stands alone, which end their lines, it stays.
 ///
 /// # Errors
@@ -257,7 +257,7 @@ fn begin_text(alloc: Global, of_main: bool, root: PathRoot<'_>) -> Result<String
     }
 }
 
-/// Where a path begins in a module that stands alone: `export NAME`, the name escaped (`wc_json::escaped`), `start`,
+/// Where a path begins in a module that stands alone: `export NAME`, the name escaped (`wc_texts::escaped`), `start`,
 /// `fills table T` or `fills memory M`.
 ///
 /// # Errors
@@ -341,7 +341,7 @@ pub(crate) fn kind_name(kind: SegmentKind) -> &'static str
 }
 
 /// An item: its kind (`type`, `func`, `table`, `memory` or `global`), its index, and its name, if it has one, escaped
-/// (`wc_json::escaped`).
+/// (`wc_texts::escaped`).
 ///
 /// # Errors
 ///

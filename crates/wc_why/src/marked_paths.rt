@@ -5,7 +5,7 @@ ghost use Rattle.std.specs.List.{flat_map};
 ghost use Rattle.std.specs.Option.{option_map};
 ghost use Rattle.json.specs.Token.{boolean, key};
 ghost use Rattle.json.specs.Tree.{json_tokens};
-ghost use Rattle.wc_json.specs.Shapes.{array_of};
+ghost use Rattle.wc_texts.specs.Shapes.{array_of};
 ghost use Rattle.wc_why.specs.MarkedPaths.{json_with, line_with, marked_item_json, marked_json, marked_line, marked_lines, marked_step_json, marked_target_json, marking_of, segment_item, step_mark};
 ghost use Rattle.wc_why.specs.Paths.{named, path_view, step_view, text_of, typed};
 ghost use Rattle.wc_why.specs.Private.Tokens.{Puts};

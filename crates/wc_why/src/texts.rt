@@ -6,7 +6,7 @@ ghost use Rattle.std.specs.Str.{chars};
 ghost use Rattle.wc_why.specs.Texts.{graph_text, two_words, word};
 
 use std::alloc::{AllocError, Global};
-use wc_json::escaped;
+use wc_texts::escaped;
 
 /// A mapping from characters to texts.
 trait Mapping {
@@ -75,7 +75,7 @@ impl Mapping for AsLabel {
     }
 }
 
-/// A text, escaped (`wc_json::escaped`), with each blank as `\u{20}`: so it ends at the next blank.
+/// A text, escaped (`wc_texts::escaped`), with each blank as `\u{20}`: so it ends at the next blank.
 ///
 /// # Errors
 ///

@@ -11,11 +11,11 @@ use Rattle.std.proofs.lemmas.List.{map-append}
 use Rattle.std.proofs.lemmas.List.Elements.{All-from_recursion, filter-append, recursion_from_All}
 use Rattle.std.proofs.lemmas.Slice.Eq.{bytes_eq-Decides}
 use Rattle.indexmap.specs.IndexMap.{insert_entry}
-use Rattle.wc_gc.proofs.TwiceReachLemmas.{all_filter}
+use Rattle.wc_graph.proofs.ListLemmas.{all_filter}
 use Rattle.wc_read.specs.Types.{FuncTypeValue}
 use Rattle.wc_resolve.specs.Kinds.{ResolveView}
 use Rattle.wc_resolve.proofs.KeyLemmas.{texts_law}
-use Rattle.wc_resolve.proofs.LookupLemmas.{name_viewed}
+use Rattle.wc_maps.proofs.LookupLemmas.{name_viewed}
 use Rattle.wc_adapters.specs.declared.adapters.Adapter.{Adapter}
 use Rattle.wc_adapters.specs.Adapters.{AdapterView, adapter_entry as input_entry, adapter_view as input_view}
 use Rattle.wc_encoder.specs.EncoderParts.{EncoderView, world_exports}
@@ -25,7 +25,7 @@ use Rattle.wc_validate.specs.Validate.{IsRecordOf, ModuleRecord, main_input}
 use Rattle.wc_validate.specs.Refused.{RefusedModule}
 use Rattle.wc_world.specs.Trimming.{HasOtherName, NamedAdapter, is_adapter_needed, is_needed, needed_adapters}
 use Rattle.wc_world.specs.Causes.{IsComponentWorldCause, IsFaultOf, IsFirst, IsFirstFault, IsMemory, IsMemoryOf, IsReachedMemory, IsStopOf, IsValidAdapter}
-use Rattle.wc_world.specs.Private.Refused.{IsFirstRefusal, IsMainRefusal, IsModuleRefusal, IsNeededStopAt}
+use Rattle.wc_world.specs.Private.Refused.{IsFirstRefusal, IsMainRefusal, IsNeededStopAt, IsRefusalOfMain}
 use Rattle.wc_world.specs.Refused.{IsMemoryRefusal, IsRefusedAt, RefusedWorld}
 use Rattle.wc_world.specs.Views.{NamedWorldAdapter}
 use Rattle.wc_world.specs.World.{AreAdaptersAmong, IsAdapterOf, IsMainRecord}
@@ -210,7 +210,7 @@ first_placed e main x h (inl memory) = memory_placed e x memory
 first_placed e main x h (inr first) = adapter_placed e main h first.adapter first.here.0 x.fault x.place first.here.1.0 first.here.1.1
 
 -- the main module is refused
-pub main_refused : (e : EncoderView) (m : RefusedModule) (x : RefusedWorld) → IsModuleRefusal (main_input e e.module_import_map) e.module_bytes m → IsMainRefusal m x → IsMemory e x.fault ⊎ IsComponentWorldCause e x.fault
+pub main_refused : (e : EncoderView) (m : RefusedModule) (x : RefusedWorld) → IsRefusalOfMain e m → IsMainRefusal m x → IsMemory e x.fault ⊎ IsComponentWorldCause e x.fault
 main_refused e m x h is = subst (λ f. IsMemory e f ⊎ IsComponentWorldCause e f) (sym is.0) (refused_or_memory (main_input e e.module_import_map) e.module_bytes m.fault h.0)
 
 -- of an adapter that the walk has come to, under the name that was read

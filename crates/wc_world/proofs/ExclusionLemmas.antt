@@ -9,7 +9,7 @@ use Rattle.wc_write.specs.Modules.{built_text}
 use Rattle.wc_adapters.specs.Adapters.{LibraryView}
 use Rattle.wc_encoder.specs.EncoderParts.{EncoderView}
 use Rattle.wc_gc.specs.Causes.{DecidesLive}
-use Rattle.wc_gc.specs.Decoded.{ItemIndex, decode}
+use Rattle.wc_read.specs.Decoded.{ItemIndex, decode}
 use Rattle.wc_gc.specs.Edit.{edit}
 use Rattle.wc_gc.specs.EditedImage.{edited_image}
 use Rattle.wc_gc.specs.Exports.{kept_exports}

@@ -17,7 +17,7 @@ use Rattle.wc_resolve.proofs.WellFormedLemmas.{IsUsableItem, import_functions_us
 use Rattle.wc_encoder.specs.Distinct.{AreNamesDistinct, import_name, item_interface}
 use Rattle.wc_encoder.specs.EncoderParts.{EncoderView, HasWorld, world_imports}
 use Rattle.wc_adapters.specs.Entries.{Entries}
-use Rattle.wc_adapters.proofs.PairLemmas.{pairs_head, pairs_none, pairs_tail}
+use Rattle.wc_maps.proofs.PairLemmas.{pairs_head, pairs_none, pairs_tail}
 use Rattle.wc_validate.specs.Imports.Map.{memory_in}
 use Rattle.wc_validate.specs.Validate.{ModuleRecord}
 use Rattle.wc_world.specs.Lowering.{AreEntriesDistinct, ImportEntry, IsImportable, IsLowerable, KeyedLowering, Lowerer, all_entries, entries_from}

@@ -13,7 +13,7 @@ use Rattle.wc_resolve.specs.declared.functions.AbiVariant.{AbiVariant}
 use Rattle.wc_resolve.specs.declared.functions.AbiVariant.TheVariants.{GuestImport, GuestExport, GuestImportAsync, GuestExportAsync, GuestExportAsyncStackful}
 use Rattle.wc_resolve.specs.contracts.functions.AbiVariantPartialEq.TheImpl.{eq-value as abi_eq}
 use Rattle.wc_resolve.proofs.KeyLemmas.{texts_law}
-use Rattle.wc_adapters.proofs.PairLemmas.{pairs_head, pairs_tail}
+use Rattle.wc_maps.proofs.PairLemmas.{pairs_head, pairs_tail}
 use Rattle.wc_world.specs.declared.imported.ImportedInterface.{ImportedInterface}
 use Rattle.wc_world.specs.declared.imported.Lowering.{Lowering}
 use Rattle.wc_world.specs.Lowering.{AreEntriesDistinct, AreKeysDistinct, KeyedLowering}

@@ -15,6 +15,7 @@ pub mod SettledLemmas
 pub mod AddedFunctionLemmas
 pub mod OwnerLemmas
 pub mod PairListLemmas
+pub mod ModuleLemmas
 pub mod LoweringKeyLemmas
 pub mod ImportEntryLemmas
 pub mod NeededLemmas

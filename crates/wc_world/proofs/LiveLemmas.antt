@@ -20,7 +20,7 @@ use Rattle.wc_resolve.proofs.AcyclicLemmas.{children_within, ids_of_types}
 use Rattle.wc_resolve.proofs.ListUnionLemmas.{joined_from, with_from}
 use Rattle.wc_resolve.proofs.ResourcesByValueLemmas.{kind_in}
 use Rattle.wc_resolve.proofs.RootsInLemmas.{AreBelow, below_append, below_joined, below_none, below_one, function_in, item_in, outcome_in}
-use Rattle.wc_resolve.proofs.SearchLemmas.{contains_head, contains_none, contains_tail}
+use Rattle.wc_maps.proofs.ListLemmas.{contains_head, contains_none, contains_tail}
 use Rattle.wc_resolve.proofs.WellFormedLemmas.{all_get}
 use Rattle.wc_encoder.specs.Dependencies.{AreItemsIn}
 use Rattle.wc_encoder.specs.EncoderParts.{EncoderView, IsWorldOf, world_imports}

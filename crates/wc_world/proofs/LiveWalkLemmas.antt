@@ -13,7 +13,7 @@ use Rattle.wc_resolve.specs.Roots.{indices}
 use Rattle.wc_resolve.specs.Kinds.{ResolveView}
 use Rattle.wc_resolve.proofs.ListUnionLemmas.{contains_joined, joined_from, list_union_append, list_union_has, list_union_there}
 use Rattle.wc_resolve.proofs.ListingLemmas.{complete_none}
-use Rattle.wc_resolve.proofs.SearchLemmas.{contains_head}
+use Rattle.wc_maps.proofs.ListLemmas.{contains_head}
 use Rattle.wc_adapters.specs.Entries.{Entries}
 use Rattle.wc_names.specs.Views.{ImportView}
 use Rattle.wc_world.specs.Live.{by_owner, import_roots, IsWithoutRepeats, live_from}

@@ -20,7 +20,7 @@ use Rattle.wc_resolve.specs.Kinds.{ResolveView}
 use Rattle.wc_resolve.proofs.KeyLemmas.{texts_law}
 use Rattle.wc_resolve.proofs.WellFormedLemmas.{all_get}
 use Rattle.wc_encoder.specs.Distinct.{AreNamesDistinct, import_name}
-use Rattle.wc_adapters.proofs.PairLemmas.{pairs_none}
+use Rattle.wc_maps.proofs.PairLemmas.{pairs_none}
 use Rattle.wc_names.specs.Keys.{resource_at}
 use Rattle.wc_names.proofs.MeaningRangeLemmas.{function_names, listed_names}
 use Rattle.wc_names.proofs.RangeLemmas.{resource_is}

@@ -7,7 +7,7 @@ use Rattle.std.proofs.lemmas.List.Elements.{All-head}
 use Rattle.wc_read.specs.Types.{FuncTypeValue}
 use Rattle.wc_resolve.specs.Views.{FunctionView, ItemView, KeyView, WorldView, function_item, interface_item, type_item}
 use Rattle.wc_resolve.specs.Kinds.{ResolveView}
-use Rattle.wc_resolve.proofs.SearchLemmas.{contains_none}
+use Rattle.wc_maps.proofs.ListLemmas.{contains_none}
 use Rattle.wc_encoder.specs.EncoderParts.{EncoderView, world_exports}
 use Rattle.wc_adapters.specs.Entries.{Entries}
 use Rattle.wc_names.specs.Exports.{CoreExport}

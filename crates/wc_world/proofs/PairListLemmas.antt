@@ -5,7 +5,7 @@ use Rattle.std.proofs.lemmas.List.Elements.{All-append, All-cons, All-head, All-
 use Rattle.std.proofs.lemmas.List.Kept.{AllPairs-cons}
 use Rattle.wc_resolve.proofs.ViewedLemmas.{all_unviewed}
 pub use Rattle.wc_validate.proofs.MissingLemmas.{all_rest as all_back}
-use Rattle.wc_adapters.proofs.PairLemmas.{pairs_head, pairs_none, pairs_tail}
+use Rattle.wc_maps.proofs.PairLemmas.{pairs_head, pairs_none, pairs_tail}
 
 pub all_front : {X : Type 0} (P : X → Type 0) (xs ys : List X) → All P (xs ++ ys) → All P xs
 all_front P [] ys h = All-nil P

@@ -1,18 +1,23 @@
 -- Refusals: of what a module is refused for, to what a component is.
-use Rattle.std.proofs.Common.{◌≡◌, ◌⊎◌, ℕ, List, MatchOption, Option, Some, None, Result, Ok, Err, IfErr, IsErrAnd, String, string_bytes, sym, subst, inl, inr, ◌∙◌}
+use Rattle.std.proofs.Common.{◌≡◌, ◌⊎◌, ℕ, List, IsSomeAnd, MatchOption, Option, Some, None, Result, Ok, Err, IfErr, IsErrAnd, String, string_bytes, refl, sym, subst, inl, inr, ◌∙◌}
 use Rattle.std.specs.Option.{option_map}
 use Rattle.std.specs.declared.alloc.Global.{Global}
 use Rattle.wc_encoder.specs.EncoderParts.{EncoderView}
 use Rattle.wc_dedupe.specs.Renaming.{RenameView}
-use Rattle.wc_validate.specs.Explain.{IsPlace}
-use Rattle.wc_validate.specs.Refused.{IsRefusedAt as IsModuleRefusedAt, RefusedModule}
+use Rattle.wc_read.specs.Place.{IsCausePlace, IsPlaceIn}
+use Rattle.wc_read.specs.declared.fault.ReadFault.{ReadFault}
+use Rattle.wc_read.specs.declared.place.ReadPlace.{ReadPlace}
+use Rattle.wc_validate.specs.Explain.{IsPlace, PlaceView, place_view}
+use Rattle.wc_validate.specs.Refused.{IsMemoryRefusal as IsMemoryOfModule, IsPlaceOrNone as IsModulePlaceOrNone, IsRefusedAt as IsModuleRefusedAt, RefusedModule, bytes_place}
 use Rattle.wc_validate.specs.Validate.{IsValidateCause, ModuleRecord, main_input}
 use Rattle.wc_gc.specs.declared.fault.GcFault.{GcFault}
 use Rattle.wc_validate.specs.declared.fault.ValidateFault.{ValidateFault}
+use Rattle.wc_validate.specs.declared.place.Place.{Place}
+use Rattle.wc_validate.proofs.RefusedLemmas.{memory_at}
 use Rattle.wc_world.specs.Causes.{IsStopOf}
-use Rattle.wc_world.specs.Places.{IsInAdapter, IsInMain, IsMinimizedPlace, IsNeededUnder, IsOfAdapter, IsOriginalPlace, IsTrimPlace, IsTrimUnplaced, IsValidationPlace}
-use Rattle.wc_world.specs.Private.Refused.{IsModuleRefusal, IsOfNoPlace, IsPlaceOf}
-use Rattle.wc_world.specs.Refused.{HasNoPlace, IsMainRefusal, IsMemoryRefusal, IsNamedRefusal, IsPlaceOrNone, IsPlaceWith, IsRefusedAt, RefusedWorld}
+use Rattle.wc_world.specs.Places.{IsGivenByte, IsInAdapter, IsInMain, IsMainPlace, IsMinimizedPlace, IsNeededUnder, IsOfAdapter, IsOriginalPlace, IsPlaceOfMain, IsTrimPlace, IsTrimUnplaced, read_fault_in}
+use Rattle.wc_world.specs.Private.Refused.{IsModuleRefusal, IsOfNoPlace, IsPlaceOf, IsRefusalOfMain}
+use Rattle.wc_world.specs.Refused.{HasNoPlace, IsGivenRefusal, IsMainRefusal, IsMemoryRefusal, IsNamedRefusal, IsPlaceOrNone, IsPlaceWith, IsRefusedAt, RefusedWorld}
 use Rattle.wc_world.specs.Trimming.{NamedAdapter}
 use Rattle.wc_world.specs.World.{IsMainRecord}
 use Rattle.wc_world.specs.declared.fault.WorldFault.{WorldFault}
@@ -54,16 +59,56 @@ named_if make kind name found s f at x made named is (inr refused) = inr (s, nam
 pub memory_placed : (e : EncoderView) (x : RefusedWorld) → IsMemoryRefusal x → IsRefusedAt e x
 memory_placed e x h = subst (IsPlaceOrNone e x.fault) (sym h.1) (subst (HasNoPlace e) (sym h.0) tt)
 
--- of the main module
-pub main_refusal_of : (e : EncoderView) (renames : Option (List RenameView)) (bytes : List ℕ) (m : RefusedModule) → renames ≡ e.module_import_map → bytes ≡ e.module_bytes → IsValidateCause (main_input e renames) bytes m.fault
-    → IsModuleRefusedAt (IsPlace (main_input e renames) bytes) m → IsModuleRefusal (main_input e e.module_import_map) e.module_bytes m
-main_refusal_of e renames bytes m same is cause at =
-    subst (λ b. IsModuleRefusal (main_input e e.module_import_map) b m) is (subst (λ z. IsModuleRefusal (main_input e z) bytes m) same (cause, at))
+-- of the main module: of its bytes; of a fault of reading, with a byte of it as it was given; and as that of the component
 
-pub main_placed : (e : EncoderView) (m : RefusedModule) (x : RefusedWorld) → IsModuleRefusal (main_input e e.module_import_map) e.module_bytes m → IsMainRefusal m x → IsRefusedAt e x
+given_memory : (e : EncoderView) (y : RefusedModule) → IsMemoryOfModule y → IsRefusalOfMain e y
+given_memory e y h = (
+  subst (IsValidateCause (main_input e e.module_import_map) e.module_bytes) (sym h.0) tt,
+  memory_at (IsMainPlace e) y h,
+)
+
+-- a place of a fault, by the fault of reading that it carries
+module _ (e : EncoderView) (f : ValidateFault) where
+  read_at : (read : Option ReadFault) (p : PlaceView) → read ≡ read_fault_in f → MatchOption read (IsPlace (main_input e e.module_import_map) e.module_bytes f p) (λ r. IsGivenByte e r p) → IsMainPlace e f p
+  read_at read p is h = subst (λ o. MatchOption o (IsPlace (main_input e e.module_import_map) e.module_bytes f p) (λ r. IsGivenByte e r p)) is h
+
+  given_at : (r : ReadFault) (o : Option Place) → Some r ≡ read_fault_in f → IsSomeAnd o (λ (p : Place). IsGivenByte e r (place_view p)) → IsModulePlaceOrNone (IsMainPlace e) f o
+  given_at r None is h = absurd h
+  given_at r (Some p) is h = read_at (Some r) (place_view p) is h
+
+  same_at : (o : Option Place) → None ≡ read_fault_in f → IsModulePlaceOrNone (IsPlace (main_input e e.module_import_map) e.module_bytes) f o → IsModulePlaceOrNone (IsMainPlace e) f o
+  same_at None is h = h
+  same_at (Some p) is h = read_at None (place_view p) is h
+
+given_by : (e : EncoderView) (m y : RefusedModule) (read : Option ReadFault) → read ≡ read_fault_in m.fault → IsModuleRefusal (main_input e e.module_import_map) e.module_bytes m
+    → MatchOption read (y ≡ m) (λ r. IsMemoryOfModule y ⊎ ((y.fault ≡ m.fault) × IsSomeAnd y.place (λ (p : Place). IsGivenByte e r (place_view p)))) → IsRefusalOfMain e y
+given_by e m y None is h same = subst (IsRefusalOfMain e) (sym same) (h.0, same_at e m.fault m.place is h.1)
+given_by e m y (Some r) is h (inl memory) = given_memory e y memory
+given_by e m y (Some r) is h (inr (fault, place)) = (
+  subst (IsValidateCause (main_input e e.module_import_map) e.module_bytes) (sym fault) h.0,
+  subst (λ f. IsModulePlaceOrNone (IsMainPlace e) f y.place) (sym fault) (given_at e m.fault r y.place is place),
+)
+
+pub given_refused : (e : EncoderView) (x y : RefusedModule) (f : ReadFault) (q : ReadPlace) (bytes : List ℕ) → read_fault_in x.fault ≡ Some f → bytes ≡ e.given_bytes → y.fault ≡ x.fault → y.place ≡ Some (bytes_place q)
+    → IsPlaceIn bytes q → IsCausePlace bytes f q → IsGivenRefusal e x y
+given_refused e x y f q bytes is same fault place there cause =
+    subst (λ (o : Option ReadFault). MatchOption o (y ≡ x) (λ r. IsMemoryOfModule y ⊎ ((y.fault ≡ x.fault) × IsSomeAnd y.place (λ (p : Place). IsGivenByte e r (place_view p))))) (sym is)
+    (inr (
+      fault,
+      subst (λ (o : Option Place). IsSomeAnd o (λ (p : Place). IsGivenByte e f (place_view p))) (sym place)
+          (q, subst (λ (b : List ℕ). IsPlaceIn b q) same there, subst (λ (b : List ℕ). IsCausePlace b f q) same cause, refl),
+    ))
+
+pub main_refusal_of : (e : EncoderView) (renames : Option (List RenameView)) (bytes : List ℕ) (m y : RefusedModule) → renames ≡ e.module_import_map → bytes ≡ e.module_bytes → IsValidateCause (main_input e renames) bytes m.fault
+    → IsModuleRefusedAt (IsPlace (main_input e renames) bytes) m → IsGivenRefusal e m y → IsRefusalOfMain e y
+main_refusal_of e renames bytes m y same is cause at given =
+    given_by e m y (read_fault_in m.fault) refl
+    (subst (λ b. IsModuleRefusal (main_input e e.module_import_map) b m) is (subst (λ z. IsModuleRefusal (main_input e z) bytes m) same (cause, at))) given
+
+pub main_placed : (e : EncoderView) (m : RefusedModule) (x : RefusedWorld) → IsRefusalOfMain e m → IsMainRefusal m x → IsRefusedAt e x
 main_placed e m x h is =
     subst (λ f. IsPlaceOrNone e f x.place) (sym is.0)
-    (placed IsInMain place.Validation (HasNoPlace e (Main m.fault)) _ (IsValidationPlace (main_input e e.module_import_map) e.module_bytes m.fault) (λ p at. at) m.place x.place h.1 is.1)
+    (placed IsInMain place.Validation (HasNoPlace e (Main m.fault)) _ (IsPlaceOfMain e m.fault) (λ p at. at) m.place x.place h.1 is.1)
 
 -- of a needed adapter of the encoder
 module _ (e : EncoderView) (main : ModuleRecord) (recorded : IsMainRecord e main) (a : NamedAdapter) (needed : IsNeededUnder e main a.0 a.1) where

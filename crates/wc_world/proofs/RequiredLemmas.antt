@@ -3,14 +3,14 @@ use Rattle.std.proofs.Common.{◌≡◌, ◌↔◌, ℕ, List, [], ◌∷◌, �
 use Rattle.std.specs.Str.{bytes_eq}
 use Rattle.std.proofs.lemmas.List.Elements.{Contains-append_cases, Contains-append_left, Contains-append_right}
 use Rattle.wc_read.specs.Types.{FuncTypeValue}
-use Rattle.wc_resolve.proofs.SearchLemmas.{contains_cons, contains_head, contains_none, contains_tail}
+use Rattle.wc_maps.proofs.ListLemmas.{contains_cons, contains_head, contains_none, contains_tail}
 use Rattle.wc_names.specs.ExportViews.{ExportView}
 use Rattle.wc_texts.specs.Names.{first_occurrences}
 use Rattle.wc_validate.specs.Imports.Map.{required_in}
 use Rattle.wc_validate.specs.Validate.{ModuleRecord}
 use Rattle.wc_validate.proofs.ContainedLemmas.{mapped_there}
-use Rattle.wc_gc.proofs.ChainLemmas.{contains_unmapped}
-use Rattle.wc_gc.proofs.TwiceReachLemmas.{from_filter}
+use Rattle.wc_graph.proofs.ListLemmas.{contains_unmapped}
+use Rattle.wc_graph.proofs.ListLemmas.{from_filter}
 use Rattle.wc_world.specs.Trimming.{required_names}
 use Rattle.wc_world.specs.Required.{AreSameNames, IsTrimmedFor}
 use Rattle.wc_world.specs.World.{adapter_trim_input}

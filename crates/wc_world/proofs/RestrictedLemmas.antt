@@ -15,8 +15,8 @@ use Rattle.wc_read.specs.declared.types.ImportType.{ImportType}
 use Rattle.wc_read.specs.declared.types.ImportType.TheVariants.{Func, Table, Memory, Global}
 use Rattle.wc_write.specs.BuiltValues.{written_module}
 use Rattle.wc_write.specs.Values.{AreBytes}
-use Rattle.wc_gc.proofs.ChainLemmas.{in_filter}
-use Rattle.wc_resolve.proofs.SearchLemmas.{contains_cons, contains_head, contains_none, contains_tail}
+use Rattle.wc_graph.proofs.ListLemmas.{in_filter}
+use Rattle.wc_maps.proofs.ListLemmas.{contains_cons, contains_head, contains_none, contains_tail}
 use Rattle.wc_encoder.specs.EncoderParts.{EncoderView}
 use Rattle.wc_names.specs.ExportViews.{ExportView}
 use Rattle.wc_names.specs.SameButIndices.{without_indices}

@@ -19,7 +19,7 @@ use Rattle.wc_resolve.specs.Kinds.{ResolveView}
 use Rattle.wc_resolve.proofs.ViewedLemmas.{all_unviewed}
 use Rattle.wc_encoder.specs.Distinct.{AreNamesDistinct, HaveNames, import_name}
 use Rattle.wc_adapters.specs.Entries.{Entries}
-use Rattle.wc_adapters.proofs.PairLemmas.{pairs_head, pairs_tail}
+use Rattle.wc_maps.proofs.PairLemmas.{pairs_head, pairs_tail}
 use Rattle.wc_names.specs.Laws.{IsImportAbi, IsImportIn}
 use Rattle.wc_names.specs.Keys.{key_eq}
 use Rattle.wc_texts.specs.Names.{under_name}

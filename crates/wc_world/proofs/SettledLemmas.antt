@@ -13,12 +13,13 @@ use Rattle.std.proofs.lemmas.Option.{same_Some}
 use Rattle.wc_resolve.specs.Dependencies.{interface_owning}
 use Rattle.wc_resolve.specs.Kinds.{ResolveView, children, kind_at, referenced_indices, referenced_types, type_index}
 use Rattle.wc_resolve.specs.Live.{AddsListings, IsComplete, listing_from}
-use Rattle.wc_resolve.specs.Views.{ItemView, KeyView, KindView, named_view}
+use Rattle.wc_resolve.specs.Views.{ItemView, KeyView, KindView}
+use Rattle.wc_texts.specs.Names.{named_view}
 use Rattle.wc_resolve.specs.declared.ids.InterfaceId.{InterfaceId}
 use Rattle.wc_resolve.specs.declared.types.WitType.{WitType}
 use Rattle.wc_resolve.specs.declared.types.WitType.TheVariants.{Id}
 use Rattle.wc_resolve.proofs.ListUnionLemmas.{list_union_keeps}
-use Rattle.wc_resolve.proofs.SearchLemmas.{contains_cons, contains_head, contains_none, contains_tail}
+use Rattle.wc_maps.proofs.ListLemmas.{contains_cons, contains_head, contains_none, contains_tail}
 use Rattle.wc_adapters.specs.Entries.{Entries}
 use Rattle.wc_world.specs.Live.{export_roots}
 use Rattle.wc_world.specs.Used.{UsedView}

@@ -16,7 +16,7 @@ use Rattle.std.proofs.lemmas.Option.{same_Some}
 use Rattle.wc_resolve.specs.declared.ids.InterfaceId.{InterfaceId}
 use Rattle.wc_resolve.specs.Dependencies.{direct_dependencies, id_of_interface, interface_ids}
 use Rattle.wc_resolve.specs.Kinds.{ResolveView, Leads, refers, further}
-use Rattle.wc_resolve.proofs.SearchLemmas.{contains_cons, contains_head, contains_none, contains_tail}
+use Rattle.wc_maps.proofs.ListLemmas.{contains_cons, contains_head, contains_none, contains_tail}
 use Rattle.wc_adapters.specs.Entries.{Entries}
 use Rattle.wc_world.specs.Used.{IsUsedPart, HasUsedSet, IsUsedSet, Used, UsedView, exported_dependencies, has_interface, is_exported_itself, same_interface}
 use Rattle.wc_world.specs.Used.{used_view}

@@ -18,12 +18,12 @@ use Rattle.wc_resolve.specs.WellFormed.{HasMatchingKeys, IsMatchingKey, KeysMatc
 use Rattle.wc_resolve.proofs.WellFormedLemmas.{all_get}
 use Rattle.wc_resolve.specs.Kinds.{ResolveView}
 use Rattle.wc_resolve.proofs.KeyLemmas.{nat_from}
-use Rattle.wc_resolve.proofs.SearchLemmas.{contains_cons, contains_head, contains_none, contains_tail}
+use Rattle.wc_maps.proofs.ListLemmas.{contains_cons, contains_head, contains_none, contains_tail}
 use Rattle.wc_encoder.specs.Dependencies.{AreDependenciesBefore, AreItemsIn, DependsOn}
 use Rattle.wc_encoder.specs.Distinct.{exported_interfaces, item_interface}
 use Rattle.wc_encoder.specs.EncoderParts.{EncoderView, world_exports}
 use Rattle.wc_adapters.specs.Entries.{Entries}
-use Rattle.wc_adapters.proofs.PairLemmas.{pairs_head, pairs_tail}
+use Rattle.wc_maps.proofs.PairLemmas.{pairs_head, pairs_tail}
 use Rattle.wc_names.specs.Keys.{item_under}
 use Rattle.wc_names.proofs.MeaningRangeLemmas.{worlds_match}
 use Rattle.wc_world.specs.Used.{HasUsedSet, HasUsedSets, IsReady, IsUsedSet, UsedView, is_exported_itself}

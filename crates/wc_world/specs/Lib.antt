@@ -5,6 +5,7 @@ pub mod Used
 pub mod Views
 pub mod WorldViews
 pub mod Slots
+pub mod Nameable
 pub mod Lowering
 pub mod Trimming
 pub mod Live

@@ -1,6 +1,6 @@
 -- What a fault of a component's world is about: a place in the main module; or in the adapter that the fault names, as the
 -- encoder has it, or as it is trimmed; or the sizes of pages.
-use Rattle.std.specs.Prelude.{◌≡◌, ℕ, List, Some, None, string_bytes, true}
+use Rattle.std.specs.Prelude.{◌≡◌, ℕ, List, MatchOption, Option, Some, None, string_bytes, true}
 use Rattle.std.specs.Map.{lookup}
 use Rattle.std.specs.Option.{option_map}
 use Rattle.std.specs.Str.{bytes_eq}
@@ -10,9 +10,14 @@ use Rattle.wc_gc.specs.LiveItems.{TrimInput}
 use Rattle.wc_gc.specs.TrimPlace.{IsPlace as IsPlaceOfTrim}
 use Rattle.wc_gc.specs.declared.fault.GcFault.{GcFault}
 use Rattle.wc_gc.specs.declared.trim_place.TrimPlace.{TrimPlace}
-use Rattle.wc_validate.specs.Explain.{IsPlace, place_view}
+use Rattle.wc_read.specs.Place.{IsCausePlace, IsPlaceIn}
+use Rattle.wc_read.specs.declared.fault.ReadFault.{ReadFault}
+use Rattle.wc_read.specs.declared.place.ReadPlace.{ReadPlace}
+use Rattle.wc_validate.specs.Explain.{IsPlace, PlaceView, place_view}
+use Rattle.wc_validate.specs.Refused.{bytes_place}
 use Rattle.wc_validate.specs.Validate.{ModuleRecord, ValidationInput, main_input}
 use Rattle.wc_validate.specs.declared.fault.ValidateFault.{ValidateFault}
+use Rattle.wc_validate.specs.declared.fault.ValidateFault.TheVariants.{Read}
 use Rattle.wc_world.specs.Trimming.{NamedAdapter, is_adapter_needed, validation_input_of}
 use Rattle.wc_world.specs.Causes.{IsMinimizedReached, IsTrimReached}
 use Rattle.wc_world.specs.World.{IsMainRecord, adapter_trim_input}
@@ -30,6 +35,23 @@ IsValidationPlace j bytes f p = ⊥
 abbrev pub IsTrimmingPlace : TrimInput → GcFault → ModulePlace → Type 0
 IsTrimmingPlace w f (place.Trim p) = IsPlaceOfTrim w f p
 IsTrimmingPlace w f p = ⊥
+
+-- the fault of reading that a fault of validation carries
+abbrev pub read_fault_in : ValidateFault → Option ReadFault
+read_fault_in (Read f) = Some f
+read_fault_in f = None
+
+-- a byte of the main module as it was given, before its imports were renamed: the one that a fault of reading is about
+abbrev pub IsGivenByte : EncoderView → ReadFault → PlaceView → Type 0
+IsGivenByte e f p = (q : ReadPlace) × IsPlaceIn e.given_bytes q × IsCausePlace e.given_bytes f q × (p ≡ place_view (bytes_place q))
+
+-- the place of a fault of the main module: of a fault of reading a byte of it as it was given; else an import or an export of it
+abbrev pub IsMainPlace : EncoderView → ValidateFault → PlaceView → Type 0
+IsMainPlace e f p = MatchOption (read_fault_in f) (IsPlace (main_input e e.module_import_map) e.module_bytes f p) (λ read. IsGivenByte e read p)
+
+abbrev pub IsPlaceOfMain : EncoderView → ValidateFault → ModulePlace → Type 0
+IsPlaceOfMain e f (place.Validation p) = IsMainPlace e f (place_view p)
+IsPlaceOfMain e f p = ⊥
 
 -- the encoder has an adapter under a name, and the component needs it
 abbrev pub IsNeededUnder : EncoderView → ModuleRecord → List ℕ → AdapterView → Type 0
@@ -63,7 +85,7 @@ IsInAdapter name p = option_map string_bytes p.adapter ≡ Some name
 
 -- the place of a fault
 abbrev pub IsWorldPlace : EncoderView → WorldFault → WorldPlace → Type 0
-IsWorldPlace e (Main f) p = IsInMain p × IsValidationPlace (main_input e e.module_import_map) e.module_bytes f p.place
+IsWorldPlace e (Main f) p = IsInMain p × IsPlaceOfMain e f p.place
 IsWorldPlace e (Adapter name f) p = IsInAdapter (string_bytes name) p × IsOfAdapter e (string_bytes name) (IsOriginalPlace e f p.place)
 IsWorldPlace e (Trim name f) p = IsInAdapter (string_bytes name) p × IsOfAdapter e (string_bytes name) (IsTrimPlace e f p.place)
 IsWorldPlace e (Minimized name f) p = IsInAdapter (string_bytes name) p × IsOfAdapter e (string_bytes name) (IsMinimizedPlace e f p.place)

@@ -1,11 +1,13 @@
 -- A component that has no world: its fault, and what that is about.
-use Rattle.std.specs.Prelude.{◌≡◌, ◌⊎◌, ℕ, List, MatchOption, None, Option, Some, String, string_bytes}
+use Rattle.std.specs.Prelude.{◌≡◌, ◌⊎◌, ℕ, List, IsSomeAnd, MatchOption, None, Option, Some, String, string_bytes}
 use Rattle.std.specs.Option.{option_map}
 use Rattle.std.specs.declared.alloc.Global.{Global}
 use Rattle.wc_texts.specs.declared.refused.Refused.{Refused}
 use Rattle.wc_encoder.specs.EncoderParts.{EncoderView}
-use Rattle.wc_validate.specs.Refused.{HasNoPlace as HasNoPlaceInModule, RefusedModule}
-use Rattle.wc_world.specs.Places.{IsInAdapter, IsInMain, IsOfAdapter, IsTrimUnplaced, IsWorldPlace}
+use Rattle.wc_validate.specs.Explain.{place_view}
+use Rattle.wc_validate.specs.Refused.{HasNoPlace as HasNoPlaceInModule, IsMemoryRefusal as IsMemoryOfModule, RefusedModule}
+use Rattle.wc_validate.specs.declared.place.Place.{Place}
+use Rattle.wc_world.specs.Places.{IsGivenByte, IsInAdapter, IsInMain, IsOfAdapter, IsTrimUnplaced, IsWorldPlace, read_fault_in}
 use Rattle.wc_world.specs.declared.fault.WorldFault.{WorldFault}
 use Rattle.wc_world.specs.declared.fault.WorldFault.TheVariants.{Memory, Main, Adapter, Trim, Minimized, PageSize}
 use Rattle.wc_world.specs.declared.places.ModulePlace.{ModulePlace}
@@ -40,6 +42,13 @@ IsMemoryRefusal x = (x.fault ≡ Memory) × (x.place ≡ None)
 -- a place that was found in a module of which this is so; nothing, if none was
 abbrev pub IsPlaceWith : (WorldPlace → Type 0) → Option ModulePlace → Option WorldPlace → Type 0
 IsPlaceWith Q found answer = MatchOption answer (found ≡ None) (λ (p : WorldPlace). Q p × (found ≡ Some p.place))
+
+-- the refusal of the main module, for the one of its bytes: that one; or, of a fault of reading, with a byte of the module as it
+-- was given, or else an allocation failed
+abbrev pub IsGivenRefusal : EncoderView → RefusedModule → RefusedModule → Type 0
+IsGivenRefusal e x y =
+    MatchOption (read_fault_in x.fault) (y ≡ x)
+    (λ read. IsMemoryOfModule y ⊎ ((y.fault ≡ x.fault) × IsSomeAnd y.place (λ (p : Place). IsGivenByte e read (place_view p))))
 
 -- the refusal of the main module
 abbrev pub IsMainRefusal : RefusedModule → RefusedWorld → Type 0

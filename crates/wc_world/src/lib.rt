@@ -36,6 +36,6 @@ pub use imported::{ImportedInterface, Lowering};
 pub use live::{import_payload, import_resource};
 pub use options::{ImportOptions, PlainOptions, RequiredOptions};
 pub use places::{ModulePlace, WorldPlace};
-pub use refused::{adapter_refusal, main_refusal};
+pub use refused::{adapter_refusal, as_given, main_refusal};
 pub use required::required_exports;
 pub use world::ComponentWorld;

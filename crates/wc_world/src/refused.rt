@@ -2,15 +2,17 @@
 
 ghost use Rattle.std.specs.Prelude.{◌≡◌, ◌⊎◌, IfOk, Some};
 ghost use Rattle.std.specs.Option.{option_map};
-ghost use Rattle.wc_world.specs.Places.{IsInAdapter, IsInMain};
-ghost use Rattle.wc_world.specs.Refused.{IsAdapterRefusal, IsMainRefusal, IsMemoryRefusal, IsNamedRefusal, IsPlaceWith};
+ghost use Rattle.wc_world.specs.Places.{IsInAdapter, IsInMain, read_fault_in};
+ghost use Rattle.wc_world.specs.Refused.{IsAdapterRefusal, IsGivenRefusal, IsMainRefusal, IsMemoryRefusal, IsNamedRefusal, IsPlaceWith};
 
 use crate::fault::WorldFault;
 use crate::places::{ModulePlace, WorldPlace};
 use std::alloc::{AllocError, Global};
+use wc_encoder::ComponentEncoder;
 use wc_gc::{GcFault, TrimPlace};
+use wc_read::{ReadFault, module_place};
 use wc_texts::Refused;
-use wc_validate::{Place, ValidateFault};
+use wc_validate::{Place, Subject, ValidateFault};
 
 /// A place of validation.
 fn in_module(place: Option<Place>) -> Option<ModulePlace>
@@ -76,8 +78,44 @@ fn refusal_in(
     }
 }
 
-/// The refusal of a component whose main module was refused (`wc_validate::validate_module_explained`): `Main` with
-/// the fault, and the place in the main module; `None` where the fault has none.
+/// The fault of reading that a fault of validation carries.
+fn read_fault_in(fault: &ValidateFault) -> Option<ReadFault>
+    ensures { result ≡ read_fault_in fault.now }
+{
+    match fault {
+        ValidateFault::Read(fault) => Some(*fault),
+        _ => None,
+    }
+}
+
+/// The refusal of the main module of an encoder, for the one of its bytes, in which repeated imports may be renamed
+/// (`wc_validate::validate_module_explained`): the same; but that of a fault of reading has for its place the byte at
+/// which the module as it was given stops to be right (`ComponentEncoder::given_module`). `Memory` without a place where
+/// there is no memory to find it.
+pub fn as_given(
+    alloc: Global,
+    encoder: &ComponentEncoder,
+    refused: Refused<ValidateFault, Place>,
+) -> Refused<ValidateFault, Place>
+    ensures { IsGivenRefusal encoder.now refused result }
+{
+    let Some(fault) = read_fault_in(&refused.fault) else {
+        return refused;
+    };
+    match module_place(alloc, encoder.given_module(), fault) {
+        Ok(place) => Refused {
+            fault: refused.fault,
+            place: Some(Place {
+                subject: Subject::Bytes(place),
+                types: None,
+            }),
+        },
+        Err(AllocError) => Refused::without_place(ValidateFault::Memory),
+    }
+}
+
+/// The refusal of a component whose main module was refused ([`as_given`]): `Main` with the fault, and the place in the
+/// main module; `None` where the fault has none.
 pub fn main_refusal(refused: Refused<ValidateFault, Place>) -> Refused<WorldFault, WorldPlace>
     ensures { IsMainRefusal refused result }
 {

@@ -23,7 +23,7 @@ use crate::laws::worlds_exclude_faults;
 use crate::live::live_type_imports;
 use crate::options::ImportOptions;
 use crate::places::WorldPlace;
-use crate::refused::main_refusal;
+use crate::refused::{as_given, main_refusal};
 use crate::used::exports_used;
 use std::alloc::{AllocError, Global};
 use wc_encoder::ComponentEncoder;
@@ -104,7 +104,7 @@ fn main_record(
     let import_map = encoder.module_import_map();
     match validate_module_explained(alloc, encoder, bytes, import_map) {
         Ok(info) => Ok(info),
-        Err(refused) => Err(main_refusal(refused)),
+        Err(refused) => Err(main_refusal(as_given(alloc, encoder, refused))),
     }
 }
 
@@ -214,8 +214,8 @@ impl<'a> ComponentWorld<'a> {
 
     /// As [`ComponentWorld::new`]; but a call that fails says what its fault is about: an import or an export of the
     /// main module, or of the adapter or the library that the fault names; a section, or a body of a function, of an
-    /// adapter that can't be trimmed; the byte where one of them stops being a module; or the sizes of pages. No module
-    /// is validated again for it.
+    /// adapter that can't be trimmed; the byte where one of them stops being a module, of the main module as it was given
+    /// (`ComponentEncoder::given_module`); or the sizes of pages. No module is validated again for it.
     ///
     /// # Errors
     ///

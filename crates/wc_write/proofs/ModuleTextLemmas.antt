@@ -29,7 +29,8 @@ use Rattle.wc_write.specs.Text.{number_text, global_text}
 use Rattle.wc_write.specs.Bodies.{body_text}
 use Rattle.wc_write.specs.Spaces.{imports_of, DefinedValue, defined, defined_types, defined_contents}
 use Rattle.wc_write.specs.Modules.{BuiltValue, built_imports, defined_global_text, code_text, operators_text, optional_sections, optional_section_text, built_text, SizesFit}
-use Rattle.wc_write.specs.BuiltValues.{item_seen, written_module, IsItemOf, IsModuleOf, IsInitialiser, IsBuilt, IsReadBody, IsReadInit, IsRead}
+use Rattle.wc_read.specs.Items.{item_seen}
+use Rattle.wc_write.specs.BuiltValues.{written_module, IsItemOf, IsModuleOf, IsInitialiser, IsBuilt, IsReadBody, IsReadInit, IsRead}
 use Rattle.wc_write.proofs.BodyTextLemmas.{body_read}
 use Rattle.wc_write.proofs.VectorTextLemmas.{back_shorter}
 use Rattle.wc_write.proofs.ModuleSectionLemmas.{SectionSizes, each_size_fits}

@@ -11,7 +11,8 @@ use Rattle.wc_read.specs.Spaces.{imported_item, imported_items, local_funcs}
 use Rattle.wc_read.specs.declared.types.GlobalType.{GlobalType}
 use Rattle.wc_read.specs.declared.types.ImportType.{ImportType}
 use Rattle.wc_write.specs.Spaces.{imports_of, DefinedValue, defined}
-use Rattle.wc_write.specs.BuiltValues.{item_seen, is_imported, is_defined, HasImportsFirst}
+use Rattle.wc_read.specs.Items.{item_seen}
+use Rattle.wc_write.specs.BuiltValues.{is_imported, is_defined, HasImportsFirst}
 
 -- the items of a kind by imports of that kind
 

@@ -32,7 +32,7 @@
 //! }
 //! ```
 //!
-//! This function is proved in `wc_example_rows`, as `examples::write::import_section`.
+//! This function is proved in `wc_tests`, as `examples::write::import_section`.
 #![tactic(auto)]
 
 mod bodies;

@@ -20,8 +20,8 @@ use Rattle.wc_gc.specs.Parts.{SettingsView}
 use Rattle.wc_gc.specs.Trim.{IsTrimFault}
 use Rattle.wc_gc.specs.declared.fault.GcFault.{GcFault}
 use Rattle.wc_gc.specs.declared.fault.GcFault.TheVariants.{Memory as gc_memory}
-use Rattle.wctrim_command.specs.declared.fault.CommandFault.{CommandFault}
-use Rattle.wctrim_command.specs.declared.fault.CommandFault.TheVariants.{Memory, Dedupe, Trim, Read, Output}
+use Rattle.wctrim_command.specs.declared.fault.ToolFault.{ToolFault}
+use Rattle.wctrim_command.specs.declared.fault.ToolFault.TheVariants.{Memory, Dedupe, Trim, Read, Output}
 use Rattle.wctrim_command.specs.Command.{CommandView, dedupe, scan, trim}
 use Rattle.wctrim_command.specs.Fault.{kept_place, of_dedupe, of_read, of_trim}
 use Rattle.wctrim_command.specs.Execution.{CommandRefusal, IsCommandCause, IsCommandPlace, IsRefusalOf, IsTrimsCause, IsTrimsPlace, settings_of}
@@ -37,7 +37,7 @@ pub cause_of_trim : (s : SettingsView) (input : List ℕ) (names exports : List 
 cause_of_trim s input names exports gc_memory same h = tt
 cause_of_trim s input names exports f same h = (λ e. cc, subst (λ (ns : List (List ℕ)). IsTrimFault s (record { bytes = input; required = ns }) f) same h)
 
-pub cause_of_command : (input source target : List ℕ) (realloc : Option (List ℕ)) (page_size_log2 : ℕ) (exports : List (List ℕ)) (e : CommandFault) → IsTrimsCause (settings_of realloc page_size_log2) (trim_input_for_names input exports) e → IsCommandCause (trim source target realloc page_size_log2 exports) input e
+pub cause_of_command : (input source target : List ℕ) (realloc : Option (List ℕ)) (page_size_log2 : ℕ) (exports : List (List ℕ)) (e : ToolFault) → IsTrimsCause (settings_of realloc page_size_log2) (trim_input_for_names input exports) e → IsCommandCause (trim source target realloc page_size_log2 exports) input e
 cause_of_command input source target realloc page_size_log2 exports Memory h = tt
 cause_of_command input source target realloc page_size_log2 exports (Dedupe f) h = h
 cause_of_command input source target realloc page_size_log2 exports (Trim f) h = h
@@ -66,7 +66,7 @@ pub place_of_trim : (w : TrimInput) (f : GcFault) (p : Option TrimPlace) → (f 
 place_of_trim w gc_memory p h = refl
 place_of_trim w f p h = h (λ e. cc)
 
-pub refused : (c : CommandView) (input : List ℕ) (x : CommandRefusal) (f : CommandFault) (p : Option TrimPlace) → x.fault ≡ f → x.place ≡ p
+pub refused : (c : CommandView) (input : List ℕ) (x : CommandRefusal) (f : ToolFault) (p : Option TrimPlace) → x.fault ≡ f → x.place ≡ p
     → IsCommandCause c input f → IsCommandPlace c input f p → IsRefusalOf c input x
 refused c input x f p same at cause placed = record {
   cause = subst (IsCommandCause c input) (sym same) cause;
@@ -100,5 +100,5 @@ pub dedupe_is_no_output : (f : DedupeFault) → of_dedupe f ≢ Output
 dedupe_is_no_output dedupe_memory = λ e. cc
 dedupe_is_no_output f = λ e. cc
 
-pub made_of : {f g : CommandFault} → f ≡ g → g ≢ Output → f ≢ Output
+pub made_of : {f g : ToolFault} → f ≡ g → g ≢ Output → f ≢ Output
 made_of same other = λ e. other (sym same ∙ e)

@@ -7,9 +7,10 @@ use Rattle.wc_program.specs.Screen.{Becomes, Printing, nothing, output_ends}
 use Rattle.wc_program.specs.declared.files.FileProblem.TheVariants.{Memory as read_memory}
 use Rattle.wc_program.proofs.ScreenLemmas.{hands_on_more}
 use Rattle.wctrim_command.specs.Command.{CommandView, source_of}
-use Rattle.wctrim_command.specs.Program.{EndsInFault, IsMemoryFault, IsReported, IsRunCause, IsRunFault, LeavesAfter, LeavesOutput, ToldRefusal, fault_line, run_fault_text, told_text}
-use Rattle.wctrim_command.specs.declared.fault.CommandFault.{CommandFault}
-use Rattle.wctrim_command.specs.declared.fault.CommandFault.TheVariants.{Output}
+use Rattle.wctrim_command.specs.Program.{EndsInFault, IsReported, IsRunCause, IsRunFault, LeavesAfter, LeavesOutput, fault_line, run_fault_text}
+use Rattle.wctrim_command.specs.Fault.{command_fault_text}
+use Rattle.wctrim_command.specs.declared.fault.ToolFault.{ToolFault}
+use Rattle.wctrim_command.specs.declared.fault.ToolFault.TheVariants.{Memory, Output}
 use Rattle.wctrim_command.specs.declared.program.RunFault.{RunFault}
 use Rattle.wctrim_command.specs.declared.program.RunFault.TheVariants.{CannotRead, CannotWrite, Command}
 
@@ -21,16 +22,16 @@ module _ {S : Type 0} (c : CommandView) (files : FileChange) (written sent : S �
   after_nothing : (lines line : List ℕ) → lines ≡ [] → middle ≡ before → Ends middle after (Some line) → Ends before after (Some (lines ++ line))
   after_nothing lines line none same shown = rw none (subst (λ s. Ends s after (Some line)) same shown)
 
-  -- a refusal that is printed
-  told_reported : (x : ToldRefusal) (f : CommandFault) → x.fault ≡ f → LeavesAfter f (Becomes Ends before middle)
-      → Ends middle after (Some (fault_line (told_text x))) → IsReported (Becomes Ends before after) (Command x) []
-  told_reported x Output is left shown = absurd (false≢true (sym shown.1 ∙ left))
-  told_reported x f is left shown = inl ((λ e. let bad : f ≡ Output = sym is ∙ e in absurd cc), after_nothing [] _ refl left shown)
+  -- a fault of a command that is printed
+  command_reported : (f : ToolFault) → LeavesAfter f (Becomes Ends before middle)
+      → Ends middle after (Some (fault_line (command_fault_text f))) → IsReported (Becomes Ends before after) (Command f) []
+  command_reported Output left shown = absurd (false≢true (sym shown.1 ∙ left))
+  command_reported f left shown = inl ((λ e. absurd cc), after_nothing [] _ refl left shown)
 
   -- a fault that is printed after the lines of its command
   reported : (lines : List ℕ) (fault : RunFault) → IsRunCause c files lines fault → LeavesOutput fault lines (Becomes Ends before middle)
       → Ends middle after (Some (fault_line (run_fault_text fault))) → IsReported (Becomes Ends before after) fault lines
-  reported lines (Command x) cause left shown = subst (IsReported (Becomes Ends before after) (Command x)) (sym cause.1) (told_reported x x.fault refl left shown)
+  reported lines (Command f) cause left shown = subst (IsReported (Becomes Ends before after) (Command f)) (sym cause.1) (command_reported f left shown)
   reported lines (CannotRead path p) cause left shown = inl ((λ e. e), after_nothing lines _ cause.2 left shown)
   reported lines (CannotWrite path p) cause left shown =
       inl ((λ e. e), (hands_on_more (written before) (written middle) (written after) (sent after) lines _ left.0.put shown.0, left.1, shown.2))
@@ -42,8 +43,6 @@ module _ {S : Type 0} (c : CommandView) (files : FileChange) (written sent : S �
   ends_in_fault fault status h (inr lost) = ((fault, h.0, h.1, inr lost.0), lost.1)
 
 -- a file that is too large for memory
-pub too_large : (c : CommandView) (files : FileChange) (out : Printing → Type 0) (f : RunFault) → IsMemoryFault f → files.IsFailedRead (source_of c) read_memory
-    → files.after ≡ files.before → out nothing → IsRunFault c files out f
-too_large c files out (Command x) h failed_read kept still =
-    ([], (inr (h, failed_read, kept), refl), subst (λ f. LeavesAfter f out) (sym h.0) still)
-too_large c files out f h failed_read kept still = absurd h
+pub too_large : (c : CommandView) (files : FileChange) (out : Printing → Type 0) → files.IsFailedRead (source_of c) read_memory
+    → files.after ≡ files.before → out nothing → IsRunFault c files out (Command Memory)
+too_large c files out failed_read kept still = ([], (inr (refl, failed_read, kept), refl), still)

@@ -21,11 +21,11 @@ use Rattle.wc_gc.specs.declared.fault.GcFault.TheVariants.{Memory as gc_memory}
 use Rattle.wctrim_command.specs.Command.{CommandView, dedupe, scan, trim}
 use Rattle.wctrim_command.specs.Lines.{lines_of}
 use Rattle.wctrim_command.specs.Scan.{scan_lines}
-use Rattle.wctrim_command.specs.declared.fault.CommandFault.{CommandFault}
-use Rattle.wctrim_command.specs.declared.fault.CommandFault.TheVariants.{Memory, Dedupe, Trim, Read, Output}
+use Rattle.wctrim_command.specs.declared.fault.ToolFault.{ToolFault}
+use Rattle.wctrim_command.specs.declared.fault.ToolFault.TheVariants.{Memory, Dedupe, Trim, Read, Output}
 
 -- the cause of a fault of trimming
-abbrev pub IsTrimsCause : SettingsView → TrimInput → CommandFault → Type 0
+abbrev pub IsTrimsCause : SettingsView → TrimInput → ToolFault → Type 0
 IsTrimsCause s w Memory = Unit {0}
 IsTrimsCause s w (Trim f) = (f ≢ gc_memory) × IsTrimFault s w f
 IsTrimsCause s w f = ⊥
@@ -44,7 +44,7 @@ Runs (trim source target realloc page_size_log2 exports) input lines answer =
     (bytes : List ℕ) × IsTrimmed (settings_of realloc page_size_log2) (trim_input_for_names input exports) bytes × (lines ≡ []) × (answer ≡ Some bytes)
 
 -- the cause of a fault. Memory and Output may come with any input: that a put failed is said of the sink
-abbrev pub IsCommandCause : CommandView → List ℕ → CommandFault → Type 0
+abbrev pub IsCommandCause : CommandView → List ℕ → ToolFault → Type 0
 IsCommandCause c input Memory = Unit {0}
 IsCommandCause (dedupe source target) input (Dedupe f) = (f ≢ dedupe_memory) × IsDedupeCause input f
 IsCommandCause (dedupe source target) input (Read f) = ⊥
@@ -62,12 +62,12 @@ abbrev pub IsBytesPlace : (Option ReadPlace → Type 0) → Option TrimPlace →
 IsBytesPlace P place = (p : Option ReadPlace) × P p × (place ≡ option_map Bytes p)
 
 -- what a fault of a trim is about
-abbrev pub IsTrimsPlace : TrimInput → CommandFault → Option TrimPlace → Type 0
+abbrev pub IsTrimsPlace : TrimInput → ToolFault → Option TrimPlace → Type 0
 IsTrimsPlace w (Trim f) place = IsExplained w f place
 IsTrimsPlace w f place = place ≡ None
 
 -- what a fault is about: where reading the input stopped, or of a trim what `wc_gc` has; the others are about nothing
-abbrev pub IsCommandPlace : CommandView → List ℕ → CommandFault → Option TrimPlace → Type 0
+abbrev pub IsCommandPlace : CommandView → List ℕ → ToolFault → Option TrimPlace → Type 0
 IsCommandPlace (dedupe source target) input (Dedupe f) place = IsBytesPlace (IsDedupePlace input f) place
 IsCommandPlace (scan source) input (Read f) place = IsBytesPlace (IsPlaced input f) place
 IsCommandPlace (trim source target realloc page_size_log2 exports) input f place = IsTrimsPlace (trim_input_for_names input exports) f place
@@ -75,7 +75,7 @@ IsCommandPlace c input f place = place ≡ None
 
 -- why a command is refused, and what that is about
 abbrev pub CommandRefusal : Type 0
-CommandRefusal = Refused CommandFault TrimPlace
+CommandRefusal = Refused ToolFault TrimPlace
 
 pub record IsRefusalOf (c : CommandView) (input : List ℕ) (x : CommandRefusal) : Type 0 where
   pub cause : IsCommandCause c input x.fault

@@ -1,12 +1,8 @@
 -- The program: what it prints, what becomes of files, and its exit status.
-use Rattle.std.specs.Prelude.{◌≡◌, ◌≢◌, ℕ, ◌⊎◌, List, [], ◌++◌, codes, String, string_bytes, Option, Some, None}
-use Rattle.std.specs.Option.{option_map}
+use Rattle.std.specs.Prelude.{◌≡◌, ◌≢◌, ℕ, ◌⊎◌, List, [], ◌++◌, codes, String, Option, Some, None}
 use Rattle.std.specs.declared.alloc.Global.{Global}
 use Rattle.wc_texts.specs.FaultTexts.{memory_text}
-use Rattle.wc_texts.specs.declared.refused.Refused.{Refused}
-use Rattle.wc_gc.specs.TrimPlace.{place_text}
-use Rattle.wc_gc.specs.declared.trim_place.TrimPlace.{TrimPlace}
-use Rattle.wc_program.specs.Files.{Held, Holds, Writes, KeepsOthers, FileChange, problem_text}
+use Rattle.wc_program.specs.Files.{Held, Holds, Writes, KeepsOthers, FileChange}
 use Rattle.wc_program.specs.Program.{success, failure, wrong_arguments, Prints, EndsByArguments, EndsByReason}
 use Rattle.wc_program.specs.Screen.{Printing, nothing, printed, failed}
 use Rattle.wc_program.specs.declared.files.FileProblem.{FileProblem}
@@ -15,10 +11,10 @@ use Rattle.wc_program.specs.declared.program.NoArguments.{NoArguments}
 use Rattle.wc_program.specs.declared.program.NoArguments.TheVariants.{Empty, NoMemory, NoText}
 use Rattle.wctrim_command.specs.Command.{CommandView, source_of, target_of, IsCommandLine}
 use Rattle.wctrim_command.specs.Lines.{line_feed}
-use Rattle.wctrim_command.specs.Execution.{CommandRefusal, IsRefusalOf, Runs}
+use Rattle.wctrim_command.specs.Execution.{IsCommandCause, Runs}
 use Rattle.wctrim_command.specs.Fault.{command_fault_text}
-use Rattle.wctrim_command.specs.declared.fault.CommandFault.{CommandFault}
-use Rattle.wctrim_command.specs.declared.fault.CommandFault.TheVariants.{Memory, Output}
+use Rattle.wctrim_command.specs.declared.fault.ToolFault.{ToolFault}
+use Rattle.wctrim_command.specs.declared.fault.ToolFault.TheVariants.{Memory, Output}
 use Rattle.wctrim_command.specs.declared.program.RunFault.{RunFault}
 use Rattle.wctrim_command.specs.declared.program.RunFault.TheVariants.{CannotRead, CannotWrite, Command}
 
@@ -48,37 +44,15 @@ pub record IsDone (c : CommandView) (before after : Option Held) (lines : List �
 abbrev pub IsUnreadInput : CommandView → FileChange → FileProblem → Type 0
 IsUnreadInput c files p = files.IsFailedRead (source_of c) p × (p ≢ read_memory)
 
--- why a command is refused, and the text of what that is about
-abbrev pub ToldRefusal : Type 0
-ToldRefusal = Refused CommandFault (String Global)
-
--- memory ran out, and nothing more is said
-abbrev pub IsMemoryRefusal : ToldRefusal → Type 0
-IsMemoryRefusal x = (x.fault ≡ Memory) × (x.place ≡ None)
-
-abbrev pub IsMemoryFault : RunFault → Type 0
-IsMemoryFault (Command x) = IsMemoryRefusal x
-IsMemoryFault f = ⊥
-
 -- the input file is too large for memory, and each file has the bytes that it had
-abbrev pub IsTooLarge : CommandView → FileChange → ToldRefusal → Type 0
-IsTooLarge c files x = IsMemoryRefusal x × files.IsFailedRead (source_of c) read_memory × (files.after ≡ files.before)
-
--- a refusal is told with the text of its place, if it has one; or there was no memory for this
-abbrev pub IsToldAt : CommandFault → Option TrimPlace → ToldRefusal → Type 0
-IsToldAt f None y = (y.fault ≡ f) × (y.place ≡ None)
-IsToldAt f (Some p) y = IsMemoryRefusal y ⊎ ((y.fault ≡ f) × (option_map string_bytes y.place ≡ Some (place_text p)))
-
-abbrev pub IsToldOf : CommandRefusal → ToldRefusal → Type 0
-IsToldOf x y = IsToldAt x.fault x.place y
+abbrev pub IsTooLarge : CommandView → FileChange → ToolFault → Type 0
+IsTooLarge c files f = (f ≡ Memory) × files.IsFailedRead (source_of c) read_memory × (files.after ≡ files.before)
 
 -- the bytes of the input file were refused, and each file has the bytes that it had
-pub record IsRefused (c : CommandView) (before after : Option Held) (told : ToldRefusal) : Type 0 where
+pub record IsRefused (c : CommandView) (before after : Option Held) (f : ToolFault) : Type 0 where
   pub input : List ℕ
   pub read : Holds before (source_of c) input
-  pub refusal : CommandRefusal
-  pub is : IsRefusalOf c input refusal
-  pub told_of : IsToldOf refusal told
+  pub cause : IsCommandCause c input f
   pub kept : after ≡ before
 
 -- after these lines the output file was to have the answer, and the write of this failed for this problem; each other file
@@ -95,16 +69,16 @@ pub record IsUnwritten (c : CommandView) (files : FileChange) (lines target : Li
 -- the cause of a fault of a command that was run on its files, after these lines
 abbrev pub IsRunCause : CommandView → FileChange → List ℕ → RunFault → Type 0
 IsRunCause c files lines (CannotRead path p) = (path.now ≡ source_of c) × (files.after ≡ files.before) × (lines ≡ []) × IsUnreadInput c files p
-IsRunCause c files lines (Command x) = (IsRefused c files.before files.after x ⊎ IsTooLarge c files x) × (lines ≡ [])
+IsRunCause c files lines (Command f) = (IsRefused c files.before files.after f ⊎ IsTooLarge c files f) × (lines ≡ [])
 IsRunCause c files lines (CannotWrite path p) = IsUnwritten c files lines path.now p
 
 -- what was done with the output: it failed; or the lines were printed, and the file could not be written; or nothing was put
-abbrev pub LeavesAfter : CommandFault → (Printing → Type 0) → Type 0
+abbrev pub LeavesAfter : ToolFault → (Printing → Type 0) → Type 0
 LeavesAfter Output out = out failed
 LeavesAfter f out = out nothing
 
 abbrev pub LeavesOutput : RunFault → List ℕ → (Printing → Type 0) → Type 0
-LeavesOutput (Command x) lines out = LeavesAfter x.fault out
+LeavesOutput (Command f) lines out = LeavesAfter f out
 LeavesOutput (CannotWrite path p) lines out = out (printed lines)
 LeavesOutput (CannotRead path p) lines out = out nothing
 
@@ -112,23 +86,15 @@ LeavesOutput (CannotRead path p) lines out = out nothing
 abbrev pub IsRunFault : CommandView → FileChange → (Printing → Type 0) → RunFault → Type 0
 IsRunFault c files out f = (lines : List ℕ) × IsRunCause c files lines f × LeavesOutput f lines out
 
--- the line under the text of a fault, of what it is about
-abbrev pub place_line : Option (String Global) → List ℕ
-place_line None = []
-place_line (Some text) = codes "\n  " ++ string_bytes text
-
--- the text of a fault, and that line
-abbrev pub told_text : ToldRefusal → List ℕ
-told_text x = command_fault_text x.fault ++ place_line x.place
-
+-- what is said of a fault: a file by its path alone, a command by the text of its fault
 abbrev pub run_fault_text : RunFault → List ℕ
-run_fault_text (CannotRead path p) = codes "cannot read " ++ (path.now ++ problem_text p)
-run_fault_text (CannotWrite path p) = codes "cannot write " ++ (path.now ++ problem_text p)
-run_fault_text (Command x) = told_text x
+run_fault_text (CannotRead path p) = codes "cannot read " ++ path.now
+run_fault_text (CannotWrite path p) = codes "cannot write " ++ path.now
+run_fault_text (Command f) = command_fault_text f
 
 -- the output failed
 abbrev pub IsOutputFault : RunFault → Type 0
-IsOutputFault (Command x) = x.fault ≡ Output
+IsOutputFault (Command f) = f ≡ Output
 IsOutputFault f = ⊥
 
 -- why the command could not be run was printed after its lines, or the output failed

@@ -21,12 +21,12 @@ pub enum Command<'a> {
     },
     /// Cuts the adapter in the file `source` to what the exports of these names reach, and writes it to the file
     /// `target`. Both are paths. The main module exports a realloc as `realloc`, where that is a name, and a page of
-    /// its memory has 2^`page_size_log2` bytes.
+    /// its memory has 2^`page` bytes.
     Trim {
         source: &'a str,
         target: &'a str,
         realloc: Option<&'a str>,
-        page_size_log2: u32,
+        page: u32,
         exports: &'a [String],
     },
 }
@@ -110,7 +110,7 @@ fn parse_trim<'a>(
         source,
         target,
         realloc: parsed.realloc,
-        page_size_log2: parsed.page_size_log2,
+        page: parsed.page_size_log2,
         exports: parsed.exports,
     })
 }

@@ -19,7 +19,7 @@ ghost use Rattle.wctrim_command.specs.Scan.{scan_lines};
 ghost use Rattle.wctrim_command.specs.Execution.{Runs, IsCommandCause, IsRefusalOf, IsTrimsCause, IsTrimsPlace};
 
 use crate::command::Command;
-use crate::fault::CommandFault;
+use crate::fault::ToolFault;
 use crate::lines::put_renames;
 use crate::scan::put_scan;
 use crate::trim_arguments::TrimArguments;
@@ -56,7 +56,7 @@ pub fn execute<S: Sink>(
     command: &Command<'_>,
     input: &[u8],
     out: &mut S,
-) -> Result<Option<Vec<u8>>, CommandFault>
+) -> Result<Option<Vec<u8>>, ToolFault>
     // A trim has an export at least, and an exponent of 16 at most; `parse` gives no other.
     requires { IsExecutable (command_view command.now) }
     ensures done { IfOk result (λ r. (lines : List ℕ)
@@ -64,8 +64,8 @@ pub fn execute<S: Sink>(
         × Appends (S.written out.old) (S.written out.new) lines) }
     ensures works { OnOk result (S.is_failed out.new ≡ S.is_failed out.old) }
     ensures fault { IfErr result (IsCommandCause (command_view command.now) input.now) }
-    ensures output { IsErrOf result CommandFault.Output → S.is_failed out.new ≡ true }
-    ensures quiet { IfErr result (λ e. e ≢ CommandFault.Output → out.new ≡ out.old) }
+    ensures output { IsErrOf result ToolFault.Output → S.is_failed out.new ≡ true }
+    ensures quiet { IfErr result (λ e. e ≢ ToolFault.Output → out.new ≡ out.old) }
 {
     match execute_explained(alloc, seed, command, input, out) {
         Ok(answer) => Ok(answer),
@@ -85,7 +85,7 @@ pub fn execute_explained<S: Sink>(
     command: &Command<'_>,
     input: &[u8],
     out: &mut S,
-) -> Result<Option<Vec<u8>>, Refused<CommandFault, TrimPlace>>
+) -> Result<Option<Vec<u8>>, Refused<ToolFault, TrimPlace>>
     // As of `execute`.
     requires { IsExecutable (command_view command.now) }
     ensures done { IfOk result (λ r. (lines : List ℕ)
@@ -93,9 +93,9 @@ pub fn execute_explained<S: Sink>(
         × Appends (S.written out.old) (S.written out.new) lines) }
     ensures works { OnOk result (S.is_failed out.new ≡ S.is_failed out.old) }
     ensures refusal { IfErr result (IsRefusalOf (command_view command.now) input.now) }
-    ensures output { IfErr result (λ r. r.fault ≡ CommandFault.Output
+    ensures output { IfErr result (λ r. r.fault ≡ ToolFault.Output
         → S.is_failed out.new ≡ true) }
-    ensures quiet { IfErr result (λ r. r.fault ≢ CommandFault.Output → out.new ≡ out.old) }
+    ensures quiet { IfErr result (λ r. r.fault ≢ ToolFault.Output → out.new ≡ out.old) }
 {
     match *command {
         Command::Dedupe { .. } => Ok(Some(dedupe(alloc, input, out)?)),
@@ -105,13 +105,13 @@ pub fn execute_explained<S: Sink>(
         }
         Command::Trim {
             realloc,
-            page_size_log2,
+            page,
             exports,
             ..
         } => {
             let arguments = TrimArguments {
                 realloc,
-                page_size_log2,
+                page_size_log2: page,
                 exports,
             };
             Ok(Some(trim(alloc, seed, input, arguments)?))
@@ -124,20 +124,20 @@ fn dedupe<S: Sink>(
     alloc: Global,
     input: &[u8],
     out: &mut S,
-) -> Result<Vec<u8>, Refused<CommandFault, TrimPlace>>
+) -> Result<Vec<u8>, Refused<ToolFault, TrimPlace>>
     ensures done { IfOk result (λ v. (renames : List RenameView)
         × IsDeduped input.now v.items renames
         × Appends (S.written out.old) (S.written out.new) (lines_of renames)) }
     ensures works { OnOk result (S.is_failed out.new ≡ S.is_failed out.old) }
     ensures refusal { IfErr result (λ r. (s t : List ℕ) → IsRefusalOf (dedupe s t) input.now r) }
-    ensures output { IfErr result (λ r. r.fault ≡ CommandFault.Output
+    ensures output { IfErr result (λ r. r.fault ≡ ToolFault.Output
         → S.is_failed out.new ≡ true) }
-    ensures quiet { IfErr result (λ r. r.fault ≢ CommandFault.Output → out.new ≡ out.old) }
+    ensures quiet { IfErr result (λ r. r.fault ≢ ToolFault.Output → out.new ≡ out.old) }
 {
     let (bytes, map) = renamed(alloc, input)?;
     match put_map(out, &map) {
         Ok(()) => Ok(bytes),
-        Err(PutFailed) => Err(Refused::without_place(CommandFault::Output)),
+        Err(PutFailed) => Err(Refused::without_place(ToolFault::Output)),
     }
 }
 
@@ -155,10 +155,10 @@ fn put_map<S: Sink>(out: &mut S, map: &Option<ModuleImportMap>) -> Result<(), Pu
 fn renamed(
     alloc: Global,
     input: &[u8],
-) -> Result<(Vec<u8>, Option<ModuleImportMap>), Refused<CommandFault, TrimPlace>>
+) -> Result<(Vec<u8>, Option<ModuleImportMap>), Refused<ToolFault, TrimPlace>>
     ensures renamed { IfOk result (λ r. IsDeduped input.now r.0.items (renames_in r.1)) }
     ensures refusal { IfErr result (λ r. (s t : List ℕ) → IsRefusalOf (dedupe s t) input.now r) }
-    ensures quiet { IfErr result (λ r. r.fault ≢ CommandFault.Output) }
+    ensures quiet { IfErr result (λ r. r.fault ≢ ToolFault.Output) }
 {
     match ModuleImportMap::new_explained(alloc, CowSlice::Borrowed(input)) {
         Ok((module, map)) => Ok((owned(alloc, module)?, map)),
@@ -167,41 +167,41 @@ fn renamed(
 }
 
 /// The refusal of a command for one of a dedupe.
-fn dedupe_refusal(refused: Refused<DedupeFault, ReadPlace>) -> Refused<CommandFault, TrimPlace>
+fn dedupe_refusal(refused: Refused<DedupeFault, ReadPlace>) -> Refused<ToolFault, TrimPlace>
     ensures fault { result.fault ≡ of_dedupe refused.fault }
     ensures place { result.place ≡ kept_place (of_dedupe refused.fault)
         (option_map TrimPlace.Bytes refused.place) }
 {
     let Refused { fault, place } = refused;
-    refusal(CommandFault::from(fault), in_bytes(place))
+    refusal(ToolFault::from(fault), in_bytes(place))
 }
 
 /// The refusal of a command for one of reading.
-fn read_refusal(refused: Refused<ReadFault, ReadPlace>) -> Refused<CommandFault, TrimPlace>
+fn read_refusal(refused: Refused<ReadFault, ReadPlace>) -> Refused<ToolFault, TrimPlace>
     ensures fault { result.fault ≡ of_read refused.fault }
     ensures place { result.place ≡ kept_place (of_read refused.fault)
         (option_map TrimPlace.Bytes refused.place) }
 {
     let Refused { fault, place } = refused;
-    refusal(CommandFault::from(fault), in_bytes(place))
+    refusal(ToolFault::from(fault), in_bytes(place))
 }
 
 /// The refusal of a command for one of trimming.
-fn trim_refusal(refused: Refused<GcFault, TrimPlace>) -> Refused<CommandFault, TrimPlace>
+fn trim_refusal(refused: Refused<GcFault, TrimPlace>) -> Refused<ToolFault, TrimPlace>
     ensures fault { result.fault ≡ of_trim refused.fault }
     ensures place { result.place ≡ kept_place (of_trim refused.fault) refused.place }
 {
     let Refused { fault, place } = refused;
-    refusal(CommandFault::from(fault), place)
+    refusal(ToolFault::from(fault), place)
 }
 
 /// The refusal with this fault, and with this place, unless the fault is that of memory.
-fn refusal(fault: CommandFault, place: Option<TrimPlace>) -> Refused<CommandFault, TrimPlace>
+fn refusal(fault: ToolFault, place: Option<TrimPlace>) -> Refused<ToolFault, TrimPlace>
     ensures fault { result.fault ≡ fault }
     ensures place { result.place ≡ kept_place fault place }
 {
     match fault {
-        CommandFault::Memory => Refused::without_place(fault),
+        ToolFault::Memory => Refused::without_place(fault),
         _ => Refused { fault, place },
     }
 }
@@ -231,14 +231,14 @@ fn scan<S: Sink>(
     alloc: Global,
     input: &[u8],
     out: &mut S,
-) -> Result<(), Refused<CommandFault, TrimPlace>>
+) -> Result<(), Refused<ToolFault, TrimPlace>>
     ensures done { OnOk result ((m : ModuleValue) × SpellsModule input.now m
         × Appends (S.written out.old) (S.written out.new) (scan_lines m)) }
     ensures works { OnOk result (S.is_failed out.new ≡ S.is_failed out.old) }
     ensures refusal { IfErr result (λ r. (s : List ℕ) → IsRefusalOf (scan s) input.now r) }
-    ensures output { IfErr result (λ r. r.fault ≡ CommandFault.Output
+    ensures output { IfErr result (λ r. r.fault ≡ ToolFault.Output
         → S.is_failed out.new ≡ true) }
-    ensures quiet { IfErr result (λ r. r.fault ≢ CommandFault.Output → out.new ≡ out.old) }
+    ensures quiet { IfErr result (λ r. r.fault ≢ ToolFault.Output → out.new ≡ out.old) }
 {
     match read_module_explained(alloc, input) {
         Ok(module) => scan_module(out, &module),
@@ -250,16 +250,16 @@ fn scan<S: Sink>(
 fn scan_module<S: Sink>(
     out: &mut S,
     scanned: &Module<'_>,
-) -> Result<(), Refused<CommandFault, TrimPlace>>
+) -> Result<(), Refused<ToolFault, TrimPlace>>
     ensures put { OnOk result (Appends (S.written out.old) (S.written out.new)
         (scan_lines (module_value scanned.now))) }
     ensures works { OnOk result (S.is_failed out.new ≡ S.is_failed out.old) }
-    ensures fault { IfErr result (λ r. (r.fault ≡ CommandFault.Output) × (r.place ≡ None)) }
+    ensures fault { IfErr result (λ r. (r.fault ≡ ToolFault.Output) × (r.place ≡ None)) }
     ensures output { IfErr result (λ _. S.is_failed out.new ≡ true) }
 {
     match put_scan(out, scanned) {
         Ok(()) => Ok(()),
-        Err(PutFailed) => Err(Refused::without_place(CommandFault::Output)),
+        Err(PutFailed) => Err(Refused::without_place(ToolFault::Output)),
     }
 }
 
@@ -269,7 +269,7 @@ fn trim(
     seed: Seed,
     input: &[u8],
     arguments: TrimArguments<'_>,
-) -> Result<Vec<u8>, Refused<CommandFault, TrimPlace>>
+) -> Result<Vec<u8>, Refused<ToolFault, TrimPlace>>
     requires some { arguments.exports.now ≢ [] }
     requires paged { arguments.page_size_log2 ≤ 16 }
     ensures done { IfOk result (λ v. IsTrimmed

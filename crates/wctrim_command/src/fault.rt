@@ -1,7 +1,7 @@
 //! Faults of the program: the reasons why a command could not be executed.
 
 ghost use Rattle.std.specs.Prelude.{◌≡◌};
-ghost use Rattle.wctrim_command.specs.declared.fault.CommandFault.TheVariants.{Memory, Output};
+ghost use Rattle.wctrim_command.specs.declared.fault.ToolFault.TheVariants.{Memory, Output};
 ghost use Rattle.wctrim_command.specs.Fault.{command_fault_text};
 
 use std::alloc::AllocError;
@@ -13,7 +13,7 @@ use wc_texts::{FaultText, OUT_OF_MEMORY, Pieces, PutFailed, put_carried};
 
 /// Why a command could not be executed.
 #[derive(Debug, Drop, Error)]
-pub enum CommandFault {
+pub enum ToolFault {
     /// An allocation failed.
     #[error("out of memory")]
     Memory,
@@ -31,71 +31,71 @@ pub enum CommandFault {
     Output,
 }
 
-impl From<AllocError> for CommandFault {
+impl From<AllocError> for ToolFault {
     ghost from_gives = { λ _ e. e ≡ Memory };
 
-    fn from(_e: AllocError) -> CommandFault {
-        CommandFault::Memory
+    fn from(_e: AllocError) -> ToolFault {
+        ToolFault::Memory
     }
 }
 
-impl From<DedupeFault> for CommandFault {
+impl From<DedupeFault> for ToolFault {
     ghost use Rattle.wctrim_command.specs.Fault.{of_dedupe};
 
     ghost from_gives = { λ f e. e ≡ of_dedupe f };
 
-    fn from(e: DedupeFault) -> CommandFault {
+    fn from(e: DedupeFault) -> ToolFault {
         match e {
-            DedupeFault::Memory => CommandFault::Memory,
-            _ => CommandFault::Dedupe(e),
+            DedupeFault::Memory => ToolFault::Memory,
+            _ => ToolFault::Dedupe(e),
         }
     }
 }
 
-impl From<GcFault> for CommandFault {
+impl From<GcFault> for ToolFault {
     ghost use Rattle.wctrim_command.specs.Fault.{of_trim};
 
     ghost from_gives = { λ f e. e ≡ of_trim f };
 
-    fn from(e: GcFault) -> CommandFault {
+    fn from(e: GcFault) -> ToolFault {
         match e {
-            GcFault::Memory => CommandFault::Memory,
-            _ => CommandFault::Trim(e),
+            GcFault::Memory => ToolFault::Memory,
+            _ => ToolFault::Trim(e),
         }
     }
 }
 
-impl From<ReadFault> for CommandFault {
+impl From<ReadFault> for ToolFault {
     ghost use Rattle.wctrim_command.specs.Fault.{of_read};
 
     ghost from_gives = { λ f e. e ≡ of_read f };
 
-    fn from(e: ReadFault) -> CommandFault {
+    fn from(e: ReadFault) -> ToolFault {
         match e {
-            ReadFault::Memory => CommandFault::Memory,
-            _ => CommandFault::Read(e),
+            ReadFault::Memory => ToolFault::Memory,
+            _ => ToolFault::Read(e),
         }
     }
 }
 
-impl From<PutFailed> for CommandFault {
+impl From<PutFailed> for ToolFault {
     ghost from_gives = { λ _ e. e ≡ Output };
 
-    fn from(_e: PutFailed) -> CommandFault {
-        CommandFault::Output
+    fn from(_e: PutFailed) -> ToolFault {
+        ToolFault::Output
     }
 }
 
-impl FaultText for CommandFault {
+impl FaultText for ToolFault {
     ghost text = { command_fault_text };
 
     fn put_pieces<P: Pieces>(&self, out: &mut P) -> Result<(), PutFailed> {
         match self {
-            CommandFault::Memory => out.put_piece(OUT_OF_MEMORY),
-            CommandFault::Dedupe(fault) => put_carried(out, "Dedupe", fault),
-            CommandFault::Trim(fault) => put_carried(out, "Trim", fault),
-            CommandFault::Read(fault) => put_carried(out, "Read", fault),
-            CommandFault::Output => out.put_piece("Output"),
+            ToolFault::Memory => out.put_piece(OUT_OF_MEMORY),
+            ToolFault::Dedupe(fault) => put_carried(out, "Dedupe", fault),
+            ToolFault::Trim(fault) => put_carried(out, "Trim", fault),
+            ToolFault::Read(fault) => put_carried(out, "Read", fault),
+            ToolFault::Output => out.put_piece("Output"),
         }
     }
 }

@@ -6,7 +6,7 @@
 //! ```rust
 //! use std::alloc::Global;
 //! use wc_maps::Seed;
-//! use wctrim_command::{CommandFault, execute, parse};
+//! use wctrim_command::{ToolFault, execute, parse};
 //! use wc_write::WriterSink;
 //!
 //! /// The lines that a command prints for the bytes of a module. `None` where the arguments are
@@ -16,7 +16,7 @@
 //!     seed: Seed,
 //!     arguments: &[String],
 //!     input: &[u8],
-//! ) -> Result<Option<Vec<u8>>, CommandFault>
+//! ) -> Result<Option<Vec<u8>>, ToolFault>
 //!     ensures lines { IfOk result (λ answer. IfSome answer (λ lines.
 //!         (c : CommandView) × (written : Option (List ℕ))
 //!         × IsCommandLine (map string_bytes arguments.now) c
@@ -33,7 +33,7 @@
 //! }
 //! ```
 //!
-//! This function is proved in `wc_example_rows`, as `examples::wctrim::printed_lines`.
+//! This function is proved in `wc_tests`, as `examples::wctrim::printed_lines`.
 #![tactic(auto)]
 
 mod command;
@@ -45,6 +45,6 @@ mod scan;
 mod trim_arguments;
 
 pub use command::{Command, Usage, parse};
-pub use execution::execute;
-pub use fault::CommandFault;
+pub use execution::{execute, execute_explained};
+pub use fault::ToolFault;
 pub use program::{RunFault, run, run_command};

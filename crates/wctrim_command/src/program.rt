@@ -3,27 +3,25 @@
 ghost use Rattle.std.specs.Prelude.{◌≡◌, ◌≢◌, ◌++◌, true, List, ℕ, Some, IfOk, IfErr, IsErr, OnOk};
 ghost use Rattle.std.specs.Option.{option_map};
 ghost use Rattle.std.specs.IoError.{error_kind};
-ghost use Rattle.wc_program.specs.Files.{file_change, problem_text};
+ghost use Rattle.wc_program.specs.Files.{file_change};
 ghost use Rattle.wc_program.specs.Program.{Prints, failure};
 ghost use Rattle.wc_program.specs.Screen.{Becomes, output_ends, printed};
 ghost use Rattle.wc_texts.specs.Pieces.{IsPut};
 ghost use Rattle.wctrim_command.specs.Command.{command_view, IsExecutable};
-ghost use Rattle.wctrim_command.specs.Execution.{Runs, IsRefusalOf};
-ghost use Rattle.wctrim_command.specs.Fault.{command_fault_text};
-ghost use Rattle.wctrim_command.specs.Program.{EndsWell, IsMemoryFault, IsRunFault, IsToldAt, IsToldOf, CommandEnds, EndsWith, EndsWithout, ProgramEnds, EndsWithoutArguments, fault_line, run_fault_text, told_text};
+ghost use Rattle.wctrim_command.specs.Execution.{Runs, IsCommandCause};
+ghost use Rattle.wctrim_command.specs.Program.{EndsWell, IsRunFault, CommandEnds, EndsWith, EndsWithout, ProgramEnds, EndsWithoutArguments, fault_line, run_fault_text};
 
 use crate::command::{Command, Usage, parse};
-use crate::execution::execute_explained;
-use crate::fault::CommandFault;
-use std::alloc::{AllocError, Global};
+use crate::execution::execute;
+use crate::fault::ToolFault;
+use std::alloc::Global;
 use std::io::{self, ErrorKind};
-use wc_gc::TrimPlace;
 use wc_maps::Seed;
 use wc_program::{
     FAILURE, FileProblem, FileStore, NoArguments, Output, Program, SUCCESS, Shell, Text,
     TextBetween, WRONG_ARGUMENTS, print, problem_of, read_file,
 };
-use wc_texts::{FaultText, Pieces, PutFailed, Refused};
+use wc_texts::{FaultText, Pieces, PutFailed};
 
 const USAGE: &str = "usage: wctrim dedupe IN OUT
        wctrim trim IN OUT [--realloc NAME] [--page 0|16] EXPORT...
@@ -37,8 +35,8 @@ pub enum RunFault<'a> {
     CannotRead(&'a str, FileProblem),
     /// The file of this path could not be written, and why.
     CannotWrite(&'a str, FileProblem),
-    /// The command could not be executed: why, and what this is about, as a text, if it is about a place.
-    Command(Refused<CommandFault, String>),
+    /// The command could not be executed, and why.
+    Command(ToolFault),
 }
 
 impl FaultText for RunFault<'_> {
@@ -46,59 +44,19 @@ impl FaultText for RunFault<'_> {
 
     fn put_pieces<P: Pieces>(&self, out: &mut P) -> Result<(), PutFailed> {
         match self {
-            RunFault::CannotRead(path, problem) => put_problem(out, "cannot read ", path, *problem),
-            RunFault::CannotWrite(path, problem) => {
-                put_problem(out, "cannot write ", path, *problem)
-            }
-            RunFault::Command(refused) => put_refused(out, refused),
+            RunFault::CannotRead(path, _) => put_path(out, "cannot read ", path),
+            RunFault::CannotWrite(path, _) => put_path(out, "cannot write ", path),
+            RunFault::Command(fault) => fault.put_pieces(out),
         }
     }
 }
 
-/// Puts the text of a fault, and under it a line of what it is about, if it is about a place.
-fn put_refused<P: Pieces>(
-    out: &mut P,
-    refused: &Refused<CommandFault, String>,
-) -> Result<(), PutFailed>
-    ensures { IsPut P.puts P.fails out.old out.new (told_text refused.now) result }
-{
-    match &refused.place {
-        Some(place) => put_under(out, &refused.fault, LINE_START, place),
-        None => refused.fault.put_pieces(out),
-    }
-}
-
-/// The end of a line, and the beginning of one under it.
-const LINE_START: &str = "\n  ";
-
-/// Puts the text of a fault, and a line under it, which begins so.
-fn put_under<P: Pieces>(
-    out: &mut P,
-    fault: &CommandFault,
-    start: &str,
-    line: &str,
-) -> Result<(), PutFailed>
-    ensures { IsPut P.puts P.fails out.old out.new
-        (command_fault_text fault.now ++ (start.now ++ line.now)) result }
-{
-    fault.put_pieces(out)?;
-    out.put_piece(start)?;
-    out.put_piece(line)
-}
-
-/// Puts what could not be done with a file, its path, and why.
-fn put_problem<P: Pieces>(
-    out: &mut P,
-    undone: &str,
-    path: &str,
-    problem: FileProblem,
-) -> Result<(), PutFailed>
-    ensures { IsPut P.puts P.fails out.old out.new
-        (undone.now ++ (path.now ++ problem_text problem)) result }
+/// Puts what could not be done with a file, and its path.
+fn put_path<P: Pieces>(out: &mut P, undone: &str, path: &str) -> Result<(), PutFailed>
+    ensures { IsPut P.puts P.fails out.old out.new (undone.now ++ path.now) result }
 {
     out.put_piece(undone)?;
-    out.put_piece(path)?;
-    problem.put_pieces(out)
+    out.put_piece(path)
 }
 
 /// Runs the program with these arguments, the first of them the one after the program's name. The answer is its exit
@@ -113,8 +71,8 @@ fn put_problem<P: Pieces>(
 /// | 1 | there was no memory for the arguments | the line `wctrim: out of memory` |
 /// | 1 | the output failed | not known |
 ///
-/// TEXT is the text of `run_command`'s fault (`FaultText`): `cannot read IN: WHY` or `cannot write OUT: WHY` with the path, or
-/// the text of the fault of `execute`. All that is printed is flushed. Files are as `run_command` leaves them; without a
+/// TEXT is the text of `run_command`'s fault (`FaultText`): `cannot read IN` or `cannot write OUT` with the path, or the text
+/// of the fault of `execute`. All that is printed is flushed. Files are as `run_command` leaves them; without a
 /// command they are unchanged. What is done is the same for every seed of the shell.
 pub fn run<F: FileStore, O: Output>(
     arguments: &io::Result<Vec<String>>,
@@ -155,10 +113,9 @@ impl<F: FileStore, O: Output> Program<F, O, ()> for Wctrim {
     fn run_without(&self, why: NoArguments, shell: &mut Shell<F, O, ()>) -> u8 {
         match why {
             NoArguments::Empty => print(&mut shell.out, &Text(USAGE), SUCCESS),
-            NoArguments::NoMemory => report(
-                &mut shell.out,
-                &RunFault::Command(Refused::without_place(CommandFault::Memory)),
-            ),
+            NoArguments::NoMemory => {
+                report(&mut shell.out, &RunFault::Command(ToolFault::Memory))
+            }
             NoArguments::NoText => print(&mut shell.out, &Text(USAGE), WRONG_ARGUMENTS),
         }
     }
@@ -227,12 +184,12 @@ pub fn run_command<'a, F: FileStore, O: Output>(
     let source = command.source();
     let input = match read_file(&*files, source) {
         Ok(input) => input,
-        Err(FileProblem::Memory) => return Err(too_large()),
+        Err(FileProblem::Memory) => return Err(RunFault::Command(ToolFault::Memory)),
         Err(problem) => return Err(RunFault::CannotRead(source, problem)),
     };
     let answer = match execute_and_flush(alloc, seed, command, input.as_slice(), out) {
         Ok(answer) => answer,
-        Err(refused) => return Err(RunFault::Command(told(alloc, refused))),
+        Err(fault) => return Err(RunFault::Command(fault)),
     };
     let (Some(target), Some(bytes)) = (command.target(), answer) else {
         return Ok(());
@@ -243,37 +200,6 @@ pub fn run_command<'a, F: FileStore, O: Output>(
     }
 }
 
-/// The fault of an input file that is too large for memory.
-fn too_large<'a>() -> RunFault<'a>
-    ensures { IsMemoryFault result }
-{
-    RunFault::Command(Refused::without_place(CommandFault::Memory))
-}
-
-/// A refusal, with the text of its place; `Memory` where there is no memory for this.
-fn told(alloc: Global, refused: Refused<CommandFault, TrimPlace>) -> Refused<CommandFault, String>
-    ensures { IsToldOf refused result }
-{
-    let Refused { fault, place } = refused;
-    match place {
-        Some(place) => told_at(alloc, fault, place),
-        None => Refused::without_place(fault),
-    }
-}
-
-/// A refusal that is about a place.
-fn told_at(alloc: Global, fault: CommandFault, place: TrimPlace) -> Refused<CommandFault, String>
-    ensures { IsToldAt fault (Some place) result }
-{
-    match format!(in alloc; "{place}") {
-        Ok(text) => Refused {
-            fault,
-            place: Some(text),
-        },
-        Err(AllocError) => Refused::without_place(CommandFault::Memory),
-    }
-}
-
 /// Executes the command, and flushes its lines.
 fn execute_and_flush<O: Output>(
     alloc: Global,
@@ -281,19 +207,18 @@ fn execute_and_flush<O: Output>(
     command: &Command<'_>,
     input: &[u8],
     out: &mut O,
-) -> Result<Option<Vec<u8>>, Refused<CommandFault, TrimPlace>>
+) -> Result<Option<Vec<u8>>, ToolFault>
     requires { IsExecutable (command_view command.now) }
     ensures done { IfOk result (λ r. (lines : List ℕ)
         × Runs (command_view command.now) input.now lines (option_map (λ v. v.items) r)
         × Becomes (output_ends O.written O.sent O.is_failed) out.old out.new (printed lines)) }
-    ensures refusal { IfErr result (IsRefusalOf (command_view command.now) input.now) }
-    ensures output { IfErr result (λ r. r.fault ≡ CommandFault.Output
-        → O.is_failed out.new ≡ true) }
-    ensures quiet { IfErr result (λ r. r.fault ≢ CommandFault.Output → out.new ≡ out.old) }
+    ensures fault { IfErr result (IsCommandCause (command_view command.now) input.now) }
+    ensures output { IfErr result (λ f. f ≡ ToolFault.Output → O.is_failed out.new ≡ true) }
+    ensures quiet { IfErr result (λ f. f ≢ ToolFault.Output → out.new ≡ out.old) }
 {
-    let answer = execute_explained(alloc, seed, command, input, out)?;
+    let answer = execute(alloc, seed, command, input, out)?;
     match out.flush() {
         Ok(()) => Ok(answer),
-        Err(PutFailed) => Err(Refused::without_place(CommandFault::Output)),
+        Err(PutFailed) => Err(ToolFault::Output),
     }
 }

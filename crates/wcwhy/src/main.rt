@@ -1,12 +1,30 @@
-//! `wcwhy`: says why an adapter imports something: by which path of items a required export leads to the import.
+//! `wcwhy`: says why a module imports something: by the path of items that leads to the import from an export, the start
+//! function or an active segment (`wc_paths`).
 //!
-//! Its contract is proved in `wcwhy_command`. Here it gets the system's arguments and shell, of `wc_program`.
+//! `parse` gives the command of some arguments. `run_command` does a command's work, over any `FileStore` and any `Output`,
+//! and `run` is the program over these and any `Screen` for its faults: its contract says what the program does. `main` gives it
+//! the system's arguments and shell, of `wc_program`. Paths are printed by `wc_why`; those through adapters, and imports by
+//! interfaces, by `wc_module_ways`.
 #![tactic(auto)]
 
+mod adapter_names;
+mod arguments;
+mod execution;
+mod fault;
+mod inputs;
+mod lines;
+mod module_ways;
+mod near_exports;
+mod patterns;
+mod program;
+mod texts;
+mod tree;
+mod usage;
+
+use crate::program::run;
 use std::io::BufWriter;
 use std::process::ExitCode;
 use wc_program::{Printer, exit_code, system_arguments, system_shell};
-use wcwhy_command::run;
 
 /// Runs the program. What goes to standard error is written at once. Where the system gives no random bytes for a seed,
 /// nothing is run.

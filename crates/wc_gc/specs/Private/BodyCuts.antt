@@ -12,7 +12,7 @@ use Rattle.wc_read.specs.declared.items.Item.{Item}
 use Rattle.wc_read.specs.declared.operators.IndexKind.TheVariants.{In}
 use Rattle.wc_read.specs.declared.operators.Space.TheVariants.{Memories}
 use Rattle.wc_read.specs.declared.operators.Opcode.TheVariants.{Byte}
-use Rattle.wc_gc.specs.Decoded.{func_code}
+use Rattle.wc_read.specs.Decoded.{func_code}
 use Rattle.wc_gc.specs.Image.{renumber_code}
 use Rattle.wc_write.specs.Operators.{instr_text}
 use Rattle.wc_gc.specs.declared.body_cuts.BodyCut.{BodyCut}

@@ -9,7 +9,7 @@ use Rattle.wc_read.specs.Renumbering.{Renumbering, renumber_func_type}
 use Rattle.wc_read.specs.Types.{FuncTypeValue, func_type_value}
 use Rattle.wc_read.specs.declared.types.FuncType.{FuncType}
 use Rattle.wc_read.specs.declared.items.Item.{Item}
-use Rattle.wc_gc.specs.Decoded.{DecodedModule, FuncCode, ItemIndex, func_code, is_code}
+use Rattle.wc_read.specs.Decoded.{DecodedModule, FuncCode, ItemIndex, func_code, is_code}
 use Rattle.wc_gc.specs.Edit.{EditedModule, added_funcs, added_imports, added_types, edited_by, edited_func, growing_func, lazy_func, start_func}
 use Rattle.wc_gc.specs.Found.{FoundView, found_view}
 use Rattle.wc_gc.specs.Image.{kept_items, new_func}

@@ -7,7 +7,7 @@ use Rattle.wc_read.specs.Exports.{ExportValue}
 use Rattle.wc_read.specs.Items.{DefValue, imported, local}
 use Rattle.wc_read.specs.declared.items.Item.{Item}
 use Rattle.wc_gc.specs.Bits.{bit_of}
-use Rattle.wc_gc.specs.Decoded.{FuncCode, func_code}
+use Rattle.wc_read.specs.Decoded.{FuncCode, func_code}
 use Rattle.wc_gc.specs.Edit.{is_exported_func}
 use Rattle.wc_gc.specs.Found.{is_realloc}
 use Rattle.wc_gc.specs.Parts.{SettingsView}

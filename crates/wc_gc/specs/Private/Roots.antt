@@ -4,7 +4,7 @@ use Rattle.std.specs.List.{slice_get}
 use Rattle.std.specs.Borrow.{Bor}
 use Rattle.wc_read.specs.Exports.{ExportValue}
 use Rattle.wc_gc.specs.Bits.{bit_of}
-use Rattle.wc_gc.specs.Decoded.{ItemIndex}
+use Rattle.wc_read.specs.Decoded.{ItemIndex}
 use Rattle.wc_gc.specs.LiveChains.{IsFirstName}
 use Rattle.wc_gc.specs.Private.Search.{FindsItems, finds}
 use Rattle.wc_gc.specs.declared.finders.Roots.{Roots}

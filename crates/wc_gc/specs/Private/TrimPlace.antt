@@ -4,13 +4,14 @@ use Rattle.wc_texts.specs.declared.refused.Refused.{Refused}
 use Rattle.wc_read.specs.Modules.{ModuleValue}
 use Rattle.wc_read.specs.declared.operators.Space.TheVariants.{Funcs}
 use Rattle.wc_gc.specs.Bits.{bit_of}
-use Rattle.wc_gc.specs.Decoded.{DecodedModule, ItemIndex}
-use Rattle.wc_gc.specs.Entries.{refs_in}
+use Rattle.wc_read.specs.Decoded.{DecodedModule, ItemIndex}
+use Rattle.wc_read.specs.Entries.{refs_in}
 use Rattle.wc_gc.specs.InRange.{is_item_in_range}
-use Rattle.wc_gc.specs.Reached.{IsReachedFrom}
+use Rattle.wc_graph.specs.Reached.{IsReachedFrom}
 use Rattle.wc_gc.specs.LiveItems.{IsFaultOf}
 use Rattle.wc_gc.specs.TrimPlace.{IsExplainedIn, IsOperatorPlace, body_at}
-use Rattle.wc_gc.specs.Private.Search.{HasGrown, finds}
+use Rattle.wc_graph.specs.Growth.{HasGrown}
+use Rattle.wc_gc.specs.Private.Search.{finds}
 use Rattle.wc_gc.specs.declared.fault.GcFault.{GcFault}
 use Rattle.wc_gc.specs.declared.fault.GcFault.TheVariants.{Memory, LiveBody}
 use Rattle.wc_gc.specs.declared.live.BitVec.{BitVec}

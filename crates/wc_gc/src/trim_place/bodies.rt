@@ -3,7 +3,7 @@
 ghost use Rattle.std.specs.Prelude.{◌≡◌, IfOk, MatchOption, true};
 ghost use Rattle.wc_read.specs.BodyOperators.{body_in};
 ghost use Rattle.wc_read.specs.Operators.{instr_values};
-ghost use Rattle.wc_gc.specs.Decoded.{decoded_module};
+ghost use Rattle.wc_read.specs.Decoded.{decoded_module};
 ghost use Rattle.wc_gc.specs.InRange.{is_code_in_range};
 ghost use Rattle.wc_gc.specs.TrimPlace.{IsFirstOutside, IsOperatorPlace, body_at};
 ghost use Rattle.wc_gc.specs.Private.TrimPlace.{IsBodyRefusal, IsStopRefusal};

@@ -4,9 +4,9 @@ use Rattle.std.specs.Borrow.{Bor}
 use Rattle.std.specs.List.{list_any}
 use Rattle.std.specs.Option.{option_eq, option_map, option_map_or}
 use Rattle.std.specs.Str.{bytes_eq}
-use Rattle.wc_json.specs.Packages.{split_once}
+use Rattle.wc_texts.specs.Splits.{split_once}
 use Rattle.wc_read.specs.Imports.{ImportValue}
-use Rattle.wc_resolve.specs.Characters.{slash}
+use Rattle.wc_texts.specs.Characters.{slash}
 use Rattle.wc_why.specs.Keys.{Halves, unversioned_text, version_of}
 use Rattle.wc_why.specs.Paths.{text_of}
 use Rattle.wc_import_paths.specs.Patterns.{PatternView}

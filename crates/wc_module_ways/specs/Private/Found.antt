@@ -5,9 +5,9 @@ use Rattle.std.specs.Map.{lookup}
 use Rattle.std.specs.Str.{bytes_eq}
 use Rattle.wc_read.specs.Imports.{ImportValue}
 use Rattle.wc_import_paths.specs.Patterns.{PatternView}
-use Rattle.wc_component_tree.specs.Found.{Chained, FoundView, FoundWayView, IsChainFound}
+use Rattle.wc_tree.specs.Found.{Chained, FoundView, FoundWayView, IsChainFound}
 use Rattle.wc_module_ways.specs.Adapters.{AdapterView, adapter_view}
-use Rattle.wc_component_tree.specs.Keys.{Key}
+use Rattle.wc_tree.specs.Keys.{Key}
 use Rattle.wc_module_ways.specs.Modules.{is_adapter_shown}
 use Rattle.wc_module_ways.specs.declared.modules.Modules.{Modules}
 

@@ -10,7 +10,7 @@ use Rattle.wc_segments.specs.Segments.{SegmentsValue, segments_value}
 use Rattle.wc_summary.specs.Entries.{EntriesView}
 use Rattle.wc_summary.specs.Leads.{Tags}
 use Rattle.wc_summary.specs.Notes.{NotesAdapterModule, NotesMainModule, NotesParts}
-use Rattle.wc_resolve.specs.Views.{named_view}
+use Rattle.wc_texts.specs.Names.{named_view}
 use Rattle.wc_import_paths.specs.Followed.{AreNamesIn}
 use Rattle.wc_module_ways.specs.Adapters.{AdapterView, Given}
 use Rattle.wc_module_ways.specs.Imports.{AreAdapterTags, AreFound, AreParts, adapter_by, main_tags, tag_if}

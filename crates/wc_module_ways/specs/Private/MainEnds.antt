@@ -9,13 +9,13 @@ use Rattle.wc_import_paths.specs.declared.followed.Followed.{Followed}
 use Rattle.wc_why.specs.Joined.{AreJoined}
 use Rattle.wc_why.specs.Paths.{StepView}
 use Rattle.wc_tree.specs.Tree.{TreeModuleView, TreeWayView, tree_module_view, tree_way_view}
-use Rattle.wc_component_tree.specs.FoundTree.{AreItemEnds, IsPlaceOf, Places, way_to}
-use Rattle.wc_component_tree.specs.Keys.{Key}
-use Rattle.wc_component_tree.specs.WaysTree.{IsMainRead}
-use Rattle.wc_component_tree.specs.declared.main_tree.FollowedMain.{FollowedMain}
-use Rattle.wc_component_tree.specs.declared.main_tree.MainFollowing.{MainFollowing}
-use Rattle.wc_component_tree.specs.declared.main_tree.MainFollowing.TheVariants.{Whole as whole_main, Unread as unread_main}
-use Rattle.wc_component_tree.specs.declared.main_tree.MainSource.{MainSource}
+use Rattle.wc_tree.specs.FoundTree.{AreItemEnds, IsPlaceOf, Places, way_to}
+use Rattle.wc_tree.specs.Keys.{Key}
+use Rattle.wc_tree.specs.WaysTree.{IsMainRead}
+use Rattle.wc_tree.specs.declared.main_tree.FollowedMain.{FollowedMain}
+use Rattle.wc_tree.specs.declared.main_tree.MainFollowing.{MainFollowing}
+use Rattle.wc_tree.specs.declared.main_tree.MainFollowing.TheVariants.{Whole as whole_main, Unread as unread_main}
+use Rattle.wc_tree.specs.declared.main_tree.MainSource.{MainSource}
 use Rattle.wc_module_ways.specs.MainModules.{AreStepsIn, module_of}
 use Rattle.wc_module_ways.specs.Modules.{AreView, ModulesView, is_main_shown}
 use Rattle.wc_module_ways.specs.Private.Found.{function_place, way_for}

@@ -2,7 +2,7 @@
 use Rattle.std.specs.Prelude.{◌≡◌, ℕ, List, Some}
 use Rattle.std.specs.List.{slice_get}
 use Rattle.wc_read.specs.Imports.{ImportValue}
-use Rattle.wc_gc.specs.Decoded.{ItemIndex}
+use Rattle.wc_read.specs.Decoded.{ItemIndex}
 use Rattle.wc_gc.specs.LiveChains.{AreImportChains}
 use Rattle.wc_gc.specs.declared.import_chains.Chain.{Chain}
 use Rattle.wc_gc.specs.declared.import_chains.ImportChains.{ImportChains}

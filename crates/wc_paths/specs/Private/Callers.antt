@@ -7,13 +7,13 @@ use Rattle.std.specs.declared.vec.Vec.{Vec}
 use Rattle.wc_read.specs.Bodies.{BodyValue}
 use Rattle.wc_read.specs.Items.{DefValue, imported, local}
 use Rattle.wc_read.specs.declared.operators.Space.TheVariants.{Funcs}
-use Rattle.wc_gc.specs.Decoded.{FuncCode, func_code}
+use Rattle.wc_read.specs.Decoded.{FuncCode, func_code}
 use Rattle.wc_paths.specs.CallLists.{CallKey, CallLists, listed}
 use Rattle.wc_paths.specs.Counts.{counts_value}
 use Rattle.wc_paths.specs.Items.{has_item}
 use Rattle.wc_paths.specs.Numbers.{number_of}
 use Rattle.wc_paths.specs.Private.CallLists.{has_call}
-use Rattle.wc_paths.specs.Private.Places.{is_missing_at}
+use Rattle.wc_graph.specs.Private.Places.{is_missing_at}
 use Rattle.wc_paths.specs.declared.callers.Functions.{Functions}
 use Rattle.wc_paths.specs.declared.items.PathItem.{PathItem}
 use Rattle.wc_paths.specs.declared.items.PathItem.TheVariants.{Item}

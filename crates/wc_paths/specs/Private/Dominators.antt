@@ -3,9 +3,10 @@ use Rattle.std.specs.Prelude.{◌≡◌, ◌↔◌, ℕ, ◌<◌, ◌^◌, ◌�
 use Rattle.std.specs.List.{slice_get}
 use Rattle.std.specs.declared.alloc.Global.{Global}
 use Rattle.std.specs.declared.vec.Vec.{Vec}
-use Rattle.wc_gc.specs.ImportChains.{IsShortestChain}
-use Rattle.wc_gc.specs.Reached.{IsReachedFrom}
-use Rattle.wc_paths.specs.Dominators.{IsDominator, MarksValue, is_marked}
+use Rattle.wc_graph.specs.ShortestChains.{IsShortestChain}
+use Rattle.wc_graph.specs.Reached.{IsReachedFrom}
+use Rattle.wc_graph.specs.Dominators.{IsDominator}
+use Rattle.wc_paths.specs.Dominators.{MarksValue, is_marked}
 use Rattle.wc_paths.specs.Items.{GraphValue, counts_of, has_item}
 use Rattle.wc_paths.specs.Numbers.{item_count, number_of, numbers_in, numbers_of}
 use Rattle.wc_paths.specs.Paths.{ArePaths}
@@ -47,7 +48,3 @@ IsAnyAnswer p targets answer =
     (g : GraphValue) (first second : List PathItem) → ArePaths g first second p
     → MatchOption answer ((t : ℕ) → Contains targets t → IsUnreached g first second t)
     (λ chain. (t : ℕ) × Contains targets t × IsChainFrom g first second t chain.items)
-
--- no path leads to any of some targets
-abbrev pub AreUnreached : (ℕ → List ℕ) → List ℕ → List ℕ → Type 0
-AreUnreached names roots targets = (t : ℕ) → Contains targets t → ¬ (IsReachedFrom names roots t)

@@ -4,7 +4,7 @@ use Rattle.std.specs.Option.{option_map}
 use Rattle.wc_paths.specs.Counts.{counts_value}
 use Rattle.wc_paths.specs.Items.{CountsValue, has_item}
 use Rattle.wc_paths.specs.Numbers.{item_at, number_of}
-use Rattle.wc_paths.specs.Private.Places.{place_at}
+use Rattle.wc_graph.specs.Private.Places.{place_at}
 use Rattle.wc_paths.specs.declared.items.PathItem.{PathItem}
 use Rattle.wc_paths.specs.declared.paths.Paths.{Paths}
 

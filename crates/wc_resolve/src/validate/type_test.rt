@@ -2,7 +2,8 @@
 
 ghost use Rattle.std.specs.Prelude.{◌↔◌, All, IsTrue, IfOk, map};
 ghost use Rattle.std.specs.Option.{IfSome};
-ghost use Rattle.wc_resolve.specs.Views.{function_entry, function_view, interface_view, item_view, kind_view, named_view, type_view, world_entry, world_view};
+ghost use Rattle.wc_resolve.specs.Views.{function_entry, function_view, interface_view, item_view, kind_view, type_view, world_entry, world_view};
+ghost use Rattle.wc_texts.specs.Names.{named_view};
 ghost use Rattle.wc_resolve.specs.Kinds.{DoesInterfacePass, DoesItemPass, DoesTypePass, DoesWorldPass, SignatureHasOnly, contained_types};
 
 use crate::kinds::contained_types;

@@ -10,7 +10,7 @@ use Rattle.wc_paths.specs.Roots.{export_item}
 use Rattle.wc_paths.specs.declared.items.PathItem.{PathItem}
 use Rattle.wc_read.specs.Exports.{ExportValue}
 use Rattle.wc_read.specs.Items.{DefValue, imported, local}
-use Rattle.wc_spread.specs.Positions.{IsAt}
+use Rattle.wc_graph.specs.Positions.{IsAt}
 use Rattle.wc_summary.specs.Leads.{source_by}
 
 -- the place of an item was noted

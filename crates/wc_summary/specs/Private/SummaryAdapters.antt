@@ -3,9 +3,9 @@ use Rattle.std.specs.Prelude.{◌≡◌, ℕ, ◌+◌, false, List, [], length, 
 use Rattle.wc_read.specs.Modules.{ModuleValue}
 use Rattle.wc_paths.specs.Items.{GraphValue, counts_of, graph_of}
 use Rattle.wc_paths.specs.Numbers.{numbers_in}
-use Rattle.wc_spread.specs.Alone.{AreAlone}
-use Rattle.wc_spread.specs.Leads.{AreLeads}
-use Rattle.wc_spread.specs.Positions.{sets_view}
+use Rattle.wc_graph.specs.Alone.{AreAlone}
+use Rattle.wc_graph.specs.Leads.{AreLeads}
+use Rattle.wc_graph.specs.Positions.{sets_view}
 use Rattle.wc_summary.specs.Leads.{own_bodies}
 use Rattle.wc_summary.specs.Private.Leads.{source_in}
 use Rattle.wc_summary.specs.Private.SummaryMain.{AreOwnersOf}

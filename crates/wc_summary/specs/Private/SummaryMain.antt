@@ -11,7 +11,7 @@ use Rattle.wc_paths.specs.Numbers.{item_count, number_of, numbers_in}
 use Rattle.wc_paths.specs.declared.items.PathItem.{PathItem}
 use Rattle.wc_paths.specs.declared.items.PathItem.TheVariants.{Item}
 use Rattle.wc_read.specs.declared.operators.Space.TheVariants.{Funcs}
-use Rattle.wc_spread.specs.Positions.{AreAscending, IsAt}
+use Rattle.wc_graph.specs.Positions.{AreAscending, IsAt}
 use Rattle.wc_summary.specs.Leads.{as_number, is_root, is_tag}
 use Rattle.wc_summary.specs.Summary.{PartsView}
 use Rattle.wc_summary.specs.Entries.{EntriesView, interfaces_of, parts_of}

@@ -2,7 +2,7 @@
 use Rattle.std.specs.Prelude.{◌≡◌, ℕ, ◌+◌, ◌<◌, cond, List, [], ◌∷◌, count_by, length, map, nat_eq, slice_index, Option, Some}
 use Rattle.std.specs.List.{slice_get}
 use Rattle.std.specs.Option.{option_and_then, option_eq}
-use Rattle.wc_spread.specs.Positions.{AreBelow}
+use Rattle.wc_graph.specs.Positions.{AreBelow}
 use Rattle.wc_summary.specs.Leads.{Tags, named_in}
 use Rattle.wc_summary.specs.Entries.{EntriesView, Lists, interfaces_of, parts_of}
 

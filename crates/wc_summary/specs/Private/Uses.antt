@@ -2,8 +2,8 @@
 use Rattle.std.specs.Prelude.{◌≡◌, ◌≢◌, ◌⊎◌, ℕ, Bool, true, false, not, cond, List, [], ◌∷◌, filter, slice_index, unwrap_or, Some}
 use Rattle.std.specs.List.{slice_get}
 use Rattle.std.specs.Str.{bytes_eq}
-use Rattle.wc_spread.specs.Positions.{sets_view}
-use Rattle.wc_spread.specs.declared.alone.Alone.{Alone}
+use Rattle.wc_graph.specs.Positions.{sets_view}
+use Rattle.wc_graph.specs.declared.alone.Alone.{Alone}
 use Rattle.wc_summary.specs.Leads.{names_at}
 use Rattle.wc_summary.specs.Summary.{AdapterPartView}
 use Rattle.wc_summary.specs.Entries.{EntriesView, Lists, parts_of}

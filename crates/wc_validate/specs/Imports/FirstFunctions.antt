@@ -9,7 +9,7 @@ use Rattle.std.specs.declared.alloc.Global.{Global}
 use Rattle.indexmap.specs.IndexMap.{IndexMap, get_by}
 use Rattle.wc_read.specs.Types.{FuncTypeValue}
 use Rattle.wc_names.specs.Views.{ImportView}
-use Rattle.wc_resolve.specs.Views.{named_view}
+use Rattle.wc_texts.specs.Names.{named_view}
 use Rattle.wc_validate.specs.declared.imports.first_functions.FirstFunctions.{FirstFunctions}
 use Rattle.wc_validate.specs.declared.imports.instances.ImportInstance.{ImportInstance}
 use Rattle.wc_validate.specs.Imports.Entries.{InstanceRecord, Records, all_of, names_of}

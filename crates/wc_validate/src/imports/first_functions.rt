@@ -2,7 +2,7 @@
 
 ghost use Rattle.std.specs.Prelude.{◌≡◌, [], IfOk, map};
 ghost use Rattle.wc_validate.specs.Imports.FirstFunctions.{HasFirstFunctions, IsModuleNoted};
-ghost use Rattle.wc_resolve.specs.Views.{named_view};
+ghost use Rattle.wc_texts.specs.Names.{named_view};
 ghost use Rattle.wc_validate.specs.Imports.Instances.{instance_entry};
 ghost use Rattle.wc_validate.specs.Private.Imports.AdapterFunctions.{position_of, ArePositionsAdded, first_positions};
 

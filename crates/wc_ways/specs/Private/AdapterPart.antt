@@ -2,7 +2,7 @@
 use Rattle.std.specs.Prelude.{◌≡◌, ℕ, Bool, cond, List, [], ◌++◌, map, Option, None}
 use Rattle.std.specs.List.{filter_map, slice_get}
 use Rattle.std.specs.Option.{option_and_then}
-use Rattle.wc_component_graph.specs.Parts.{PartView, module_part}
+use Rattle.wc_paths.specs.Parts.{PartView, module_part}
 use Rattle.wc_paths.specs.Counts.{counts_value}
 use Rattle.wc_paths.specs.Numbers.{numbers_of}
 use Rattle.wc_paths.specs.declared.items.PathItem.{PathItem}
@@ -11,7 +11,7 @@ use Rattle.wc_world.specs.WorldViews.{required_view}
 use Rattle.wc_ways.specs.Component.{IsLinked, IsPlace, asked_items, export_number, link_between, root_of, unsegmented}
 use Rattle.wc_paths.specs.Items.{graph_of}
 use Rattle.wc_summary.specs.Leads.{as_number}
-use Rattle.wc_component_tree.specs.Said.{AreEach}
+use Rattle.wc_tree.specs.Said.{AreEach}
 use Rattle.wc_ways.specs.Words.{is_wanted}
 use Rattle.wc_ways.specs.Private.MainPaths.{HasPlaces}
 use Rattle.wc_ways.specs.declared.part_items.Asking.{Asking}

@@ -7,7 +7,7 @@ use Rattle.wc_gc.specs.declared.import_chains.ImportChains.{ImportChains}
 use Rattle.wc_validate.specs.Validate.{module_record}
 use Rattle.wc_world.specs.Views.{ComponentWorldView, WorldAdapterView}
 use Rattle.wc_world.specs.WorldViews.{required_view, world_view}
-use Rattle.wc_plan.specs.Planner.{AreModuleNameable}
+use Rattle.wc_world.specs.Nameable.{AreModuleNameable}
 use Rattle.wc_why.specs.Paths.{StepView, exported, imported}
 use Rattle.wc_ways.specs.Main.{AreMainSteps}
 use Rattle.wc_ways.specs.Marked.{Marking}

@@ -1,13 +1,13 @@
 -- The parts of a component's graph, as the code has them.
 use Rattle.std.specs.Prelude.{ℕ, List}
-use Rattle.wc_component_graph.specs.Parts.{PartView}
+use Rattle.wc_paths.specs.Parts.{PartView}
 use Rattle.wc_paths.specs.Items.{CountsValue}
 use Rattle.wc_read.specs.Modules.{ModuleValue, SpellsModule}
 use Rattle.wc_validate.specs.Validate.{ModuleRecord}
 use Rattle.wc_world.specs.Views.{ComponentWorldView, NamedWorldAdapter}
 use Rattle.wc_world.specs.WorldViews.{world_view}
 use Rattle.wc_ways.specs.Component.{IsAdapterPart, IsMainPart, IsOnePart, IsTrimmedPart}
-use Rattle.wc_component_tree.specs.Said.{AreEach}
+use Rattle.wc_tree.specs.Said.{AreEach}
 use Rattle.wc_ways.specs.Private.MainPaths.{AreMainPaths}
 use Rattle.wc_ways.specs.declared.component.Component.{Component}
 

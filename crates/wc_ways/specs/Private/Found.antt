@@ -10,7 +10,7 @@ use Rattle.wc_validate.specs.Imports.Map.{imports_in}
 use Rattle.wc_validate.specs.Validate.{module_record}
 use Rattle.wc_tree.specs.Tree.{TreeItemView}
 use Rattle.wc_world.specs.Views.{ComponentWorldView}
-use Rattle.wc_component_tree.specs.Found.{FunctionName, Chained, FoundView, FoundWayView, HasCited, IsEndOf}
+use Rattle.wc_tree.specs.Found.{FunctionName, Chained, FoundView, FoundWayView, HasCited, IsEndOf}
 use Rattle.wc_ways.specs.Asked.{asked_function}
 use Rattle.wc_ways.specs.Originals.{Original, asked_in, asked_of, required_of, wanted_of}
 use Rattle.wc_ways.specs.Said.{AreModulesSaid}

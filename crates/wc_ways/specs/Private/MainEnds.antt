@@ -5,13 +5,13 @@ use Rattle.std.specs.Map.{lookup}
 use Rattle.wc_paths.specs.declared.items.PathItem.{PathItem}
 use Rattle.wc_why.specs.Paths.{StepView}
 use Rattle.wc_tree.specs.Tree.{TreeModuleView}
-use Rattle.wc_component_tree.specs.FoundTree.{IsPlaceOf, Places}
-use Rattle.wc_component_tree.specs.Keys.{Key, is_key}
-use Rattle.wc_component_tree.specs.WaysTree.{IsMainRead}
-use Rattle.wc_component_tree.specs.declared.main_tree.FollowedMain.{FollowedMain}
-use Rattle.wc_component_tree.specs.declared.main_tree.MainFollowing.{MainFollowing}
-use Rattle.wc_component_tree.specs.declared.main_tree.MainFollowing.TheVariants.{Whole as whole_main, Unread as unread_main}
-use Rattle.wc_component_tree.specs.declared.main_tree.MainSource.{MainSource}
+use Rattle.wc_tree.specs.FoundTree.{IsPlaceOf, Places}
+use Rattle.wc_tree.specs.Keys.{Key, is_key}
+use Rattle.wc_tree.specs.WaysTree.{IsMainRead}
+use Rattle.wc_tree.specs.declared.main_tree.FollowedMain.{FollowedMain}
+use Rattle.wc_tree.specs.declared.main_tree.MainFollowing.{MainFollowing}
+use Rattle.wc_tree.specs.declared.main_tree.MainFollowing.TheVariants.{Whole as whole_main, Unread as unread_main}
+use Rattle.wc_tree.specs.declared.main_tree.MainSource.{MainSource}
 use Rattle.wc_ways.specs.Main.{AreMainSteps}
 use Rattle.wc_ways.specs.Private.MainPaths.{AreMainPaths}
 use Rattle.wc_ways.specs.declared.main_paths.Followed.{Followed}

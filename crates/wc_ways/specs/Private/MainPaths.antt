@@ -18,7 +18,7 @@ use Rattle.wc_paths.specs.declared.items.PathItem.{PathItem}
 use Rattle.wc_paths.specs.declared.paths.Path.{Path}
 use Rattle.wc_why.specs.Paths.{StepView, begun, path_steps}
 use Rattle.wc_ways.specs.Main.{AreMainSteps, AreStepsTo, IsFollowed, IsUnfollowed}
-use Rattle.wc_component_tree.specs.Keys.{IsNamed, Key, is_key}
+use Rattle.wc_tree.specs.Keys.{IsNamed, Key, is_key}
 use Rattle.wc_ways.specs.declared.main_paths.Followed.{Followed}
 use Rattle.wc_ways.specs.declared.main_paths.Following.{Following}
 use Rattle.wc_ways.specs.declared.main_paths.Following.TheVariants.{Whole, Unread}

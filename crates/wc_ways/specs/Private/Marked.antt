@@ -1,9 +1,9 @@
 -- Paths with marks, as the code has them.
 use Rattle.std.specs.Prelude.{◌≡◌, ℕ, Bool, true, false, List, [], ◌∷◌, Option, Some, None}
 use Rattle.std.specs.Option.{option_and_then, option_map_or}
-use Rattle.wc_component_graph.specs.Marks.{AreMarks, is_marked}
-use Rattle.wc_component_graph.specs.Parts.{PartView}
-use Rattle.wc_component_graph.specs.declared.marks.Marks.{Marks}
+use Rattle.wc_paths.specs.Marks.{AreMarks, is_marked}
+use Rattle.wc_paths.specs.Parts.{PartView}
+use Rattle.wc_paths.specs.declared.marks.Marks.{Marks}
 use Rattle.wc_paths.specs.declared.items.PathItem.{PathItem}
 use Rattle.wc_why.specs.MarkedSteps.{MarkedPathView, MarkedStepView, unmarked}
 use Rattle.wc_why.specs.Paths.{PathView, StepView, imported, exported, begun, unfollowed, passed, segment, of_world, of_type}

@@ -1,6 +1,6 @@
 -- A tree whose items have marks.
 use Rattle.std.specs.Prelude.{ℕ, map, Option}
-use Rattle.wc_component_graph.specs.declared.marks.Marks.{Marks}
+use Rattle.wc_paths.specs.declared.marks.Marks.{Marks}
 use Rattle.wc_tree.specs.Tree.{TreeItemView, TreeModuleView, TreeView}
 use Rattle.wc_ways.specs.Marked.{Marking, Place}
 use Rattle.wc_ways.specs.Private.Marked.{mark_by}

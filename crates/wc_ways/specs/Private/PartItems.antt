@@ -2,9 +2,9 @@
 use Rattle.std.specs.Prelude.{◌==◌, ℕ, ◌%◌, Bool, false, cond, List, All, is_some, Option, Some, None}
 use Rattle.std.specs.List.{slice_get}
 use Rattle.std.specs.Option.{option_and_then, option_map_or}
-use Rattle.wc_paths.specs.ChainMarks.{is_set}
+use Rattle.wc_graph.specs.ChainMarks.{is_set}
 use Rattle.wc_paths.specs.declared.items.PathItem.{PathItem}
-use Rattle.wc_plan.specs.Calls.{IsNameable}
+use Rattle.wc_world.specs.Nameable.{IsNameable}
 use Rattle.wc_read.specs.Imports.{ImportValue}
 use Rattle.wc_validate.specs.Imports.Map.{imports_in}
 use Rattle.wc_world.specs.Slots.{imports_of}

@@ -1,7 +1,7 @@
 -- What is noted of adapters, one after another.
 use Rattle.std.specs.Prelude.{◌≡◌, ℕ, List, []}
 use Rattle.wc_read.specs.Modules.{ModuleValue}
-use Rattle.wc_plan.specs.Planner.{AreModuleNameable}
+use Rattle.wc_world.specs.Nameable.{AreModuleNameable}
 use Rattle.wc_summary.specs.Entries.{EntriesView}
 use Rattle.wc_summary.specs.Leads.{found_in}
 use Rattle.wc_summary.specs.Notes.{NotesParts}

@@ -11,9 +11,9 @@ use Rattle.wc_why.specs.Paths.{PathView}
 use Rattle.wc_world.specs.Views.{ComponentWorldView, NamedWorldAdapter}
 use Rattle.wc_ways.specs.Marked.{Marking}
 use Rattle.wc_ways.specs.Ways.{ArePaths}
-use Rattle.wc_component_tree.specs.WaysTree.{AreWaysRead}
-use Rattle.wc_component_tree.specs.Found.{FoundView}
-use Rattle.wc_component_tree.specs.FoundTree.{AreModulesFrom, AreWaysAt, Places}
+use Rattle.wc_tree.specs.WaysTree.{AreWaysRead}
+use Rattle.wc_tree.specs.Found.{FoundView}
+use Rattle.wc_tree.specs.FoundTree.{AreModulesFrom, AreWaysAt, Places}
 use Rattle.wc_ways.specs.Private.MainEnds.{HasEnds}
 use Rattle.wc_ways.specs.Private.MarkedTree.{marked_tree}
 use Rattle.wc_ways.specs.Private.TypedFound.{AreTypedWays, TypedView}

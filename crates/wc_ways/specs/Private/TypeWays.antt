@@ -8,7 +8,7 @@ use Rattle.wc_read.specs.declared.types.Import.{Import}
 use Rattle.wc_validate.specs.Validate.{module_record}
 use Rattle.wc_why.specs.Paths.{PathView, StepView, imported, text_of}
 use Rattle.wc_world.specs.Views.{ComponentWorldView, WorldAdapterView}
-use Rattle.wc_component_tree.specs.Keys.{IsNamed}
+use Rattle.wc_tree.specs.Keys.{IsNamed}
 use Rattle.wc_ways.specs.Said.{IsSaidIn, IsSaidOfTrimmed}
 use Rattle.wc_ways.specs.TypeRoots.{of_import}
 use Rattle.wc_ways.specs.Ways.{AreAdapterSteps, AreImportSteps, AreNeederSteps, IsTypedBy}

@@ -11,13 +11,13 @@ use Rattle.wc_why.specs.Paths.{text_of}
 use Rattle.wc_why.specs.declared.paths.WorldSide.{WorldSide}
 use Rattle.wc_tree.specs.Tree.{TreeImportView, TreeWayView, tree_import_view}
 use Rattle.wc_world.specs.Views.{ComponentWorldView, WorldAdapterView}
-use Rattle.wc_component_tree.specs.Said.{AreEach}
+use Rattle.wc_tree.specs.Said.{AreEach}
 use Rattle.wc_ways.specs.TypeRoots.{TypeRoot, of_import, of_item}
 use Rattle.wc_ways.specs.Types.{TypeCite}
-use Rattle.wc_component_tree.specs.WaysTree.{world_import}
-use Rattle.wc_component_tree.specs.Found.{FoundView}
-use Rattle.wc_component_tree.specs.FoundTree.{IsPlaceOf, Places}
-use Rattle.wc_component_tree.specs.Keys.{Key, is_key}
+use Rattle.wc_tree.specs.WaysTree.{world_import}
+use Rattle.wc_tree.specs.Found.{FoundView}
+use Rattle.wc_tree.specs.FoundTree.{IsPlaceOf, Places}
+use Rattle.wc_tree.specs.Keys.{Key, is_key}
 use Rattle.wc_ways.specs.declared.typed_found.FoundEnd.{FoundEnd}
 use Rattle.wc_ways.specs.declared.typed_found.FoundEnd.TheVariants.{Nowhere, World, Main, Adapter, Library}
 use Rattle.wc_ways.specs.declared.typed_found.FoundTyped.{FoundTyped}

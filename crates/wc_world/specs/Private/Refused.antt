@@ -3,12 +3,12 @@ use Rattle.std.specs.Prelude.{◌≡◌, ◌⊎◌, ℕ, List, MatchOption, Opti
 use Rattle.wc_encoder.specs.EncoderParts.{EncoderView}
 use Rattle.wc_validate.specs.Explain.{IsPlace}
 use Rattle.wc_validate.specs.Refused.{HasNoPlace as HasNoPlaceInModule, IsRefusedAt as IsModuleRefusedAt, RefusedModule}
-use Rattle.wc_validate.specs.Validate.{IsValidateCause, ModuleRecord, ValidationInput}
+use Rattle.wc_validate.specs.Validate.{IsValidateCause, ModuleRecord, ValidationInput, main_input}
 use Rattle.wc_world.specs.Causes.{IsFirst, IsStopOf}
-use Rattle.wc_world.specs.Places.{IsInAdapter, IsMinimizedPlace, IsNeededUnder, IsOriginalPlace, IsTrimPlace, IsTrimUnplaced}
+use Rattle.wc_world.specs.Places.{IsInAdapter, IsMainPlace, IsMinimizedPlace, IsNeededUnder, IsOriginalPlace, IsTrimPlace, IsTrimUnplaced}
 use Rattle.wc_world.specs.Private.Adapters.{main_of, named_adapter}
 use Rattle.wc_world.specs.Refused.{IsMemoryRefusal, RefusedWorld}
-pub use Rattle.wc_world.specs.Refused.{IsMainRefusal, IsNamedRefusal}
+pub use Rattle.wc_world.specs.Refused.{IsGivenRefusal, IsMainRefusal, IsNamedRefusal}
 use Rattle.wc_world.specs.Trimming.{NamedAdapter, is_adapter_needed, needed_adapters}
 use Rattle.wc_world.specs.declared.adapters.AdapterInput.{AdapterInput}
 use Rattle.wc_world.specs.declared.fault.WorldFault.{WorldFault}
@@ -20,6 +20,10 @@ use Rattle.wc_world.specs.declared.places.WorldPlace.{WorldPlace}
 -- why bytes are refused, with the place
 abbrev pub IsModuleRefusal : ValidationInput → List ℕ → RefusedModule → Type 0
 IsModuleRefusal j bytes m = IsValidateCause j bytes m.fault × IsModuleRefusedAt (IsPlace j bytes) m
+
+-- why the main module is refused, with the place
+abbrev pub IsRefusalOfMain : EncoderView → RefusedModule → Type 0
+IsRefusalOfMain e m = IsValidateCause (main_input e e.module_import_map) e.module_bytes m.fault × IsModuleRefusedAt (IsMainPlace e) m
 
 -- the place of a fault of an adapter; and that it has none
 abbrev pub IsPlaceOf : EncoderView → ModuleRecord → NamedAdapter → WorldFault → ModulePlace → Type 0

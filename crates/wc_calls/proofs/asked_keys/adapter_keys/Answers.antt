@@ -1,7 +1,7 @@
 use Rattle.std.proofs.Common.{◌≡◌, ◌∙◌, IfOk, List, ap, map, subst}
 use Rattle.wc_resolve.specs.Views.{KeyView, key_view}
 use Rattle.wc_selection.specs.KeyIndex.{keys_under}
-use Rattle.wc_selection.specs.Texts.{text_of}
+use Rattle.wc_maps.specs.Texts.{text_of}
 use Rattle.wc_json.specs.Messages.{adapter_message_view, key_message_view}
 use Rattle.wc_calls.specs.AskedKeys.{key_texts}
 use Rattle.wc_calls.proofs.AskedKeyLemmas.{adapter_keys_under}

@@ -1,5 +1,5 @@
 use Rattle.std.proofs.Common.{◌≡◌, map, string_bytes, take}
-use Rattle.wc_selection.specs.Texts.{text_pair}
+use Rattle.wc_maps.specs.Texts.{text_pair}
 use Rattle.wc_json.specs.Messages.{KeyMessageView, key_message_view}
 use Rattle.wc_calls.proofs.asked_keys.adapter_texts.Given as goal
 

@@ -1,5 +1,5 @@
 use Rattle.std.proofs.Common.{◌∙◌, ap, map}
-use Rattle.wc_selection.specs.Texts.{text_of, text_pair}
+use Rattle.wc_maps.specs.Texts.{text_of, text_pair}
 use Rattle.wc_json.specs.Messages.{adapter_message_view, exports_view}
 use Rattle.wc_calls.proofs.AskedKeyLemmas.{asked_for}
 use Rattle.wc_calls.proofs.asked_keys.asked_of.Goals as goal

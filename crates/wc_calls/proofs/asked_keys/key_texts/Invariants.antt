@@ -1,5 +1,5 @@
 use Rattle.std.proofs.Common.{◌≡◌, map, take}
-use Rattle.wc_selection.specs.Texts.{text_of}
+use Rattle.wc_maps.specs.Texts.{text_of}
 use Rattle.wc_json.specs.Messages.{key_message_view}
 use Rattle.wc_calls.specs.AskedKeys.{key_texts}
 use Rattle.wc_calls.proofs.asked_keys.key_texts.Given as goal

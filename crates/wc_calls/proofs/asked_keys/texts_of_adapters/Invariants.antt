@@ -1,5 +1,5 @@
 use Rattle.std.proofs.Common.{◌≡◌, flat_map, map, take}
-use Rattle.wc_selection.specs.Texts.{text_pair}
+use Rattle.wc_maps.specs.Texts.{text_pair}
 use Rattle.wc_json.specs.Messages.{adapter_message_view}
 use Rattle.wc_calls.specs.AskedKeys.{adapter_texts}
 use Rattle.wc_calls.proofs.asked_keys.texts_of_adapters.Given as goal

@@ -1,4 +1,4 @@
-use Rattle.wc_uses.specs.PlanViews.{plan_view}
+use Rattle.wc_plan.specs.PlanViews.{plan_view}
 use Rattle.wc_world.specs.WorldViews.{world_view}
 use Rattle.wc_calls.proofs.PlannedWorldLemmas.{memory_of_plan, planned_text}
 use Rattle.wc_calls.proofs.RefusalLemmas.{plan_refused}

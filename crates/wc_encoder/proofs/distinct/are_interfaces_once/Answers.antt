@@ -4,7 +4,7 @@ use Rattle.wc_resolve.specs.Views.{world_entry}
 use Rattle.wc_encoder.specs.Distinct.{exported_interfaces}
 use Rattle.wc_resolve.proofs.KeyLemmas.{ids_law}
 use Rattle.wc_encoder.proofs.LookupLemmas.{interface_next}
-use Rattle.wc_encoder.proofs.SeenLemmas.{seen_again, seen_more}
+use Rattle.wc_maps.proofs.SeenLemmas.{seen_again, seen_more}
 use Rattle.wc_encoder.proofs.distinct.are_interfaces_once.Goals as goal
 
 pub returns-then-not-is_new : goal.returns-then-not-is_new

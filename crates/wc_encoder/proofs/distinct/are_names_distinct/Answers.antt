@@ -12,7 +12,7 @@ use Rattle.wc_resolve.proofs.ViewedLemmas.{all_unviewed}
 use Rattle.wc_encoder.specs.Distinct.{import_names}
 use Rattle.wc_resolve.proofs.KeyLemmas.{names_law}
 use Rattle.wc_encoder.proofs.LookupLemmas.{name_next}
-use Rattle.wc_encoder.proofs.SeenLemmas.{name_text, seen_again, seen_more}
+use Rattle.wc_maps.proofs.SeenLemmas.{name_text, seen_again, seen_more}
 use Rattle.wc_encoder.proofs.distinct.are_names_distinct.Goals as goal
 
 pub name_world_key-requires-clause-there : goal.name_world_key-requires-clause-there

@@ -3,12 +3,12 @@ use Rattle.std.specs.List.{cons_option}
 use Rattle.std.proofs.lemmas.Option.{slice_get_read}
 use Rattle.wc_read.specs.Items.{item_value}
 use Rattle.wc_gc.specs.Bits.{bit_of}
-use Rattle.wc_gc.specs.Decoded.{func_code}
+use Rattle.wc_read.specs.Decoded.{func_code}
 use Rattle.wc_gc.specs.NewBodies.{body_written}
 use Rattle.wc_gc.specs.Private.Edit.{edited_at, new_edited, written_funcs}
 use Rattle.wc_gc.proofs.BodyCutLemmas.{cut_at}
 use Rattle.wc_gc.proofs.ImageLemmas.{enumerated_none, enumerated_read, map_push}
-use Rattle.wc_gc.proofs.ReachLemmas.{no_item}
+use Rattle.wc_graph.proofs.ListLemmas.{no_item}
 use Rattle.wc_gc.proofs.assemble.append_func_at.Goals as goal
 
 pub edited_func-requires-clause-code : goal.edited_func-requires-clause-code

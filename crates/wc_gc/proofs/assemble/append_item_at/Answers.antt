@@ -1,7 +1,7 @@
 use Rattle.std.proofs.Common.{◌∙◌, ap, sym, ◌++◌, [], refl, append-nil}
 use Rattle.std.specs.List.{cons_option}
 use Rattle.std.proofs.lemmas.Option.{slice_get_read}
-use Rattle.wc_gc.proofs.ReachLemmas.{no_item}
+use Rattle.wc_graph.proofs.ListLemmas.{no_item}
 use Rattle.wc_gc.proofs.assemble.append_item_at.Goals as goal
 
 pub returns-in_ok-push-in-Some : goal.returns-in_ok-push-in-Some

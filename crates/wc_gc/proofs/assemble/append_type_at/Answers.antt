@@ -6,7 +6,7 @@ use Rattle.wc_read.specs.Renumbering.{renumber_func_type}
 use Rattle.wc_read.specs.Types.{func_type_value}
 use Rattle.wc_gc.specs.NewIndices.{new_of}
 use Rattle.wc_gc.proofs.ImageLemmas.{map_push}
-use Rattle.wc_gc.proofs.ReachLemmas.{no_item}
+use Rattle.wc_graph.proofs.ListLemmas.{no_item}
 use Rattle.wc_gc.proofs.assemble.append_type_at.Goals as goal
 
 pub returns-in_ok-push-in-Some : goal.returns-in_ok-push-in-Some

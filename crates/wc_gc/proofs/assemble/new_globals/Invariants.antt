@@ -1,6 +1,6 @@
 use Rattle.std.proofs.Common.{◌≡◌, map, take}
 use Rattle.wc_read.specs.Items.{item_value}
-use Rattle.wc_gc.specs.Decoded.{global_code}
+use Rattle.wc_read.specs.Decoded.{global_code}
 use Rattle.wc_gc.specs.Image.{new_global}
 use Rattle.wc_gc.specs.NewBodies.{init_written}
 use Rattle.wc_gc.specs.NewIndices.{new_of}

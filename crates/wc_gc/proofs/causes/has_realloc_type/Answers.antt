@@ -1,7 +1,7 @@
 use Rattle.std.proofs.Common.{sym, ◌∙◌, refl}
 use Rattle.std.proofs.lemmas.Option.{slice_get_read}
 use Rattle.wc_gc.proofs.FoundLemmas.{test_func}
-use Rattle.wc_gc.proofs.ReachLemmas.{no_item}
+use Rattle.wc_graph.proofs.ListLemmas.{no_item}
 use Rattle.wc_gc.proofs.causes.has_realloc_type.Goals as goal
 
 pub returns-in-Some : goal.returns-in-Some

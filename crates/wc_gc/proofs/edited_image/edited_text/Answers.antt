@@ -3,7 +3,7 @@ use Rattle.std.proofs.Math.Path.{fun_ext}
 use Rattle.std.proofs.lemmas.Result.{err_from_is_err_and}
 use Rattle.wc_read.specs.Exports.{export_value}
 use Rattle.wc_write.specs.Modules.{SizesFit, built_text, built_value_by}
-use Rattle.wc_gc.specs.Decoded.{decoded_module}
+use Rattle.wc_read.specs.Decoded.{decoded_module}
 use Rattle.wc_gc.specs.Edit.{EditedModule, edit, edited_by, import_func}
 use Rattle.wc_gc.specs.EditedImage.{FitsBits, edited_image}
 use Rattle.wc_gc.specs.Found.{found_view}

@@ -1,15 +1,16 @@
 use Rattle.std.proofs.Common.{◌≡◌, ◌<◌, ◌≤◌, ◌-◌, length, get_or, vec_len, sym, ◌∙◌, refl, arith, inl, inr, rules}
 use Rattle.std.proofs.lemmas.List.{get_or_default}
 use Rattle.wc_gc.specs.Bits.{bit_of}
-use Rattle.wc_gc.specs.Decoded.{ItemIndex, decoded_module}
-use Rattle.wc_gc.specs.Entries.{refs_in}
+use Rattle.wc_read.specs.Decoded.{ItemIndex, decoded_module}
+use Rattle.wc_read.specs.Entries.{refs_in}
 use Rattle.wc_gc.specs.Private.Search.{finds}
-use Rattle.wc_gc.proofs.ReachLemmas.{all_there, falls_by, reached_in_range, step_at}
+use Rattle.wc_gc.proofs.ReachLemmas.{all_there, reached_in_range, step_at}
+use Rattle.wc_graph.proofs.ListLemmas.{falls_by}
 use Rattle.wc_gc.proofs.TrimPlaceLemmas.{refused_at}
 use Rattle.wc_gc.proofs.ItemCountLemmas.{bounded_found, total}
-use Rattle.wc_gc.proofs.FilledLemmas.{resized}
+use Rattle.wc_graph.proofs.ListLemmas.{resized}
 use Rattle.wc_gc.proofs.FinderSearchLemmas.{all_found, finders_start, finders_step, found_reached}
-use Rattle.wc_gc.proofs.ShortestLemmas.{grown_longer}
+use Rattle.wc_graph.proofs.ShortestLemmas.{grown_longer}
 use Rattle.wc_gc.proofs.finders.find_all.Goals as goal
 
 pub loop-next-init : goal.loop-next-init

@@ -1,6 +1,6 @@
 use Rattle.std.proofs.Common.{◌-◌}
 use Rattle.wc_gc.specs.Bits.{bit_of}
-use Rattle.wc_gc.specs.Decoded.{decoded_module}
+use Rattle.wc_read.specs.Decoded.{decoded_module}
 use Rattle.wc_gc.specs.Private.Search.{finds}
 use Rattle.wc_gc.proofs.FinderSearchLemmas.{HasFinders}
 use Rattle.wc_gc.proofs.ItemCountLemmas.{total}

@@ -2,8 +2,9 @@ use Rattle.std.proofs.Common.{◌≡◌, sym, ◌∙◌, subst, refl, [], ◌∷
 use Rattle.std.proofs.lemmas.Bool.{not-true, not-false}
 use Rattle.wc_gc.specs.Bits.{bit_of}
 use Rattle.wc_gc.specs.Live.{has_item}
-use Rattle.wc_gc.specs.Private.Search.{HasGrown}
-use Rattle.wc_gc.proofs.SearchLemmas.{grown_old, grown_push, items_decided}
+use Rattle.wc_graph.specs.Growth.{HasGrown}
+use Rattle.wc_graph.proofs.GrowthLemmas.{grown_old, grown_push}
+use Rattle.wc_gc.proofs.SearchLemmas.{items_decided}
 use Rattle.wc_gc.proofs.finders.find_root.Goals as goal
 
 pub returns-in_ok-push-2 : goal.returns-in_ok-push-2

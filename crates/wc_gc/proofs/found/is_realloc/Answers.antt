@@ -3,7 +3,7 @@ use Rattle.std.proofs.lemmas.Option.{slice_get_read}
 use Rattle.wc_read.specs.Items.{def_value}
 use Rattle.wc_read.specs.BodyOperators.{body_in}
 use Rattle.wc_gc.proofs.FoundLemmas.{test_func, realloc_seen}
-use Rattle.wc_gc.proofs.ReachLemmas.{no_item}
+use Rattle.wc_graph.proofs.ListLemmas.{no_item}
 use Rattle.wc_gc.proofs.found.is_realloc.Goals as goal
 
 pub returns-in-Some : goal.returns-in-Some

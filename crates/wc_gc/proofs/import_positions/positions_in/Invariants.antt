@@ -1,6 +1,6 @@
 use Rattle.std.proofs.Common.{◌≡◌, ◌++◌, drop, map}
 use Rattle.wc_read.specs.Imports.{import_value}
-use Rattle.wc_gc.specs.RestrictionLaws.{positions_from}
+use Rattle.wc_read.specs.ImportItems.{positions_from}
 use Rattle.wc_gc.proofs.import_positions.positions_in.Given as goal
 
 abbrev pub invariant-loop-position : goal.invariant-loop-position

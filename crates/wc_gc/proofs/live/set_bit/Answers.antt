@@ -1,7 +1,7 @@
 use Rattle.std.proofs.Common.{ℕ, ◌/◌, ◌%◌, get_or, sym, ◌∙◌, ap, subst, bit_or, bit_and, set}
 use Rattle.std.specs.Prelude.{◌==◌}
 use Rattle.wc_gc.specs.Bits.{bit_of}
-use Rattle.wc_gc.specs.Live.{Inserts}
+use Rattle.wc_graph.specs.Growth.{Inserts}
 use Rattle.wc_gc.proofs.BitLemmas.{new_bit, inserts_bit, mask_is}
 use Rattle.wc_gc.proofs.live.set_bit.Goals as goal
 

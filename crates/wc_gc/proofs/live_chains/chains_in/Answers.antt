@@ -1,13 +1,13 @@
 use Rattle.std.proofs.Common.{refl, arith}
 use Rattle.wc_read.specs.declared.operators.Space.TheVariants.{Types}
 use Rattle.wc_gc.specs.Bits.{bit_of}
-use Rattle.wc_gc.specs.Decoded.{decoded_module}
-use Rattle.wc_gc.specs.Entries.{refs_in}
+use Rattle.wc_read.specs.Decoded.{decoded_module}
+use Rattle.wc_read.specs.Entries.{refs_in}
 use Rattle.wc_gc.specs.LiveItems.{names_of}
 use Rattle.wc_gc.specs.Private.Search.{finds}
 use Rattle.wc_gc.proofs.LiveChainLemmas.{chains_are, live_in_range, live_reached, names_bounded, roots_in, same_positions}
 use Rattle.wc_gc.proofs.TrimPlaceLemmas.{stop_refusal}
-use Rattle.wc_gc.proofs.ShortestLemmas.{finders}
+use Rattle.wc_graph.proofs.ShortestLemmas.{finders}
 use Rattle.wc_gc.proofs.live_chains.chains_in.Goals as goal
 
 pub find_all-requires-clause-there : goal.find_all-requires-clause-there

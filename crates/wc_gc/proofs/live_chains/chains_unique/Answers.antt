@@ -1,4 +1,4 @@
-use Rattle.wc_gc.proofs.OneChainLemmas.{one_chain}
+use Rattle.wc_graph.proofs.OneChainLemmas.{one_chain}
 use Rattle.wc_gc.proofs.live_chains.chains_unique.Goals as goal
 
 pub returns : goal.returns

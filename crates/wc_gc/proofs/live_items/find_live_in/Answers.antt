@@ -1,9 +1,9 @@
 use Rattle.std.proofs.Common.{List, ◌∙◌, refl, map, ap, subst}
 use Rattle.wc_read.specs.Exports.{export_value}
 use Rattle.wc_read.specs.Modules.{module_value}
-use Rattle.wc_gc.specs.Decoded.{ItemIndex, decode, exported_item}
-use Rattle.wc_gc.specs.Entries.{refs_in}
-use Rattle.wc_gc.specs.Reached.{IsReachedFrom}
+use Rattle.wc_read.specs.Decoded.{ItemIndex, decode, exported_item}
+use Rattle.wc_read.specs.Entries.{refs_in}
+use Rattle.wc_graph.specs.Reached.{IsReachedFrom}
 use Rattle.wc_gc.specs.Bits.{bit_of}
 use Rattle.wc_gc.specs.Live.{has_item}
 use Rattle.wc_gc.specs.LiveItems.{names_of}

@@ -1,7 +1,7 @@
 use Rattle.std.proofs.Common.{refl}
 use Rattle.std.proofs.lemmas.Result.{err_from_is_err_and}
 use Rattle.wc_read.specs.Modules.{module_value}
-use Rattle.wc_gc.specs.Decoded.{decoded_module}
+use Rattle.wc_read.specs.Decoded.{decoded_module}
 use Rattle.wc_gc.specs.Live.{has_item}
 use Rattle.wc_gc.specs.Parts.{settings_view}
 use Rattle.wc_gc.specs.LiveItems.{names_of, trim_input}

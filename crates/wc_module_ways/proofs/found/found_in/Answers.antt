@@ -3,7 +3,7 @@ use Rattle.std.proofs.lemmas.List.{length-map, map-append}
 use Rattle.std.proofs.lemmas.List.Elements.{All-contains}
 use Rattle.std.proofs.lemmas.Option.{get_or_from_slice_get, slice_get_within}
 use Rattle.std.proofs.lemmas.Result.{err_from_is_err_and}
-use Rattle.wc_component_tree.specs.Found.{found_view}
+use Rattle.wc_tree.specs.Found.{found_view}
 use Rattle.wc_module_ways.specs.Adapters.{IsRead, adapter_view}
 use Rattle.wc_module_ways.specs.Modules.{HasModules}
 use Rattle.wc_module_ways.specs.Private.Found.{AreFoundTo, IsFoundAdapter}

@@ -1,5 +1,5 @@
 use Rattle.std.proofs.Common.{map}
-use Rattle.wc_component_tree.specs.Found.{found_view}
+use Rattle.wc_tree.specs.Found.{found_view}
 use Rattle.wc_module_ways.specs.Private.Found.{AreFoundTo}
 use Rattle.wc_module_ways.proofs.found.found_in.Given as goal
 

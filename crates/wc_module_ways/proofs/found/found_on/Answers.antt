@@ -1,6 +1,6 @@
 use Rattle.std.proofs.Common.{◌∙◌, IfOk, ap, map, refl, subst}
 use Rattle.wc_read.specs.Imports.{import_value}
-use Rattle.wc_component_tree.specs.Found.{IsChainFound, found_view}
+use Rattle.wc_tree.specs.Found.{IsChainFound, found_view}
 use Rattle.wc_module_ways.specs.Private.Found.{chained_in, shown_way}
 use Rattle.wc_module_ways.specs.Private.Walks.{adapter_in}
 use Rattle.wc_module_ways.proofs.found.found_on.Goals as goal

@@ -1,5 +1,5 @@
 use Rattle.std.proofs.Common.{◌≡◌, map, take}
-use Rattle.wc_component_tree.specs.FoundItems.{wanted_by}
+use Rattle.wc_tree.specs.FoundItems.{wanted_by}
 use Rattle.wc_module_ways.specs.Private.Found.{is_imported}
 use Rattle.wc_module_ways.specs.Private.Walks.{adapter_in}
 use Rattle.wc_module_ways.proofs.found.wanted_exports.Given as goal

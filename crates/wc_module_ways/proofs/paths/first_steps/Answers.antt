@@ -1,6 +1,6 @@
 use Rattle.std.proofs.Common.{◌∙◌, sym}
 use Rattle.wc_why.specs.Paths.{step_view}
-use Rattle.wc_component_tree.specs.Keys.{Key}
+use Rattle.wc_tree.specs.Keys.{Key}
 use Rattle.wc_module_ways.specs.MainModules.{module_of}
 use Rattle.wc_module_ways.proofs.FunctionLemmas.{place_missing, place_there, place_within}
 use Rattle.wc_module_ways.proofs.WayLemmas.{first_alone, first_wanted}

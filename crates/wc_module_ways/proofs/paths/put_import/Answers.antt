@@ -1,11 +1,11 @@
 use Rattle.std.proofs.Common.{[], ◌∷◌, option_map, subst}
 use Rattle.std.specs.Option.{option_to_list}
-use Rattle.wc_gc.specs.Decoded.{ItemIndex}
-use Rattle.wc_gc.specs.RestrictionLaws.{IsImportItem}
+use Rattle.wc_read.specs.Decoded.{ItemIndex}
+use Rattle.wc_read.specs.ImportItems.{IsImportItem}
 use Rattle.wc_read.specs.Imports.{import_value}
 use Rattle.wc_why.specs.Paths.{path_view}
 use Rattle.wc_module_ways.specs.Private.Walks.{IsAdapterWayIn, IsItemPathIn, adapter_in}
-use Rattle.wc_selection.proofs.WorldPartLemmas.{viewed_at}
+use Rattle.wc_maps.proofs.ListLemmas.{viewed_at}
 use Rattle.wc_module_ways.proofs.PrintedLemmas.{prints_none, prints_one}
 use Rattle.wc_module_ways.proofs.WayLemmas.{adapter_hidden, adapter_shown}
 use Rattle.wc_module_ways.proofs.paths.put_import.Goals as goal

@@ -6,7 +6,7 @@ use Rattle.wc_read.specs.Modules.{ModuleValue}
 use Rattle.wc_paths.specs.Roots.{AreImportItems}
 use Rattle.wc_why.specs.Joined.{AreJoined}
 use Rattle.wc_tree.specs.Tree.{tree_module_view, tree_way_view}
-use Rattle.wc_component_tree.specs.FoundTree.{ArePlaces}
+use Rattle.wc_tree.specs.FoundTree.{ArePlaces}
 use Rattle.wc_module_ways.specs.MainModules.{module_of}
 use Rattle.wc_module_ways.specs.Private.MainEnds.{AreOwnTo, ArePickedEnds, AreWantedItems, IsOwnWayAt}
 use Rattle.wc_module_ways.proofs.MainEndLemmas.{part_is}

@@ -2,7 +2,7 @@ use Rattle.std.proofs.Common.{◌<◌, ap, length, map, rules}
 use Rattle.wc_read.specs.Imports.{import_values}
 use Rattle.wc_why.proofs.JoinedLemmas.{none_yet}
 use Rattle.wc_tree.specs.Tree.{tree_way_view}
-use Rattle.wc_component_tree.proofs.WalkLemmas.{joined_said}
+use Rattle.wc_tree.proofs.WalkLemmas.{joined_said}
 use Rattle.wc_module_ways.specs.Private.MainEnds.{IsOwnWayAt}
 use Rattle.wc_module_ways.proofs.MainEndLemmas.{own_way_at}
 use Rattle.wc_module_ways.proofs.tree.own_ways.Goals as goal

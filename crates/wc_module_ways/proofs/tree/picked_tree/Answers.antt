@@ -1,6 +1,6 @@
 use Rattle.std.proofs.Common.{◌∙◌, ◌++◌, ap, subst}
 use Rattle.wc_tree.specs.Tree.{tree_module_view}
-use Rattle.wc_component_tree.specs.FoundTree.{AreItemEnds}
+use Rattle.wc_tree.specs.FoundTree.{AreItemEnds}
 use Rattle.std.proofs.lemmas.Result.{IfOk-weaker}
 use Rattle.wc_module_ways.proofs.tree.picked_tree.Goals as goal
 

@@ -1,7 +1,7 @@
 use Rattle.std.proofs.Common.{◌++◌, ◌∙◌, ap, map, refl}
 use Rattle.std.proofs.lemmas.List.{map-append}
 use Rattle.wc_tree.specs.Tree.{tree_module_view, tree_view, tree_way_view}
-use Rattle.wc_component_tree.specs.Found.{found_view}
+use Rattle.wc_tree.specs.Found.{found_view}
 use Rattle.wc_module_ways.proofs.TreeLemmas.{tree_is}
 use Rattle.wc_module_ways.proofs.tree.tree_of.Goals as goal
 

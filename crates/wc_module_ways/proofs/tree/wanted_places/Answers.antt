@@ -1,5 +1,5 @@
 use Rattle.std.proofs.Common.{IfOk, arith, subst}
-use Rattle.wc_component_tree.specs.FoundTree.{ArePlaces}
+use Rattle.wc_tree.specs.FoundTree.{ArePlaces}
 use Rattle.wc_module_ways.proofs.tree.wanted_places.Goals as goal
 
 pub split_at-requires : goal.split_at-requires

@@ -1,5 +1,5 @@
 use Rattle.wc_module_ways.specs.Adapters.{adapter_view}
-use Rattle.wc_selection.proofs.WorldPartLemmas.{viewed_at}
+use Rattle.wc_maps.proofs.ListLemmas.{viewed_at}
 use Rattle.wc_module_ways.proofs.ways.through_at.Goals as goal
 
 pub returns-clause-adapter : goal.returns-clause-adapter

@@ -1,7 +1,8 @@
 use Rattle.std.proofs.Common.{◌∙◌, ap}
 use Rattle.std.specs.Option.{option_map}
 use Rattle.wc_resolve.specs.Views.{function_view}
-use Rattle.wc_resolve.proofs.LookupLemmas.{copied_viewed, name_viewed}
+use Rattle.wc_resolve.proofs.LookupLemmas.{copied_viewed}
+use Rattle.wc_maps.proofs.LookupLemmas.{name_viewed}
 use Rattle.wc_names.proofs.keys.function_under.Goals as goal
 
 pub returns : goal.returns

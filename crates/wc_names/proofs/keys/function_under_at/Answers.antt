@@ -1,7 +1,7 @@
 use Rattle.std.proofs.Common.{◌∙◌, ap}
 use Rattle.std.specs.Option.{option_map}
 use Rattle.wc_resolve.specs.Views.{function_view}
-use Rattle.wc_resolve.proofs.LookupLemmas.{name_viewed}
+use Rattle.wc_maps.proofs.LookupLemmas.{name_viewed}
 use Rattle.wc_names.proofs.KeyLemmas.{function_found_at}
 use Rattle.wc_names.proofs.keys.function_under_at.Goals as goal
 

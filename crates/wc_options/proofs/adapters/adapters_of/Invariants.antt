@@ -1,5 +1,5 @@
 use Rattle.std.proofs.Common.{◌≡◌, map, take}
-use Rattle.wc_selection.specs.Texts.{text_of, text_pair}
+use Rattle.wc_maps.specs.Texts.{text_of, text_pair}
 use Rattle.wc_options.specs.Adapters.{adapter_file_of}
 use Rattle.wc_options.proofs.adapters.adapters_of.Given as goal
 

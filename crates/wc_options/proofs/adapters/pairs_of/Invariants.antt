@@ -1,5 +1,5 @@
 use Rattle.std.proofs.Common.{◌≡◌, map, take}
-use Rattle.wc_selection.specs.Texts.{text_of, text_pair}
+use Rattle.wc_maps.specs.Texts.{text_of, text_pair}
 use Rattle.wc_options.specs.Adapters.{pair_or}
 use Rattle.wc_options.proofs.adapters.pairs_of.Given as goal
 

@@ -1,5 +1,5 @@
 use Rattle.std.proofs.Common.{◌≡◌, map, string_bytes, take}
-use Rattle.wc_selection.specs.Texts.{text_of}
+use Rattle.wc_maps.specs.Texts.{text_of}
 use Rattle.wc_options.specs.Listing.{listed_names}
 use Rattle.wc_options.proofs.listing.listed_names.Given as goal
 

@@ -1,5 +1,5 @@
 use Rattle.std.proofs.Common.{subst}
-use Rattle.wc_paths.specs.Chains.{IsChainAnswer}
+use Rattle.wc_graph.specs.Chains.{IsChainAnswer}
 use Rattle.wc_paths.proofs.TargetLemmas.{number_first, numbers_second}
 use Rattle.wc_paths.proofs.dominators.chain_to.Goals as goal
 

@@ -1,6 +1,6 @@
 use Rattle.std.proofs.Common.{refl, sym, append-nil}
 use Rattle.std.proofs.lemmas.Option.{slice_get-map, slice_get_read}
-use Rattle.wc_gc.proofs.ReachLemmas.{no_item}
+use Rattle.wc_graph.proofs.ListLemmas.{no_item}
 use Rattle.wc_segments.specs.Data.{data_value}
 use Rattle.wc_segments.specs.Elements.{element_value}
 use Rattle.wc_paths.proofs.graph.put_items.Goals as goal

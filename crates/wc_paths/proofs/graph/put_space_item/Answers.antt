@@ -1,6 +1,7 @@
 use Rattle.std.proofs.Common.{refl, sym, append-nil, Some, None}
 use Rattle.std.proofs.lemmas.Option.{slice_get_read}
-use Rattle.wc_gc.proofs.ReachLemmas.{func_at, global_at, no_func_at, no_global_at, no_item, table_at, type_at}
+use Rattle.wc_read.proofs.EntryLemmas.{func_at, global_at, no_func_at, no_global_at, table_at, type_at}
+use Rattle.wc_graph.proofs.ListLemmas.{no_item}
 use Rattle.wc_paths.proofs.graph.put_space_item.Goals as goal
 
 pub returns-in_ok-put_func_type-in-Some-clause-names : goal.returns-in_ok-put_func_type-in-Some-clause-names

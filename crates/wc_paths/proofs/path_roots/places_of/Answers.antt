@@ -1,6 +1,6 @@
 use Rattle.std.proofs.Common.{◌<◌, ◌≤◌, get_or, length, map, rules, sym, arith}
 use Rattle.std.proofs.lemmas.List.{length-map}
-use Rattle.wc_gc.proofs.ExportLemmas.{no_export}
+use Rattle.wc_read.proofs.EntryLemmas.{no_export}
 use Rattle.wc_read.specs.Exports.{export_value}
 use Rattle.wc_paths.specs.Counts.{counts_value}
 use Rattle.wc_paths.proofs.FirstPlaceLemmas.{places_all}

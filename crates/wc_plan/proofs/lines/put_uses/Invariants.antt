@@ -2,7 +2,7 @@ use Rattle.std.proofs.Common.{◌≡◌, map, take}
 use Rattle.std.specs.List.{flat_map}
 use Rattle.std.specs.Io.KnownBytes.{Appends}
 use Rattle.wc_plan.specs.Lines.{use_line}
-use Rattle.wc_uses.specs.PlanViews.{use_view}
+use Rattle.wc_plan.specs.PlanViews.{use_view}
 use Rattle.wc_plan.proofs.lines.put_uses.Given as goal
 
 abbrev pub invariant-loop-one : goal.invariant-loop-one

@@ -5,8 +5,9 @@ use Rattle.wc_world.specs.Views.{NamedWorldAdapter}
 use Rattle.wc_world.specs.WorldViews.{adapter_entry}
 use Rattle.wc_plan.specs.Calls.{Wanted, wanted_by}
 use Rattle.wc_plan.specs.Fault.{IsPlanRefusal}
-use Rattle.wc_plan.specs.Planner.{AreModuleNameable, IsPlanned, world_in}
-use Rattle.wc_uses.specs.Views.{adapter_owner}
+use Rattle.wc_plan.specs.Planner.{IsPlanned, world_in}
+use Rattle.wc_world.specs.Nameable.{AreModuleNameable}
+use Rattle.wc_plan.specs.Views.{adapter_owner}
 use Rattle.wc_plan.proofs.ProgressLemmas.{flat_here}
 use Rattle.wc_world.proofs.FaultLemmas.{passed_on}
 use Rattle.wc_plan.proofs.planner.add_adapters.Goals as goal

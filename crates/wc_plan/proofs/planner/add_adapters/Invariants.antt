@@ -2,8 +2,9 @@ use Rattle.std.proofs.Common.{All, List, map}
 use Rattle.wc_world.specs.Views.{NamedWorldAdapter}
 use Rattle.wc_world.specs.WorldViews.{adapter_entry}
 use Rattle.wc_plan.specs.Calls.{Wanted, wanted_by}
-use Rattle.wc_plan.specs.Planner.{AreModuleNameable, IsCounted, IsPlanned, world_in}
-use Rattle.wc_uses.specs.Views.{adapter_owner}
+use Rattle.wc_plan.specs.Planner.{IsCounted, IsPlanned, world_in}
+use Rattle.wc_world.specs.Nameable.{AreModuleNameable}
+use Rattle.wc_plan.specs.Views.{adapter_owner}
 use Rattle.wc_plan.proofs.ProgressLemmas.{FlatWalked}
 use Rattle.wc_plan.proofs.planner.add_adapters.Given as goal
 

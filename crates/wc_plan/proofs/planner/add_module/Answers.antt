@@ -5,7 +5,8 @@ use Rattle.wc_names.specs.Views.{ImportView, import_view}
 use Rattle.wc_validate.specs.Imports.Map.{imports_in}
 use Rattle.wc_validate.specs.Imports.Iter.{imports_left}
 use Rattle.wc_world.specs.Slots.{imports_of}
-use Rattle.wc_plan.specs.Calls.{IsNameable, Wanted}
+use Rattle.wc_plan.specs.Calls.{Wanted}
+use Rattle.wc_world.specs.Nameable.{IsNameable}
 use Rattle.wc_plan.specs.Fault.{IsPlanRefusal}
 use Rattle.wc_plan.specs.Planner.{IsPlanned, world_in}
 use Rattle.wc_plan.proofs.ProgressLemmas.{walk_here, wanted_of}

@@ -3,7 +3,8 @@ use Rattle.wc_names.specs.Views.{ImportView}
 use Rattle.wc_validate.specs.Imports.Map.{imports_in}
 use Rattle.wc_validate.specs.Imports.Iter.{imports_left}
 use Rattle.wc_world.specs.Slots.{imports_of}
-use Rattle.wc_plan.specs.Calls.{IsNameable, Wanted}
+use Rattle.wc_plan.specs.Calls.{Wanted}
+use Rattle.wc_world.specs.Nameable.{IsNameable}
 use Rattle.wc_plan.specs.Planner.{IsCounted, IsPlanned, world_in}
 use Rattle.wc_plan.proofs.ProgressLemmas.{Walked, wanted_of}
 use Rattle.wc_plan.proofs.planner.add_module.Given as goal

@@ -1,7 +1,7 @@
 use Rattle.std.proofs.Common.{append-nil, subst, sym, []}
 use Rattle.wc_plan.specs.Planner.{IsPlanned, wanted_by_adapters, world_in}
-use Rattle.wc_plan.specs.Calls.{IsNameable}
-use Rattle.wc_plan.proofs.ModuleLemmas.{of_adapters, of_main}
+use Rattle.wc_world.specs.Nameable.{IsNameable}
+use Rattle.wc_world.proofs.ModuleLemmas.{of_adapters, of_main}
 use Rattle.wc_plan.proofs.planner.add_modules.Goals as goal
 
 pub add_module-requires-clause-nameable : goal.add_module-requires-clause-nameable

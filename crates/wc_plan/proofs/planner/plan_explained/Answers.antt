@@ -1,6 +1,6 @@
 use Rattle.std.proofs.Common.{map}
 use Rattle.wc_world.specs.WorldViews.{world_view}
-use Rattle.wc_uses.specs.PlanViews.{use_view}
+use Rattle.wc_plan.specs.PlanViews.{use_view}
 use Rattle.wc_plan.specs.Fault.{IsPlanRefusal, RefusedPlan}
 use Rattle.wc_plan.specs.Planner.{IsPlanFault, seen_view}
 use Rattle.wc_plan.proofs.FaultLemmas.{fault_of_refusal}

@@ -1,5 +1,5 @@
 use Rattle.std.proofs.Common.{refl}
-use Rattle.wc_json.specs.Shapes.{number_json}
+use Rattle.wc_texts.specs.Shapes.{number_json}
 use Rattle.wc_record.specs.Chains.{item_json}
 use Rattle.wc_record.proofs.ChainLemmas.{names_same, nullables_same}
 use Rattle.wc_record.proofs.ShapeLemmas.{no_fields, field_then, object_written, field_is, array_same}

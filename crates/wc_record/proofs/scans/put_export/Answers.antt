@@ -1,5 +1,5 @@
 use Rattle.std.proofs.Common.{ap}
-use Rattle.wc_json.specs.Shapes.{nullable_json}
+use Rattle.wc_texts.specs.Shapes.{nullable_json}
 use Rattle.wc_record.specs.Scans.{item_type_json}
 use Rattle.wc_record.proofs.ShapeLemmas.{no_fields, field_then, object_written, field_is}
 use Rattle.wc_record.proofs.scans.put_export.Goals as goal

@@ -1,6 +1,6 @@
 use Rattle.std.proofs.Common.{ap, map, ℕ, List}
 use Rattle.std.specs.Borrow.{Bor}
-use Rattle.wc_json.specs.Shapes.{array_of}
+use Rattle.wc_texts.specs.Shapes.{array_of}
 use Rattle.wc_record.specs.Scans.{function_name_json}
 use Rattle.wc_record.proofs.ShapeLemmas.{no_fields, field_then, object_written, field_is}
 use Rattle.wc_record.proofs.scans.put_scan.Goals as goal

@@ -1,6 +1,6 @@
 use Rattle.std.proofs.Common.{codes, map, subst}
 use Rattle.wc_dedupe.specs.Dedupe.{renames_in}
-use Rattle.wc_json.specs.Shapes.{array_of}
+use Rattle.wc_texts.specs.Shapes.{array_of}
 use Rattle.wc_record.specs.Objects.{PutsField}
 use Rattle.wc_record.specs.Worlds.{rename_json, used_interface_json}
 use Rattle.wc_record.proofs.ShapeLemmas.{no_fields, field_then}

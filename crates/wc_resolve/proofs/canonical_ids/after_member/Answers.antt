@@ -1,5 +1,5 @@
 use Rattle.std.proofs.Common.{◌≡◌, ◌∙◌, ◌∷◌, ◌++◌, ap, sym, string_bytes}
-use Rattle.wc_resolve.specs.Characters.{colon, slash}
+use Rattle.wc_texts.specs.Characters.{colon, slash}
 use Rattle.wc_resolve.proofs.CanonicalIdLemmas.{after_front, separator_front, two_separators_front}
 use Rattle.wc_resolve.proofs.canonical_ids.after_member.Goals as goal
 

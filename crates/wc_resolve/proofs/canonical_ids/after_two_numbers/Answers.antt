@@ -1,6 +1,6 @@
 use Rattle.std.proofs.Common.{◌∷◌, ◌++◌}
 use Rattle.std.specs.Fmt.{decimal}
-use Rattle.wc_resolve.specs.Characters.{full_stop}
+use Rattle.wc_texts.specs.Characters.{full_stop}
 use Rattle.wc_resolve.proofs.CanonicalIdLemmas.{after_front, separator_front}
 use Rattle.wc_resolve.proofs.canonical_ids.after_two_numbers.Goals as goal
 

@@ -1,6 +1,6 @@
 use Rattle.std.proofs.Common.{◌≡◌, ◌↔◌, ◌∙◌, ◌∷◌, ◌++◌, IsTrue, List, ℕ, ap, string_bytes, subst, sym}
 use Rattle.semver.specs.Identifiers.{parts_of}
-use Rattle.wc_resolve.specs.Characters.{at_sign, colon, slash}
+use Rattle.wc_texts.specs.Characters.{at_sign, colon, slash}
 use Rattle.wc_resolve.specs.Names.{track}
 use Rattle.wc_resolve.specs.Resolve.{joined_id, member_text}
 use Rattle.wc_resolve.specs.Views.{package_name_view}

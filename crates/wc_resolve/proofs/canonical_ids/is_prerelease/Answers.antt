@@ -1,7 +1,7 @@
 use Rattle.std.proofs.Common.{◌≡◌, ◌∙◌, ◌∷◌, ◌++◌, ap, sym}
 use Rattle.std.specs.Fmt.{decimal}
 use Rattle.semver.specs.Identifiers.{pre_text}
-use Rattle.wc_resolve.specs.Characters.{full_stop, hyphen}
+use Rattle.wc_texts.specs.Characters.{full_stop, hyphen}
 use Rattle.wc_resolve.proofs.CanonicalIdLemmas.{is_after_front, refused, texts_equal, three_separators_front, two_separators_front}
 use Rattle.wc_resolve.proofs.canonical_ids.is_prerelease.Goals as goal
 

@@ -1,6 +1,6 @@
 use Rattle.std.proofs.Common.{◌≡◌, ◌↔◌, ◌∷◌, ◌++◌, IsTrue, List, ℕ, subst, sym}
 use Rattle.std.specs.Fmt.{decimal}
-use Rattle.wc_resolve.specs.Characters.{full_stop}
+use Rattle.wc_texts.specs.Characters.{full_stop}
 use Rattle.wc_resolve.proofs.CanonicalIdLemmas.{first_track, is_after_front, two_separators_front}
 use Rattle.wc_resolve.proofs.canonical_ids.is_release_track.Goals as goal
 

@@ -2,7 +2,7 @@ use Rattle.std.proofs.Common.{map}
 use Rattle.wc_selection.proofs.PositionLemmas.{sorted_once}
 use Rattle.wc_selection.proofs.key_index.sorted_positions.Goals as goal
 use Rattle.wc_selection.specs.KeyIndex.{listed_positions}
-use Rattle.wc_selection.specs.Texts.{text_of}
+use Rattle.wc_maps.specs.Texts.{text_of}
 
 pub returns : goal.returns
 returns c =

@@ -1,7 +1,7 @@
 use Rattle.std.proofs.Common.{◌∙◌, sym}
 use Rattle.std.specs.Str.{bytes_eq}
 use Rattle.wc_selection.specs.KeyNames.{unversioned}
-use Rattle.wc_selection.proofs.KeyNameLemmas.{count_map}
+use Rattle.wc_maps.proofs.ListLemmas.{count_map}
 use Rattle.wc_selection.proofs.key_names.count_unversioned.Goals as goal
 use Rattle.wc_selection.specs.Keys.{NamedKey, named_key}
 

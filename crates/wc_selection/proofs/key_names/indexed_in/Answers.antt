@@ -4,7 +4,7 @@ use Rattle.wc_selection.proofs.KeyNameLemmas.{texted_apart}
 use Rattle.wc_selection.proofs.key_names.indexed_in.Goals as goal
 use Rattle.wc_selection.specs.KeyNames.{keys_by_index, text_or_index}
 use Rattle.wc_selection.specs.Keys.{AreKeysApart, named_key}
-use Rattle.wc_selection.specs.Texts.{text_of}
+use Rattle.wc_maps.specs.Texts.{text_of}
 
 pub returns-clause-differ : goal.returns-clause-differ
 returns-clause-differ c =

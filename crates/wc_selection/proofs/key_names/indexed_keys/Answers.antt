@@ -2,7 +2,7 @@ use Rattle.std.proofs.Common.{◌≡◌, ◌∙◌, IfOk, ap, map, subst}
 use Rattle.wc_selection.specs.KeyNames.{keys_as_given, keys_by_index}
 use Rattle.wc_selection.specs.Keys.{named_key}
 use Rattle.wc_selection.specs.Requests.{given_keys, request_value}
-use Rattle.wc_selection.specs.Texts.{text_of}
+use Rattle.wc_maps.specs.Texts.{text_of}
 use Rattle.wc_selection.proofs.key_names.indexed_keys.Goals as goal
 
 pub returns-clause-keys : goal.returns-clause-keys

@@ -2,7 +2,7 @@ use Rattle.std.proofs.Common.{◌≡◌, IfOk, map, subst}
 use Rattle.wc_selection.proofs.KeyTextLemmas.{indexed_same}
 use Rattle.wc_selection.proofs.key_names.keys_by_index.Goals as goal
 use Rattle.wc_selection.specs.Keys.{named_key}
-use Rattle.wc_selection.specs.Texts.{text_of}
+use Rattle.wc_maps.specs.Texts.{text_of}
 
 pub returns-clause-keys : goal.returns-clause-keys
 returns-clause-keys c =

@@ -4,7 +4,7 @@ use Rattle.wc_selection.proofs.KeyNameLemmas.{texted_apart}
 use Rattle.wc_selection.proofs.key_names.keys_found.Goals as goal
 use Rattle.wc_selection.specs.Keys.{AreKeysApart, named_key}
 use Rattle.wc_selection.specs.KeyTexts.{keys_found, text_found}
-use Rattle.wc_selection.specs.Texts.{text_of}
+use Rattle.wc_maps.specs.Texts.{text_of}
 
 pub returns-clause-differ : goal.returns-clause-differ
 returns-clause-differ c =

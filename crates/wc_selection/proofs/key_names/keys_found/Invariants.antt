@@ -2,7 +2,7 @@ use Rattle.std.proofs.Common.{◌≡◌, map, take}
 use Rattle.wc_selection.proofs.key_names.keys_found.Given as goal
 use Rattle.wc_selection.specs.Keys.{named_key}
 use Rattle.wc_selection.specs.KeyTexts.{keys_found}
-use Rattle.wc_selection.specs.Texts.{text_of}
+use Rattle.wc_maps.specs.Texts.{text_of}
 
 abbrev pub invariant-loop-key : goal.invariant-loop-key
 invariant-loop-key l =

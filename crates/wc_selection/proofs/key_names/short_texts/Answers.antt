@@ -2,7 +2,7 @@ use Rattle.std.proofs.Common.{◌+◌, ◌++◌, ◌∷◌, ◌≡◌, ◌∙◌
 use Rattle.std.proofs.lemmas.List.{take_all}
 use Rattle.wc_resolve.specs.declared.worlds.WorldKey.{WorldKey}
 use Rattle.wc_selection.proofs.KeyTextLemmas.{single_more}
-use Rattle.wc_selection.proofs.ListLemmas.{passed_more}
+use Rattle.wc_maps.proofs.ListLemmas.{passed_more}
 use Rattle.wc_selection.proofs.key_names.short_texts.Goals as goal
 use Rattle.wc_selection.specs.Keys.{named_key}
 use Rattle.wc_selection.specs.KeyTexts.{HasSingles}

@@ -2,10 +2,10 @@ use Rattle.std.proofs.Common.{◌+◌, List, String, Global, map, take, rules, s
 use Rattle.std.proofs.lemmas.List.{take_all}
 use Rattle.wc_resolve.specs.declared.worlds.WorldKey.{WorldKey}
 use Rattle.wc_selection.proofs.KeyTextLemmas.{texts_more}
-use Rattle.wc_selection.proofs.SetLemmas.{set_more}
+use Rattle.wc_maps.proofs.SetLemmas.{set_more}
 use Rattle.wc_selection.proofs.keys.key_text_set.Goals as goal
 use Rattle.wc_selection.specs.Keys.{named_key, texts_of}
-use Rattle.wc_selection.specs.Texts.{HasTexts, text_of}
+use Rattle.wc_maps.specs.Texts.{HasTexts, text_of}
 
 pub loop-key-preserved : goal.loop-key-preserved
 loop-key-preserved c =

@@ -1,7 +1,7 @@
 use Rattle.std.proofs.Common.{◌≡◌, All, Contains, inr, map, subst}
 use Rattle.wc_selection.specs.Keys.{named_key, texts_of}
 use Rattle.wc_selection.specs.Requests.{given_keys, request_value}
-use Rattle.wc_selection.specs.Texts.{AreDistinct, IsFirstMissing, IsFirstRepeated, text_of}
+use Rattle.wc_maps.specs.Texts.{AreDistinct, IsFirstMissing, IsFirstRepeated, text_of}
 use Rattle.wc_selection.proofs.KeyTextLemmas.{unknown_cause}
 use Rattle.wc_selection.proofs.module_keys.check_keys.Goals as goal
 

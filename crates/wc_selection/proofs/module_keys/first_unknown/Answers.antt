@@ -1,8 +1,8 @@
 use Rattle.std.proofs.Common.{map}
-use Rattle.wc_selection.proofs.SetLemmas.{missing_listed, there_listed}
+use Rattle.wc_maps.proofs.SetLemmas.{missing_listed, there_listed}
 use Rattle.wc_selection.proofs.module_keys.first_unknown.Goals as goal
 use Rattle.wc_selection.specs.Keys.{named_key, texts_of}
-use Rattle.wc_selection.specs.Texts.{text_of}
+use Rattle.wc_maps.specs.Texts.{text_of}
 
 pub returns-clause-unknown : goal.returns-clause-unknown
 returns-clause-unknown c =

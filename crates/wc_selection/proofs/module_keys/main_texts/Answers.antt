@@ -3,7 +3,7 @@ use Rattle.wc_selection.proofs.RequiredLemmas.{copied, none_listed, some_listed}
 use Rattle.wc_selection.proofs.module_keys.main_texts.Goals as goal
 use Rattle.wc_selection.specs.Requests.{request_value}
 use Rattle.wc_selection.specs.RequiredTexts.{texts_or_seconds}
-use Rattle.wc_selection.specs.Texts.{text_of, text_pair}
+use Rattle.wc_maps.specs.Texts.{text_of, text_pair}
 
 pub returns-then-is_empty : goal.returns-then-is_empty
 returns-then-is_empty c =

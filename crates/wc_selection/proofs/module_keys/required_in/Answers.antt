@@ -5,7 +5,7 @@ use Rattle.wc_selection.proofs.module_keys.required_in.Goals as goal
 use Rattle.wc_selection.proofs.module_keys.required_in.Goals.{then-is_required+in_ok-clone+in_ok-insert, else-is_required}
 use Rattle.wc_selection.specs.Keys.{NamedKey}
 use Rattle.wc_selection.specs.RequiredTexts.{is_required_in}
-use Rattle.wc_selection.specs.Texts.{text_of}
+use Rattle.wc_maps.specs.Texts.{text_of}
 
 pub loop-key-preserved : goal.loop-key-preserved
 loop-key-preserved c =

@@ -4,7 +4,7 @@ use Rattle.wc_selection.proofs.RequiredLemmas.{required_found}
 use Rattle.wc_selection.proofs.module_keys.required_keys.Goals as goal
 use Rattle.wc_selection.specs.Keys.{named_key}
 use Rattle.wc_selection.specs.Requests.{exporter_name, request_value}
-use Rattle.wc_selection.specs.Texts.{HasTexts, text_of}
+use Rattle.wc_maps.specs.Texts.{HasTexts, text_of}
 
 pub returns : goal.returns
 returns c =

@@ -3,7 +3,7 @@ use Rattle.std.specs.Borrow.{Bor}
 use Rattle.wc_selection.proofs.RequiredLemmas.{Pair, under_no, under_yes}
 use Rattle.wc_selection.proofs.module_keys.texts_under.Goals as goal
 use Rattle.wc_selection.proofs.module_keys.texts_under.Goals.{then-is_under+in_ok-push, else-is_under}
-use Rattle.wc_selection.specs.Texts.{text_of}
+use Rattle.wc_maps.specs.Texts.{text_of}
 
 pub loop-pair-preserved : goal.loop-pair-preserved
 loop-pair-preserved c =

@@ -1,5 +1,5 @@
 use Rattle.std.proofs.Common.{◌≡◌, ◌++◌, map, take}
-use Rattle.wc_selection.specs.Texts.{second_parts, text_of, text_pair}
+use Rattle.wc_maps.specs.Texts.{second_parts, text_of, text_pair}
 use Rattle.wc_selection.proofs.requests.given_keys.Given as goal
 
 abbrev pub invariant-loop-name : goal.invariant-loop-name

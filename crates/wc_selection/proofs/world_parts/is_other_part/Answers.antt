@@ -1,6 +1,7 @@
 use Rattle.std.proofs.Common.{map}
 use Rattle.wc_resolve.specs.Views.{world_view}
-use Rattle.wc_selection.proofs.WorldPartLemmas.{other_index, viewed_at}
+use Rattle.wc_selection.proofs.WorldPartLemmas.{other_index}
+use Rattle.wc_maps.proofs.ListLemmas.{viewed_at}
 use Rattle.wc_selection.proofs.world_parts.is_other_part.Goals as goal
 
 pub returns : goal.returns

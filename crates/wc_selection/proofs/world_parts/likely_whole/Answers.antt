@@ -1,7 +1,8 @@
 use Rattle.std.proofs.Common.{◌≡◌, ◌<◌, ◌+◌, ◌∙◌, ℕ, arith, length, map, rules, subst, sym}
 use Rattle.std.proofs.lemmas.List.{length-map}
 use Rattle.wc_resolve.specs.Views.{world_view}
-use Rattle.wc_selection.proofs.WorldPartLemmas.{FoundBelow, all_found, moved, stayed, viewed_at}
+use Rattle.wc_selection.proofs.WorldPartLemmas.{FoundBelow, all_found, moved, stayed}
+use Rattle.wc_maps.proofs.ListLemmas.{viewed_at}
 use Rattle.wc_selection.proofs.world_parts.likely_whole.Goals as goal
 use Rattle.wc_selection.proofs.world_parts.likely_whole.Goals.{then-is_part, else-is_part}
 

@@ -1,6 +1,6 @@
 use Rattle.std.proofs.Common.{◌∙◌, true, refl, sym}
 use Rattle.wc_read.specs.Exports.{export_value}
-use Rattle.wc_paths.proofs.ChainTreeLemmas.{none_of}
+use Rattle.wc_graph.proofs.ChainTreeLemmas.{none_of}
 use Rattle.wc_summary.proofs.OwnerLemmas.{adds_new}
 use Rattle.wc_summary.proofs.leads.note_named.Goals as goal
 

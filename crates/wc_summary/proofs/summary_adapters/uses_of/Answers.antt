@@ -8,7 +8,7 @@ use Rattle.wc_read.specs.Modules.{module_value}
 use Rattle.wc_paths.specs.Graph.{graph_value}
 use Rattle.wc_paths.specs.Items.{counts_of}
 use Rattle.wc_paths.specs.Numbers.{item_count}
-use Rattle.wc_spread.specs.Positions.{AreBelow}
+use Rattle.wc_graph.specs.Positions.{AreBelow}
 use Rattle.wc_summary.specs.Leads.{own_bodies, source_by}
 use Rattle.wc_summary.specs.Private.SummaryAdapters.{AreUses, UsesGraph}
 use Rattle.wc_summary.specs.Private.SummaryMain.{AreOwnersOf}

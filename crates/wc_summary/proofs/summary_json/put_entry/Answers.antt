@@ -1,5 +1,5 @@
 use Rattle.std.proofs.Common.{◌∙◌, ap, codes}
-use Rattle.wc_json.specs.Shapes.{object_of}
+use Rattle.wc_texts.specs.Shapes.{object_of}
 use Rattle.wc_why.proofs.TokenLemmas.{closed, text_as, then}
 use Rattle.wc_summary.specs.Summary.{kind_name}
 use Rattle.wc_summary.proofs.summary_json.put_entry.Goals as goal

@@ -1,4 +1,4 @@
-use Rattle.wc_json.specs.Shapes.{object_of}
+use Rattle.wc_texts.specs.Shapes.{object_of}
 use Rattle.wc_why.proofs.TokenLemmas.{closed, then}
 use Rattle.wc_read.specs.Names.{name_entries}
 use Rattle.wc_summary.specs.SummaryJson.{function_json}

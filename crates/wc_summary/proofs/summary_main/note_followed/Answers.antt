@@ -8,7 +8,7 @@ use Rattle.wc_read.specs.Imports.{import_values}
 use Rattle.wc_read.specs.Modules.{module_value}
 use Rattle.wc_read.specs.declared.types.Import.{Import}
 use Rattle.wc_segments.specs.Segments.{segments_value}
-use Rattle.wc_spread.specs.Positions.{AreBelow}
+use Rattle.wc_graph.specs.Positions.{AreBelow}
 use Rattle.wc_summary.specs.Entries.{entries_view, interfaces_of}
 use Rattle.wc_summary.specs.Private.SummaryMain.{AreOwnersOf}
 use Rattle.wc_summary.proofs.MainNamerLemmas.{notes_followed, owners_below}

@@ -3,7 +3,7 @@ use Rattle.std.proofs.lemmas.List.{length-map}
 use Rattle.std.proofs.lemmas.Result.{on_ok_weaker}
 use Rattle.wc_read.specs.Modules.{module_value}
 use Rattle.wc_segments.specs.Segments.{segments_value}
-use Rattle.wc_spread.specs.Positions.{AreBelow}
+use Rattle.wc_graph.specs.Positions.{AreBelow}
 use Rattle.wc_summary.specs.Entries.{entries_view, interfaces_of}
 use Rattle.wc_summary.specs.Leads.{tag_view, tags_view}
 use Rattle.wc_summary.specs.Private.SummaryMain.{CountsEach, NotesOf}

@@ -7,7 +7,7 @@ use Rattle.wc_paths.specs.Numbers.{item_count, numbers_in}
 use Rattle.wc_paths.specs.Roots.{first_roots, second_roots}
 use Rattle.wc_read.specs.Modules.{module_value}
 use Rattle.wc_segments.specs.Segments.{segments_value}
-use Rattle.wc_spread.specs.Labels.{IsSpread}
+use Rattle.wc_graph.specs.Labels.{IsSpread}
 use Rattle.wc_summary.proofs.NamerLemmas.{marked_as, reached_words}
 use Rattle.wc_summary.proofs.summary_main.reached_in.Goals as goal
 use Rattle.wc_summary.specs.Leads.{AreReached}

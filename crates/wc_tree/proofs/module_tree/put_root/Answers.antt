@@ -2,7 +2,7 @@ use Rattle.std.proofs.Common.{◌≡◌, ◌<◌, [], ◌∷◌, ◌++◌, lengt
 use Rattle.std.specs.List.{slice_get}
 use Rattle.std.proofs.lemmas.List.{length-map, map-append}
 use Rattle.std.proofs.lemmas.Option.{same_Some, slice_get_read}
-use Rattle.wc_gc.proofs.TypedGlobalLemmas.{get_last}
+use Rattle.wc_graph.proofs.ListLemmas.{get_last}
 use Rattle.wc_tree.specs.ModuleItems.{IsRootView}
 use Rattle.wc_tree.specs.Tree.{tree_root_view}
 use Rattle.wc_tree.proofs.module_tree.put_root.Goals as goal

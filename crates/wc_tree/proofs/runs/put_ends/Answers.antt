@@ -1,6 +1,6 @@
 use Rattle.std.proofs.Common.{ℕ, map, rules, sym, append-nil, arith, ◌∙◌, Some, ap}
 use Rattle.std.proofs.lemmas.List.{length-map}
-use Rattle.wc_resolve.proofs.ViewedLemmas.{view_found}
+use Rattle.wc_maps.proofs.ListLemmas.{view_found}
 use Rattle.wc_tree.proofs.EnumerateLemmas.{put_all, put_more}
 use Rattle.wc_tree.specs.Runs.{module_ends}
 use Rattle.wc_tree.specs.Tree.{TreeModuleView, tree_module_view}

@@ -2,7 +2,7 @@ use Rattle.std.proofs.Common.{ℕ, ap, map, rules, arith, ◌∙◌, Some, sym}
 use Rattle.std.proofs.lemmas.List.{length-map}
 use Rattle.std.specs.declared.alloc.Global.{Global}
 use Rattle.std.specs.declared.vec.Vec.{Vec}
-use Rattle.wc_resolve.proofs.ViewedLemmas.{view_found}
+use Rattle.wc_maps.proofs.ListLemmas.{view_found}
 use Rattle.wc_tree.proofs.EnumerateLemmas.{list_all, list_more}
 use Rattle.wc_tree.specs.Runs.{is_among, module_firsts}
 use Rattle.wc_tree.specs.Tree.{TreeModuleView, tree_module_view}

@@ -1,6 +1,6 @@
 use Rattle.std.proofs.Common.{ℕ, map, rules, string_bytes, arith, ◌∙◌, Some, ap, sym}
 use Rattle.std.proofs.lemmas.List.{length-map}
-use Rattle.wc_resolve.proofs.ViewedLemmas.{view_found}
+use Rattle.wc_maps.proofs.ListLemmas.{view_found}
 use Rattle.wc_tree.proofs.EnumerateLemmas.{join_all, join_more}
 use Rattle.wc_tree.specs.Runs.{runs_view}
 use Rattle.wc_tree.specs.Tree.{TreeModuleView, tree_module_view}

@@ -2,7 +2,7 @@ use Rattle.std.proofs.Common.{◌≡◌, ℕ, ◌-◌, IfOk, List, [], ◌++◌,
 use Rattle.std.proofs.lemmas.List.{length-map, take-map}
 use Rattle.std.specs.List.{flat_map}
 use Rattle.std.specs.Prelude.{decimal}
-use Rattle.wc_json.specs.Escape.{escaped}
+use Rattle.wc_texts.specs.Escape.{escaped}
 use Rattle.wc_tree.specs.Tree.{tree_way_view}
 use Rattle.wc_tree.specs.TreeGraph.{line, more_line, way_line}
 use Rattle.wc_tree.proofs.tree_graph.group_box.Goals as goal

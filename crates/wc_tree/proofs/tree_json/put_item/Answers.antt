@@ -1,4 +1,4 @@
-use Rattle.wc_json.specs.Shapes.{object_of}
+use Rattle.wc_texts.specs.Shapes.{object_of}
 use Rattle.wc_why.proofs.TokenLemmas.{then}
 use Rattle.wc_tree.proofs.TreeTokenLemmas.{ended}
 use Rattle.wc_tree.proofs.tree_json.put_item.Goals as goal

@@ -1,5 +1,5 @@
 use Rattle.std.proofs.Common.{codes}
-use Rattle.wc_json.specs.Shapes.{object_of}
+use Rattle.wc_texts.specs.Shapes.{object_of}
 use Rattle.wc_why.proofs.TokenLemmas.{closed, then}
 use Rattle.wc_tree.specs.Tree.{tree_root_view}
 use Rattle.wc_tree.specs.TreeJson.{root_json}

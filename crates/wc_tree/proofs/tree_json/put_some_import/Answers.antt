@@ -1,4 +1,4 @@
-use Rattle.wc_json.specs.Shapes.{object_of}
+use Rattle.wc_texts.specs.Shapes.{object_of}
 use Rattle.wc_why.proofs.TokenLemmas.{closed, then, wrote}
 use Rattle.wc_tree.proofs.tree_json.put_some_import.Goals as goal
 

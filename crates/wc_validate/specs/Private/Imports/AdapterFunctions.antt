@@ -8,7 +8,7 @@ use Rattle.wc_names.specs.declared.imports.Import.{Import}
 use Rattle.wc_names.specs.Views.{ImportView, import_view}
 use Rattle.wc_validate.specs.Private.Imports.Arguments.{IsIndexOf}
 use Rattle.wc_validate.specs.Imports.FirstFunctions.{positioned_function, function_at, positioned_functions}
-use Rattle.wc_resolve.specs.Views.{named_view}
+use Rattle.wc_texts.specs.Names.{named_view}
 use Rattle.wc_validate.specs.Imports.Map.{first_of_names, function_of, required_entry}
 use Rattle.wc_validate.specs.Imports.Instances.{import_entry}
 

@@ -1,5 +1,5 @@
 use Rattle.std.proofs.Common.{◌∙◌, Some, None, sym, refl}
-use Rattle.wc_component_tree.specs.Keys.{Key}
+use Rattle.wc_tree.specs.Keys.{Key}
 use Rattle.wc_ways.proofs.ComponentLemmas.{place_found, place_missing}
 use Rattle.wc_ways.proofs.adapter_part.import_number.Goals as goal
 

@@ -4,7 +4,7 @@ use Rattle.std.specs.declared.alloc.Global.{Global}
 use Rattle.std.proofs.lemmas.List.{length-map}
 use Rattle.std.proofs.lemmas.Result.{IfOk-weaker}
 use Rattle.std.specs.List.{filter_map, range_with_len}
-use Rattle.wc_component_graph.specs.Parts.{module_part, part_view}
+use Rattle.wc_paths.specs.Parts.{module_part, part_view}
 use Rattle.wc_gc.specs.LiveItems.{names_of}
 use Rattle.wc_paths.specs.Graph.{graph_value}
 use Rattle.wc_paths.specs.Items.{GraphValue, counts_of, graph_of}

@@ -1,5 +1,5 @@
 use Rattle.std.proofs.lemmas.Result.{IfOk-weaker}
-use Rattle.wc_component_graph.specs.Parts.{part_view}
+use Rattle.wc_paths.specs.Parts.{part_view}
 use Rattle.wc_gc.specs.LiveItems.{names_of}
 use Rattle.wc_read.specs.Modules.{module_value}
 use Rattle.wc_ways.specs.Private.AdapterPart.{IsOriginalPart, IsWasmPart}

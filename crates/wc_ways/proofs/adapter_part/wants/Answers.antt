@@ -1,6 +1,6 @@
 use Rattle.std.proofs.Common.{◌∙◌, ap, is_some, sym}
 use Rattle.wc_read.specs.Types.{func_type_value}
-use Rattle.wc_resolve.proofs.LookupLemmas.{name_viewed}
+use Rattle.wc_maps.proofs.LookupLemmas.{name_viewed}
 use Rattle.wc_validate.proofs.ArgumentLemmas.{is_some_map}
 use Rattle.wc_ways.proofs.adapter_part.wants.Goals as goal
 

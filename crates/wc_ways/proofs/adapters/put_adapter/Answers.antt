@@ -3,7 +3,7 @@ use Rattle.wc_validate.specs.Validate.{module_record}
 use Rattle.wc_validate.specs.declared.validate.ValidatedModule.{ValidatedModule}
 use Rattle.wc_ways.specs.Private.Adapters.{IsSaidOfThis, marks_at, world_in}
 use Rattle.wc_ways.specs.Said.{IsSaidOfTrimmed}
-use Rattle.wc_component_tree.proofs.WalkLemmas.{says_as}
+use Rattle.wc_tree.proofs.WalkLemmas.{says_as}
 use Rattle.wc_ways.proofs.adapters.put_adapter.Goals as goal
 
 pub returns-in-Ok-clause-said : goal.returns-in-Ok-clause-said

@@ -3,13 +3,12 @@ use Rattle.std.proofs.lemmas.List.Elements.{All-head, All-rest}
 use Rattle.wc_world.specs.Views.{ComponentWorldView, NamedWorldAdapter}
 use Rattle.wc_world.specs.WorldViews.{adapter_entry}
 use Rattle.wc_world.proofs.FaultLemmas.{passed_on}
-use Rattle.wc_plan.specs.Planner.{AreModuleNameable}
-use Rattle.wc_plan.proofs.ModuleLemmas.{of_adapters}
-use Rattle.wc_plan.specs.Calls.{IsNameable}
+use Rattle.wc_world.specs.Nameable.{AreModuleNameable, IsNameable}
+use Rattle.wc_world.proofs.ModuleLemmas.{of_adapters}
 use Rattle.wc_ways.specs.Private.MainWays.{key_of, marks_in, world_of}
 use Rattle.wc_ways.specs.Said.{IsSaidBy}
 use Rattle.wc_ways.specs.WaysFaults.{IsWaysFault}
-use Rattle.wc_component_tree.proofs.EachLemmas.{said_all, said_in, said_next, said_start}
+use Rattle.wc_tree.proofs.EachLemmas.{said_all, said_in, said_next, said_start}
 use Rattle.wc_ways.proofs.OriginalLemmas.{fault_of}
 use Rattle.wc_ways.proofs.adapters.put_adapters.Goals as goal
 

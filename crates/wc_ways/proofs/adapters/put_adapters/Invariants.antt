@@ -1,10 +1,10 @@
 use Rattle.std.proofs.Common.{◌≡◌, All, map}
 use Rattle.wc_world.specs.Views.{NamedWorldAdapter}
 use Rattle.wc_world.specs.WorldViews.{adapter_entry}
-use Rattle.wc_plan.specs.Planner.{AreModuleNameable}
+use Rattle.wc_world.specs.Nameable.{AreModuleNameable}
 use Rattle.wc_ways.specs.Private.MainWays.{key_of, marks_in, world_of}
 use Rattle.wc_ways.specs.Said.{IsSaidBy}
-use Rattle.wc_component_tree.proofs.EachLemmas.{EachSaid}
+use Rattle.wc_tree.proofs.EachLemmas.{EachSaid}
 use Rattle.wc_ways.proofs.adapters.put_adapters.Given as goal
 
 abbrev pub invariant-loop-name : goal.invariant-loop-name

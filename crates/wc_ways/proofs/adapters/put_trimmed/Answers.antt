@@ -6,7 +6,7 @@ use Rattle.wc_ways.specs.Private.Adapters.{IsSaidFor, marks_at, world_in}
 use Rattle.wc_ways.specs.WaysFaults.{search_input}
 use Rattle.wc_ways.proofs.OriginalLemmas.{said_missing, said_trimmed}
 use Rattle.wc_ways.proofs.RecordLemmas.{viewed_found}
-use Rattle.wc_component_tree.proofs.WalkLemmas.{says_none}
+use Rattle.wc_tree.proofs.WalkLemmas.{says_none}
 use Rattle.wc_ways.proofs.adapters.put_trimmed.Goals as goal
 
 pub returns-in-Ok-clause-said : goal.returns-in-Ok-clause-said

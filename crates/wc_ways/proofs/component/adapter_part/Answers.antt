@@ -1,9 +1,9 @@
 use Rattle.std.proofs.Common.{◌∙◌, All, ap, option_map, subst, sym}
 use Rattle.std.proofs.lemmas.Result.{IfOk-weaker}
 use Rattle.wc_adapters.specs.Adapters.{adapter_view as input_view, library_view}
-use Rattle.wc_component_graph.specs.Parts.{alone_part, part_view}
+use Rattle.wc_paths.specs.Parts.{alone_part, part_view}
 use Rattle.wc_paths.specs.Counts.{counts_value}
-use Rattle.wc_plan.specs.Calls.{IsNameable}
+use Rattle.wc_world.specs.Nameable.{IsNameable}
 use Rattle.wc_resolve.specs.Kinds.{ResolveView}
 use Rattle.wc_validate.specs.Imports.Map.{imports_in}
 use Rattle.wc_validate.specs.Validate.{module_record}

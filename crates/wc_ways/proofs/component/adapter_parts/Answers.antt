@@ -1,16 +1,15 @@
 use Rattle.std.proofs.Common.{◌∙◌, ◌∷◌, [], All, ap, map, refl, subst, sym}
 use Rattle.std.proofs.lemmas.List.{map-append}
 use Rattle.std.proofs.lemmas.List.Elements.{All-head, All-rest}
-use Rattle.wc_component_graph.specs.Parts.{part_view}
+use Rattle.wc_paths.specs.Parts.{part_view}
 use Rattle.wc_paths.specs.Counts.{counts_value}
-use Rattle.wc_plan.proofs.ModuleLemmas.{of_adapters}
-use Rattle.wc_plan.specs.Calls.{IsNameable}
-use Rattle.wc_plan.specs.Planner.{AreModuleNameable}
+use Rattle.wc_world.proofs.ModuleLemmas.{of_adapters}
+use Rattle.wc_world.specs.Nameable.{IsNameable, AreModuleNameable}
 use Rattle.wc_world.specs.Views.{ComponentWorldView, NamedWorldAdapter}
 use Rattle.wc_world.specs.WorldViews.{adapter_entry}
 use Rattle.wc_ways.specs.Component.{IsOnePart}
 use Rattle.wc_ways.specs.Private.Component.{world_at}
-use Rattle.wc_component_tree.proofs.EachLemmas.{each_all, each_next, each_start}
+use Rattle.wc_tree.proofs.EachLemmas.{each_all, each_next, each_start}
 use Rattle.wc_ways.proofs.component.adapter_parts.Goals as goal
 
 abbrev IsNamed : ComponentWorldView → NamedWorldAdapter → Type 0

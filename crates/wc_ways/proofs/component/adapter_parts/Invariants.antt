@@ -1,12 +1,12 @@
 use Rattle.std.proofs.Common.{All, map}
-use Rattle.wc_component_graph.specs.Parts.{part_view}
+use Rattle.wc_paths.specs.Parts.{part_view}
 use Rattle.wc_paths.specs.Counts.{counts_value}
-use Rattle.wc_plan.specs.Planner.{AreModuleNameable}
+use Rattle.wc_world.specs.Nameable.{AreModuleNameable}
 use Rattle.wc_world.specs.Views.{NamedWorldAdapter}
 use Rattle.wc_world.specs.WorldViews.{adapter_entry}
 use Rattle.wc_ways.specs.Private.Component.{HasMainPaths, world_at}
 use Rattle.wc_ways.specs.Component.{IsOnePart}
-use Rattle.wc_component_tree.proofs.EachLemmas.{HasEach}
+use Rattle.wc_tree.proofs.EachLemmas.{HasEach}
 use Rattle.wc_ways.proofs.component.adapter_parts.Given as goal
 
 abbrev pub invariant-loop-name : goal.invariant-loop-name

@@ -1,5 +1,5 @@
 use Rattle.std.proofs.Common.{ap, map}
-use Rattle.wc_component_graph.specs.Parts.{part_view}
+use Rattle.wc_paths.specs.Parts.{part_view}
 use Rattle.wc_ways.proofs.component.parts_of.Goals as goal
 
 pub returns : goal.returns

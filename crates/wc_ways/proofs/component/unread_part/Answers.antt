@@ -1,7 +1,7 @@
 use Rattle.std.proofs.Common.{◌≡◌, ◌∙◌, List, ap, subst}
 use Rattle.std.proofs.lemmas.Result.{IfOk-weaker}
 use Rattle.std.specs.List.{filter_map}
-use Rattle.wc_component_graph.specs.Parts.{module_part, part_view}
+use Rattle.wc_paths.specs.Parts.{module_part, part_view}
 use Rattle.wc_paths.specs.Graph.{graph_value}
 use Rattle.wc_paths.specs.Items.{counts_of, graph_of}
 use Rattle.wc_paths.specs.Roots.{AreImportItems}

@@ -1,6 +1,6 @@
 use Rattle.std.proofs.Common.{◌∙◌, ap, option_map, sym}
 use Rattle.wc_read.specs.Imports.{import_value}
-use Rattle.wc_component_tree.specs.Found.{FunctionName, function_value}
+use Rattle.wc_tree.specs.Found.{FunctionName, function_value}
 use Rattle.wc_ways.proofs.found_adapters.asked_way.Goals as goal
 
 pub returns-in-Some : goal.returns-in-Some

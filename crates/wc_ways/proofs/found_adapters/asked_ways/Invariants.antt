@@ -1,6 +1,6 @@
 use Rattle.std.proofs.Common.{◌≡◌, map, take}
 use Rattle.wc_read.specs.Imports.{import_value}
-use Rattle.wc_component_tree.specs.Found.{some_way_view}
+use Rattle.wc_tree.specs.Found.{some_way_view}
 use Rattle.wc_ways.specs.Private.Found.{way_of}
 use Rattle.wc_ways.proofs.found_adapters.asked_ways.Given as goal
 

@@ -1,6 +1,6 @@
 use Rattle.std.proofs.Common.{◌∙◌, ap, map, refl}
 use Rattle.wc_read.specs.Imports.{import_value}
-use Rattle.wc_component_tree.specs.Found.{some_way_view}
+use Rattle.wc_tree.specs.Found.{some_way_view}
 use Rattle.wc_ways.specs.Private.Adapters.{original_in}
 use Rattle.wc_ways.specs.Private.Found.{chained_of, way_of}
 use Rattle.wc_ways.proofs.FoundLemmas.{found_all}

@@ -1,5 +1,5 @@
 use Rattle.std.proofs.Common.{◌≡◌, map, take}
-use Rattle.wc_component_tree.specs.FoundItems.{wanted_by}
+use Rattle.wc_tree.specs.FoundItems.{wanted_by}
 use Rattle.wc_ways.specs.Originals.{wanted_of}
 use Rattle.wc_ways.specs.Private.Adapters.{original_in}
 use Rattle.wc_ways.specs.Words.{is_wanted}

@@ -1,10 +1,10 @@
 use Rattle.std.proofs.Common.{ap, subst, sym, ◌≡◌, ◌∙◌, option_map}
 use Rattle.std.proofs.lemmas.Result.{IfOk-weaker}
 use Rattle.wc_names.specs.Views.{import_view}
-use Rattle.wc_plan.specs.Calls.{IsNameable}
+use Rattle.wc_world.specs.Nameable.{IsNameable}
 use Rattle.wc_resolve.specs.Kinds.{ResolveView}
 use Rattle.wc_ways.specs.Asked.{asked_function}
-use Rattle.wc_component_tree.specs.Found.{function_value}
+use Rattle.wc_tree.specs.Found.{function_value}
 use Rattle.wc_ways.specs.Private.Adapters.{world_in}
 use Rattle.wc_ways.proofs.found_libraries.asked_of_library.Goals as goal
 

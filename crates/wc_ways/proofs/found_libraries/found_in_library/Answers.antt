@@ -1,7 +1,7 @@
 use Rattle.std.proofs.Common.{◌++◌, ◌∙◌, ap, map}
 use Rattle.wc_ways.specs.Private.Adapters.{world_in}
 use Rattle.wc_ways.specs.Private.Found.{recorded_ways}
-use Rattle.wc_component_tree.specs.Found.{some_way_view}
+use Rattle.wc_tree.specs.Found.{some_way_view}
 use Rattle.wc_ways.proofs.RecordedWayLemmas.{alone_none}
 use Rattle.wc_ways.proofs.found_libraries.found_in_library.Goals as goal
 

@@ -1,6 +1,6 @@
 use Rattle.std.proofs.Common.{◌++◌, ◌∙◌, OnOk, ap, append-nil, option_map, refl, subst, sym}
 use Rattle.wc_validate.specs.Imports.Iter.{import_shown}
-use Rattle.wc_component_tree.specs.Found.{function_value, found_view}
+use Rattle.wc_tree.specs.Found.{function_value, found_view}
 use Rattle.wc_ways.specs.Private.Adapters.{world_in}
 use Rattle.wc_ways.specs.Private.Found.{AreAlonePut}
 use Rattle.wc_ways.proofs.RecordedWayLemmas.{none_recorded, some_recorded}

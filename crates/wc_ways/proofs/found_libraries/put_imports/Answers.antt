@@ -1,11 +1,11 @@
 use Rattle.std.proofs.Common.{ℕ, ◌++◌, ◌∙◌, All, List, ap, refl, rules, subst}
 use Rattle.std.proofs.lemmas.List.Elements.{All-head, All-rest}
 use Rattle.wc_names.specs.Views.{ImportView, import_view}
-use Rattle.wc_plan.specs.Calls.{IsNameable}
+use Rattle.wc_world.specs.Nameable.{IsNameable}
 use Rattle.wc_validate.specs.Imports.Iter.{imports_left}
 use Rattle.wc_world.specs.Slots.{imports_of}
 use Rattle.wc_ways.specs.Private.Adapters.{world_in}
-use Rattle.wc_component_tree.specs.Found.{found_view}
+use Rattle.wc_tree.specs.Found.{found_view}
 use Rattle.wc_ways.specs.Private.Found.{recorded_way, recorded_ways}
 use Rattle.wc_ways.proofs.ListLemmas.{made_all, made_more}
 use Rattle.wc_ways.proofs.found_libraries.put_imports.Goals as goal

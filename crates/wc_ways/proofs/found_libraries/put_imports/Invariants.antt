@@ -2,10 +2,10 @@ use Rattle.std.proofs.Common.{◌≡◌, ◌++◌, All}
 use Rattle.std.specs.List.{flat_map}
 use Rattle.wc_validate.specs.Imports.Iter.{imports_left}
 use Rattle.wc_world.specs.Slots.{imports_of}
-use Rattle.wc_plan.specs.Calls.{IsNameable}
+use Rattle.wc_world.specs.Nameable.{IsNameable}
 use Rattle.wc_ways.specs.Private.Adapters.{world_in}
 use Rattle.wc_ways.specs.Private.Found.{HasAlone, recorded_way, recorded_ways}
-use Rattle.wc_component_tree.specs.Found.{found_view}
+use Rattle.wc_tree.specs.Found.{found_view}
 use Rattle.wc_ways.proofs.found_libraries.put_imports.Given as goal
 
 abbrev pub invariant-loop-from : goal.invariant-loop-from

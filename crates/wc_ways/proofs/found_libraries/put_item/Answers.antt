@@ -2,7 +2,7 @@ use Rattle.std.proofs.Common.{◌≡◌, [], ◌∷◌, ◌++◌, ◌∙◌, Non
 use Rattle.std.proofs.lemmas.List.{length-map, map-append}
 use Rattle.wc_why.specs.Paths.{text_of}
 use Rattle.wc_tree.specs.Tree.{TreeItemView, tree_item_view}
-use Rattle.wc_component_tree.specs.Found.{found_view, found_way_view, some_way_view}
+use Rattle.wc_tree.specs.Found.{found_view, found_way_view, some_way_view}
 use Rattle.wc_ways.proofs.RecordedWayLemmas.{alone_put}
 use Rattle.wc_ways.proofs.found_libraries.put_item.Goals as goal
 

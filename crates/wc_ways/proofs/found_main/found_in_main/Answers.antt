@@ -1,6 +1,6 @@
 use Rattle.std.proofs.Common.{refl}
-use Rattle.wc_plan.specs.Calls.{IsNameable}
-use Rattle.wc_plan.proofs.ModuleLemmas.{of_main}
+use Rattle.wc_world.specs.Nameable.{IsNameable}
+use Rattle.wc_world.proofs.ModuleLemmas.{of_main}
 use Rattle.wc_ways.specs.Private.MainWays.{world_of}
 use Rattle.wc_ways.proofs.found_main.found_in_main.Goals as goal
 

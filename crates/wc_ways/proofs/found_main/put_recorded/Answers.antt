@@ -1,7 +1,7 @@
 use Rattle.std.proofs.Common.{◌++◌, ◌∙◌, ap, append-nil, map, option_map, sym}
 use Rattle.std.proofs.lemmas.List.{map-append}
 use Rattle.wc_validate.specs.Imports.Iter.{import_shown}
-use Rattle.wc_component_tree.specs.Found.{function_value, some_way_view}
+use Rattle.wc_tree.specs.Found.{function_value, some_way_view}
 use Rattle.wc_ways.specs.Private.MainWays.{key_of, resolve_of}
 use Rattle.wc_ways.proofs.RecordedWayLemmas.{none_recorded, some_recorded}
 use Rattle.wc_ways.proofs.found_main.put_recorded.Goals as goal

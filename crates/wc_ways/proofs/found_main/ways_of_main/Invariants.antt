@@ -2,9 +2,9 @@ use Rattle.std.proofs.Common.{◌≡◌, ◌++◌, All, map}
 use Rattle.std.specs.List.{flat_map}
 use Rattle.wc_validate.specs.Imports.Iter.{imports_left}
 use Rattle.wc_world.specs.Slots.{imports_of}
-use Rattle.wc_plan.specs.Calls.{IsNameable}
+use Rattle.wc_world.specs.Nameable.{IsNameable}
 use Rattle.wc_ways.specs.Private.Found.{recorded_way, recorded_ways}
-use Rattle.wc_component_tree.specs.Found.{some_way_view}
+use Rattle.wc_tree.specs.Found.{some_way_view}
 use Rattle.wc_ways.specs.Private.MainWays.{key_of, resolve_of}
 use Rattle.wc_ways.proofs.found_main.ways_of_main.Given as goal
 

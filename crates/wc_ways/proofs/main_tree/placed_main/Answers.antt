@@ -1,6 +1,6 @@
 use Rattle.std.proofs.Common.{◌≡◌, ◌≤◌, ◌∙◌, ap, arith, length, subst, sym}
 use Rattle.wc_tree.specs.Tree.{tree_module_view}
-use Rattle.wc_component_tree.specs.FoundTree.{AreItemEnds, ArePlaces}
+use Rattle.wc_tree.specs.FoundTree.{AreItemEnds, ArePlaces}
 use Rattle.wc_ways.proofs.MainEndLemmas.{main_ends}
 use Rattle.wc_ways.proofs.main_tree.placed_main.Goals as goal
 

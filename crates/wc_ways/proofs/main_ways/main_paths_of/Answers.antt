@@ -1,14 +1,14 @@
 use Rattle.std.proofs.Common.{◌∙◌, ℕ, List, All, ap, refl, rules, subst}
 use Rattle.std.proofs.lemmas.List.Elements.{All-head, All-rest}
 use Rattle.wc_names.specs.Views.{ImportView, import_view}
-use Rattle.wc_plan.specs.Calls.{IsNameable}
+use Rattle.wc_world.specs.Nameable.{IsNameable}
 use Rattle.wc_validate.specs.Imports.Iter.{imports_left}
 use Rattle.wc_validate.specs.Imports.Map.{imports_in}
 use Rattle.wc_world.specs.Slots.{imports_of}
 use Rattle.wc_ways.specs.Private.MainWays.{key_of, marks_in, world_of}
 use Rattle.wc_ways.specs.Ways.{IsRecordedMainPath}
 use Rattle.wc_ways.specs.Private.Marked.{shown_by}
-use Rattle.wc_component_tree.proofs.EachLemmas.{said_all, said_next, said_start}
+use Rattle.wc_tree.proofs.EachLemmas.{said_all, said_next, said_start}
 use Rattle.wc_ways.proofs.main_ways.main_paths_of.Goals as goal
 
 pub recorded_main_path-requires-clause-nameable : goal.recorded_main_path-requires-clause-nameable

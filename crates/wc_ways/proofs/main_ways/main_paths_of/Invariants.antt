@@ -2,11 +2,11 @@ use Rattle.std.proofs.Common.{◌≡◌, All}
 use Rattle.wc_validate.specs.Imports.Iter.{imports_left}
 use Rattle.wc_validate.specs.Imports.Map.{imports_in}
 use Rattle.wc_world.specs.Slots.{imports_of}
-use Rattle.wc_plan.specs.Calls.{IsNameable}
+use Rattle.wc_world.specs.Nameable.{IsNameable}
 use Rattle.wc_ways.specs.Private.MainWays.{key_of, marks_in, world_of}
 use Rattle.wc_ways.specs.Ways.{IsRecordedMainPath}
 use Rattle.wc_ways.specs.Private.Marked.{shown_by}
-use Rattle.wc_component_tree.proofs.EachLemmas.{EachSaid}
+use Rattle.wc_tree.proofs.EachLemmas.{EachSaid}
 use Rattle.wc_ways.proofs.main_ways.main_paths_of.Given as goal
 
 abbrev pub invariant-loop-from : goal.invariant-loop-from

@@ -1,12 +1,12 @@
 use Rattle.std.proofs.Common.{◌∙◌, ap, option_map, sym}
 use Rattle.wc_validate.specs.Imports.Iter.{import_shown}
 use Rattle.wc_why.specs.Paths.{path_view}
-use Rattle.wc_component_tree.specs.Found.{function_value}
+use Rattle.wc_tree.specs.Found.{function_value}
 use Rattle.wc_ways.specs.Private.MainWays.{key_of, marks_in, world_of}
 use Rattle.wc_ways.specs.Ways.{IsRecordedMainPath}
 use Rattle.wc_ways.specs.Private.Marked.{shown_by}
 use Rattle.wc_ways.proofs.MainWayLemmas.{asked_main, unasked_main}
-use Rattle.wc_component_tree.proofs.WalkLemmas.{says_none, says_one}
+use Rattle.wc_tree.proofs.WalkLemmas.{says_none, says_one}
 use Rattle.wc_ways.proofs.main_ways.recorded_main_path.Goals as goal
 
 pub returns-in_ok-path-in-Some-clause-said : goal.returns-in_ok-path-in-Some-clause-said

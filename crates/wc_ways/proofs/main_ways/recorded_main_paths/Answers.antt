@@ -1,5 +1,5 @@
-use Rattle.wc_plan.specs.Calls.{IsNameable}
-use Rattle.wc_plan.proofs.ModuleLemmas.{of_main}
+use Rattle.wc_world.specs.Nameable.{IsNameable}
+use Rattle.wc_world.proofs.ModuleLemmas.{of_main}
 use Rattle.wc_ways.specs.Private.MainWays.{world_of}
 use Rattle.wc_ways.proofs.main_ways.recorded_main_paths.Goals as goal
 

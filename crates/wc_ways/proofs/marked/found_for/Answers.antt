@@ -1,6 +1,6 @@
 use Rattle.std.proofs.Common.{◌∙◌, ap, map, subst, sym}
-use Rattle.wc_component_graph.specs.Marks.{AreMarks}
-use Rattle.wc_component_graph.specs.Parts.{part_view}
+use Rattle.wc_paths.specs.Marks.{AreMarks}
+use Rattle.wc_paths.specs.Parts.{part_view}
 use Rattle.wc_ways.proofs.marked.found_for.Goals as goal
 
 pub returns : goal.returns

@@ -2,7 +2,7 @@ use Rattle.std.proofs.Common.{◌∙◌, [], OnOk, Option, ap, subst}
 use Rattle.std.specs.Option.{option_map, option_map_or}
 use Rattle.wc_resolve.specs.Roots.{function_roots}
 use Rattle.wc_resolve.specs.Views.{FunctionView, function_view}
-use Rattle.wc_resolve.proofs.LookupLemmas.{name_viewed}
+use Rattle.wc_maps.proofs.LookupLemmas.{name_viewed}
 use Rattle.wc_ways.specs.Private.Needs.{Finds}
 use Rattle.wc_ways.proofs.NeedLemmas.{finds_none}
 use Rattle.wc_ways.proofs.needs.note_function_in.Goals as goal

@@ -1,6 +1,6 @@
 use Rattle.std.proofs.Common.{◌∙◌, refl, sym}
 use Rattle.indexmap.proofs.CallerLemmas.{insert_entry-new}
-use Rattle.wc_names.proofs.OptionLemmas.{none_of_false}
+use Rattle.wc_maps.proofs.OptionLemmas.{none_of_false}
 use Rattle.wc_resolve.specs.contracts.ids.TypeIdPartialEq.TheImpl.{eq-value as type_eq}
 use Rattle.wc_resolve.specs.declared.ids.TypeId.{TypeId}
 use Rattle.wc_ways.specs.Private.Needs.{root_view}

@@ -2,15 +2,15 @@ use Rattle.std.proofs.Common.{◌≡◌, ◌∙◌, Option, ap, option_map, subs
 use Rattle.std.proofs.lemmas.Result.{IfOk-weaker}
 use Rattle.std.specs.Option.{option_and_then}
 use Rattle.wc_names.specs.Views.{import_view}
-use Rattle.wc_plan.specs.Calls.{IsNameable}
+use Rattle.wc_world.specs.Nameable.{IsNameable}
 use Rattle.wc_read.specs.Imports.{import_value}
 use Rattle.wc_resolve.specs.Kinds.{ResolveView}
 use Rattle.wc_validate.specs.Validate.{module_record}
 use Rattle.wc_ways.specs.Asked.{asked_function}
 use Rattle.wc_ways.specs.Originals.{asked_in}
-use Rattle.wc_component_tree.specs.Found.{function_value}
+use Rattle.wc_tree.specs.Found.{function_value}
 use Rattle.wc_ways.specs.Private.Adapters.{world_in}
-use Rattle.wc_component_tree.specs.declared.found.Function.{Function}
+use Rattle.wc_tree.specs.declared.found.Function.{Function}
 use Rattle.wc_ways.proofs.RecordLemmas.{recorded_has}
 use Rattle.wc_ways.proofs.originals.asked_import.Goals as goal
 

@@ -4,7 +4,7 @@ use Rattle.wc_read.specs.Names.{name_entries}
 use Rattle.wc_why.proofs.ItemLemmas.{chains_of_read}
 use Rattle.wc_ways.specs.Private.Adapters.{marks_at, required_in}
 use Rattle.wc_ways.proofs.OriginalLemmas.{input_of}
-use Rattle.wc_component_tree.proofs.WalkLemmas.{says_as}
+use Rattle.wc_tree.proofs.WalkLemmas.{says_as}
 use Rattle.wc_ways.proofs.originals.put_with.Goals as goal
 
 pub put_walk-requires : goal.put_walk-requires

@@ -1,6 +1,6 @@
 use Rattle.std.proofs.Common.{◌∙◌, ap, option_map, sym}
 use Rattle.wc_names.specs.Views.{import_view}
-use Rattle.wc_plan.specs.Calls.{IsNameable}
+use Rattle.wc_world.specs.Nameable.{IsNameable}
 use Rattle.wc_ways.proofs.RecordLemmas.{recorded_has}
 use Rattle.wc_ways.proofs.part_items.is_asked_import.Goals as goal
 

@@ -1,6 +1,6 @@
 use Rattle.std.proofs.Common.{◌≡◌, ◌∙◌, Some, ap, arith, length, rules}
 use Rattle.wc_read.specs.Imports.{import_value}
-use Rattle.wc_component_tree.specs.Found.{function_value}
+use Rattle.wc_tree.specs.Found.{function_value}
 use Rattle.wc_ways.specs.Private.Adapters.{original_in}
 use Rattle.wc_ways.proofs.ImportLemmas.{dead_item, in_order, in_positions, position_read, reached_item}
 use Rattle.wc_ways.proofs.paths.item_path.Goals as goal

@@ -3,7 +3,7 @@ use Rattle.wc_why.proofs.JoinedLemmas.{none_joined}
 use Rattle.wc_ways.specs.Private.Adapters.{key_in, marks_at, original_in}
 use Rattle.wc_ways.specs.Ways.{IsPathAt}
 use Rattle.wc_ways.specs.Private.Marked.{shown_by}
-use Rattle.wc_component_tree.proofs.WalkLemmas.{says_more, says_none}
+use Rattle.wc_tree.proofs.WalkLemmas.{says_more, says_none}
 use Rattle.wc_ways.proofs.paths.original_paths.Goals as goal
 
 pub loop-position-init : goal.loop-position-init

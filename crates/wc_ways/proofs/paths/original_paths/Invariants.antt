@@ -1,7 +1,7 @@
 use Rattle.std.proofs.Common.{◌≡◌}
 use Rattle.wc_why.specs.Joined.{AreJoined}
 use Rattle.wc_ways.specs.Private.Adapters.{key_in, marks_at, original_in}
-use Rattle.wc_component_tree.specs.Said.{Says}
+use Rattle.wc_tree.specs.Said.{Says}
 use Rattle.wc_ways.specs.Ways.{IsPathAt}
 use Rattle.wc_ways.specs.Private.Marked.{shown_by}
 use Rattle.wc_ways.proofs.paths.original_paths.Given as goal

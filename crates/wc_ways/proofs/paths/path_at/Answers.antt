@@ -1,15 +1,15 @@
 use Rattle.std.proofs.Common.{◌∙◌, [], ◌∷◌, ap, option_map, subst, sym}
 use Rattle.std.specs.Option.{option_to_list}
 use Rattle.wc_read.specs.Imports.{import_value}
-use Rattle.wc_gc.specs.Decoded.{ItemIndex}
-use Rattle.wc_gc.specs.RestrictionLaws.{IsImportItem}
+use Rattle.wc_read.specs.Decoded.{ItemIndex}
+use Rattle.wc_read.specs.ImportItems.{IsImportItem}
 use Rattle.wc_why.specs.Paths.{path_view}
-use Rattle.wc_component_tree.specs.Found.{function_value}
+use Rattle.wc_tree.specs.Found.{function_value}
 use Rattle.wc_ways.specs.Private.Adapters.{key_in, marks_at, original_in}
 use Rattle.wc_ways.specs.Ways.{IsItemPath, IsPathAt}
 use Rattle.wc_ways.specs.Private.Marked.{shown_by}
 use Rattle.wc_ways.proofs.ImportLemmas.{asked_path, import_read, unasked_path}
-use Rattle.wc_component_tree.proofs.WalkLemmas.{says_none, says_one}
+use Rattle.wc_tree.proofs.WalkLemmas.{says_none, says_one}
 use Rattle.wc_ways.proofs.paths.path_at.Goals as goal
 
 pub asked_import-requires : goal.asked_import-requires

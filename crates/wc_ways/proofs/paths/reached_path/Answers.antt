@@ -1,5 +1,5 @@
 use Rattle.wc_read.specs.Imports.{import_value}
-use Rattle.wc_component_tree.specs.Found.{function_value}
+use Rattle.wc_tree.specs.Found.{function_value}
 use Rattle.wc_ways.specs.Private.Adapters.{original_in}
 use Rattle.wc_ways.proofs.ImportLemmas.{chain_item}
 use Rattle.wc_ways.proofs.paths.reached_path.Goals as goal

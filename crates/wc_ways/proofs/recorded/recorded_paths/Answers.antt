@@ -2,7 +2,7 @@ use Rattle.std.proofs.Common.{◌++◌, ◌∙◌, All, ap, option_map, rules, s
 use Rattle.std.proofs.lemmas.List.Elements.{All-head, All-rest}
 use Rattle.std.specs.List.{flat_map}
 use Rattle.wc_names.specs.Views.{import_view}
-use Rattle.wc_plan.specs.Calls.{IsNameable}
+use Rattle.wc_world.specs.Nameable.{IsNameable}
 use Rattle.wc_validate.specs.Imports.Iter.{imports_left}
 use Rattle.wc_validate.specs.Imports.Map.{imports_in}
 use Rattle.wc_world.specs.Slots.{imports_of}

@@ -3,7 +3,7 @@ use Rattle.std.specs.List.{flat_map}
 use Rattle.wc_validate.specs.Imports.Iter.{imports_left}
 use Rattle.wc_validate.specs.Imports.Map.{imports_in}
 use Rattle.wc_world.specs.Slots.{imports_of}
-use Rattle.wc_plan.specs.Calls.{IsNameable}
+use Rattle.wc_world.specs.Nameable.{IsNameable}
 use Rattle.wc_why.specs.Paths.{text_of}
 use Rattle.wc_ways.specs.Ways.{recorded_path}
 use Rattle.wc_ways.specs.Private.Marked.{marking, shown_by}

@@ -3,9 +3,8 @@ use Rattle.std.proofs.lemmas.List.Elements.{All-head, All-rest}
 use Rattle.wc_world.specs.Views.{ComponentWorldView, NamedWorldAdapter}
 use Rattle.wc_world.specs.WorldViews.{adapter_entry, world_view}
 use Rattle.wc_world.proofs.FaultLemmas.{passed_on}
-use Rattle.wc_plan.specs.Calls.{IsNameable}
-use Rattle.wc_plan.specs.Planner.{AreModuleNameable}
-use Rattle.wc_plan.proofs.ModuleLemmas.{of_adapters}
+use Rattle.wc_world.specs.Nameable.{IsNameable, AreModuleNameable}
+use Rattle.wc_world.proofs.ModuleLemmas.{of_adapters}
 use Rattle.wc_ways.specs.WaysFaults.{IsWaysFault}
 use Rattle.wc_summary.specs.Entries.{entries_view}
 use Rattle.wc_ways.proofs.AdapterNoteLemmas.{far_end, far_in, far_one, far_start}

@@ -1,5 +1,5 @@
 use Rattle.std.proofs.Common.{All, map}
-use Rattle.wc_plan.specs.Planner.{AreModuleNameable}
+use Rattle.wc_world.specs.Nameable.{AreModuleNameable}
 use Rattle.wc_world.specs.Views.{NamedWorldAdapter}
 use Rattle.wc_world.specs.WorldViews.{adapter_entry, world_view}
 use Rattle.wc_summary.specs.Entries.{entries_view}

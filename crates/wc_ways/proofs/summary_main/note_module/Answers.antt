@@ -1,8 +1,8 @@
 use Rattle.std.proofs.Common.{◌≡◌, ◌∙◌, List, None, Some, ap, length, subst, sym, ℕ}
 use Rattle.std.specs.Prelude.{All}
 use Rattle.std.proofs.lemmas.Result.{on_ok_weaker}
-use Rattle.wc_plan.specs.Calls.{IsNameable}
-use Rattle.wc_plan.proofs.ModuleLemmas.{of_main}
+use Rattle.wc_world.specs.Nameable.{IsNameable}
+use Rattle.wc_world.proofs.ModuleLemmas.{of_main}
 use Rattle.wc_read.specs.Imports.{import_values}
 use Rattle.wc_read.specs.Modules.{module_value}
 use Rattle.wc_read.specs.declared.types.Import.{Import}

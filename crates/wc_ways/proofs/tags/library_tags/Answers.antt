@@ -1,7 +1,7 @@
 use Rattle.std.proofs.Common.{All, ap, subst}
 use Rattle.std.proofs.lemmas.List.Elements.{All-head, All-rest}
 use Rattle.wc_names.specs.Views.{import_view}
-use Rattle.wc_plan.specs.Calls.{IsNameable}
+use Rattle.wc_world.specs.Nameable.{IsNameable}
 use Rattle.wc_validate.specs.Imports.Iter.{imports_left}
 use Rattle.wc_world.specs.Slots.{imports_of}
 use Rattle.wc_ways.specs.Tags.{recorded_tag}

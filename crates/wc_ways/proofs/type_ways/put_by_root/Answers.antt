@@ -5,7 +5,7 @@ use Rattle.wc_ways.specs.Private.TypeWays.{IsTypedOf}
 use Rattle.wc_ways.specs.Ways.{AreNeederSteps}
 use Rattle.wc_ways.specs.Private.Marked.{plain_by}
 use Rattle.wc_ways.proofs.TypedLemmas.{memory_fault}
-use Rattle.wc_component_tree.proofs.WalkLemmas.{says_as}
+use Rattle.wc_tree.proofs.WalkLemmas.{says_as}
 use Rattle.wc_ways.proofs.type_ways.put_by_root.Goals as goal
 
 pub returns-in-Import-clause-said : goal.returns-in-Import-clause-said

@@ -1,7 +1,6 @@
 use Rattle.std.proofs.Common.{◌∙◌, Some, ap, map, option_map, sym}
-use Rattle.wc_plan.specs.Calls.{IsNameable}
-use Rattle.wc_plan.specs.Planner.{AreModuleNameable}
-use Rattle.wc_plan.proofs.ModuleLemmas.{of_adapters}
+use Rattle.wc_world.specs.Nameable.{IsNameable, AreModuleNameable}
+use Rattle.wc_world.proofs.ModuleLemmas.{of_adapters}
 use Rattle.wc_why.specs.Paths.{step_view, text_of}
 use Rattle.wc_world.specs.Views.{NamedWorldAdapter}
 use Rattle.wc_world.specs.WorldViews.{adapter_view}
@@ -10,7 +9,7 @@ use Rattle.wc_ways.specs.Private.TypeWays.{AreStepsFrom, IsWayOf}
 use Rattle.wc_ways.specs.Ways.{AreAdapterSteps}
 use Rattle.wc_ways.specs.Private.Marked.{plain_by}
 use Rattle.wc_ways.proofs.TypedLemmas.{adapter_fault, adapter_found, adapter_has, adapter_steps, memory_fault, no_adapter_steps, typed_as, typed_put}
-use Rattle.wc_component_tree.proofs.WalkLemmas.{says_as}
+use Rattle.wc_tree.proofs.WalkLemmas.{says_as}
 use Rattle.wc_ways.proofs.type_ways.put_from_adapter.Goals as goal
 
 pub put_in_adapter-requires-clause-nameable : goal.put_in_adapter-requires-clause-nameable

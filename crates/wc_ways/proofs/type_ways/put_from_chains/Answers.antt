@@ -11,7 +11,7 @@ use Rattle.wc_validate.specs.Validate.{module_record}
 use Rattle.wc_ways.specs.Private.Marked.{plain_by}
 use Rattle.wc_ways.proofs.OriginalLemmas.{input_of}
 use Rattle.wc_ways.proofs.TypedLemmas.{typed_as}
-use Rattle.wc_component_tree.proofs.WalkLemmas.{says_as}
+use Rattle.wc_tree.proofs.WalkLemmas.{says_as}
 use Rattle.wc_ways.proofs.type_ways.put_from_chains.Goals as goal
 
 pub put_on_walk-requires : goal.put_on_walk-requires

@@ -11,7 +11,7 @@ use Rattle.wc_ways.specs.Private.Marked.{plain_by}
 use Rattle.wc_ways.proofs.OriginalLemmas.{said_missing, said_trimmed}
 use Rattle.wc_ways.proofs.RecordLemmas.{viewed_found}
 use Rattle.wc_ways.proofs.TypedLemmas.{fault_or, memory_or, typed_as, typed_put}
-use Rattle.wc_component_tree.proofs.WalkLemmas.{says_as}
+use Rattle.wc_tree.proofs.WalkLemmas.{says_as}
 use Rattle.wc_ways.proofs.type_ways.put_from_trimmed.Goals as goal
 
 pub returns-in-Some-clause-said : goal.returns-in-Some-clause-said

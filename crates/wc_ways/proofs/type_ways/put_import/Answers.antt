@@ -4,7 +4,7 @@ use Rattle.wc_ways.specs.Private.MainWays.{world_of}
 use Rattle.wc_ways.specs.Private.TypeWays.{AreStepsFrom, IsWayOf}
 use Rattle.wc_ways.specs.Private.Marked.{plain_by}
 use Rattle.wc_ways.proofs.TypedLemmas.{memory_fault}
-use Rattle.wc_component_tree.proofs.WalkLemmas.{says_as}
+use Rattle.wc_tree.proofs.WalkLemmas.{says_as}
 use Rattle.wc_ways.proofs.type_ways.put_import.Goals as goal
 
 pub returns-in-Some-clause-said : goal.returns-in-Some-clause-said

@@ -10,7 +10,7 @@ use Rattle.wc_ways.specs.Ways.{AreImportSteps}
 use Rattle.wc_ways.specs.WaysFaults.{IsAdapterFault}
 use Rattle.wc_ways.specs.Private.Marked.{plain_by}
 use Rattle.wc_ways.proofs.TypedLemmas.{memory_or, typed_as}
-use Rattle.wc_component_tree.proofs.WalkLemmas.{says_as}
+use Rattle.wc_tree.proofs.WalkLemmas.{says_as}
 use Rattle.wc_ways.proofs.type_ways.put_in_adapter.Goals as goal
 
 pub returns-in-Some-clause-said : goal.returns-in-Some-clause-said

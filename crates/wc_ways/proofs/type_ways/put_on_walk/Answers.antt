@@ -8,7 +8,7 @@ use Rattle.wc_ways.specs.Private.TypeWays.{IsNamedAt, IsWayOf}
 use Rattle.wc_ways.specs.Ways.{AreImportSteps, AreStepsAt}
 use Rattle.wc_ways.specs.Private.Marked.{plain_by}
 use Rattle.wc_ways.proofs.TypedLemmas.{no_steps_at, steps_at, typed_as, typed_put}
-use Rattle.wc_component_tree.proofs.WalkLemmas.{says_as}
+use Rattle.wc_tree.proofs.WalkLemmas.{says_as}
 use Rattle.wc_ways.proofs.type_ways.put_on_walk.Goals as goal
 
 pub put_position-requires-clause-there : goal.put_position-requires-clause-there

@@ -2,7 +2,7 @@ use Rattle.std.proofs.Common.{◌≡◌, ap, map, option_map, string_bytes}
 use Rattle.std.specs.Option.{option_to_list}
 use Rattle.wc_read.specs.Imports.{import_value}
 use Rattle.wc_why.specs.Paths.{path_view, step_view, text_of}
-use Rattle.wc_component_tree.specs.Found.{FunctionName}
+use Rattle.wc_tree.specs.Found.{FunctionName}
 use Rattle.wc_ways.specs.Private.Adapters.{original_in}
 use Rattle.wc_ways.specs.Ways.{AreStepsAt}
 use Rattle.wc_ways.specs.Private.Marked.{plain_by}

@@ -3,10 +3,10 @@ use Rattle.wc_why.specs.Paths.{step_view}
 use Rattle.wc_ways.specs.Private.MainWays.{world_of}
 use Rattle.wc_ways.specs.Private.Needs.{cite_view, root_view}
 use Rattle.wc_ways.specs.Ways.{IsTypedPath}
-use Rattle.wc_component_tree.specs.WaysTree.{typed_path}
+use Rattle.wc_tree.specs.WaysTree.{typed_path}
 use Rattle.wc_ways.specs.Private.Marked.{plain_by}
 use Rattle.wc_ways.proofs.TypedLemmas.{memory_fault, path_by_no_root, path_by_root}
-use Rattle.wc_component_tree.proofs.WalkLemmas.{says_as, says_one}
+use Rattle.wc_tree.proofs.WalkLemmas.{says_as, says_one}
 use Rattle.wc_ways.proofs.type_ways.put_typed_path.Goals as goal
 
 pub returns-in-Some-clause-said : goal.returns-in-Some-clause-said

@@ -1,6 +1,6 @@
 use Rattle.std.proofs.Common.{◌≡◌, [], ◌∷◌, ◌++◌, ◌∙◌, OnOk, ap, map, option_map, subst}
 use Rattle.wc_why.specs.Paths.{of_world, step_view, text_of}
-use Rattle.wc_component_tree.specs.WaysTree.{typed_path}
+use Rattle.wc_tree.specs.WaysTree.{typed_path}
 use Rattle.wc_ways.specs.Private.Marked.{plain_by}
 use Rattle.wc_ways.proofs.MainWayLemmas.{pushed_one}
 use Rattle.wc_ways.proofs.type_ways.put_world.Goals as goal

@@ -1,8 +1,8 @@
 use Rattle.std.proofs.Common.{[], ◌∷◌, append-nil, map, refl, sym}
 use Rattle.wc_tree.specs.Tree.{tree_way_view}
-use Rattle.wc_component_tree.specs.Found.{found_view}
+use Rattle.wc_tree.specs.Found.{found_view}
 use Rattle.wc_ways.specs.Private.TypedFound.{IsTypedWayPut, typed_view}
-use Rattle.wc_component_tree.proofs.EachLemmas.{said_taken, said_taken_all}
+use Rattle.wc_tree.proofs.EachLemmas.{said_taken, said_taken_all}
 use Rattle.wc_ways.proofs.TypedFoundLemmas.{typed_way_more}
 use Rattle.wc_ways.proofs.typed_ends.put_typed_ways.Goals as goal
 

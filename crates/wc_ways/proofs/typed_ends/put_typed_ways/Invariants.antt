@@ -1,7 +1,7 @@
 use Rattle.std.proofs.Common.{[], ◌∷◌, map, take}
 use Rattle.wc_tree.specs.Tree.{tree_way_view}
-use Rattle.wc_component_tree.specs.Said.{AreEach, Says}
-use Rattle.wc_component_tree.specs.Found.{found_view}
+use Rattle.wc_tree.specs.Said.{AreEach, Says}
+use Rattle.wc_tree.specs.Found.{found_view}
 use Rattle.wc_ways.specs.Private.TypedFound.{IsTypedWayPut, typed_view}
 use Rattle.wc_ways.proofs.typed_ends.put_typed_ways.Given as goal
 

@@ -2,7 +2,7 @@ use Rattle.std.proofs.Common.{◌∙◌, ap, map, option_map, refl, rules, strin
 use Rattle.wc_world.specs.WorldViews.{imported_entry, imported_view}
 use Rattle.wc_ways.specs.Private.MainWays.{key_of, marks_in, world_of}
 use Rattle.wc_ways.specs.Said.{IsTypedSaid}
-use Rattle.wc_component_tree.proofs.EachLemmas.{said_all, said_next, said_start}
+use Rattle.wc_tree.proofs.EachLemmas.{said_all, said_next, said_start}
 use Rattle.wc_ways.proofs.types.put_all_typed.Goals as goal
 
 pub loop-name-init : goal.loop-name-init

@@ -2,7 +2,7 @@ use Rattle.std.proofs.Common.{◌≡◌, map}
 use Rattle.wc_world.specs.WorldViews.{imported_entry}
 use Rattle.wc_ways.specs.Private.MainWays.{key_of, marks_in, world_of}
 use Rattle.wc_ways.specs.Said.{IsTypedSaid}
-use Rattle.wc_component_tree.proofs.EachLemmas.{EachSaid}
+use Rattle.wc_tree.proofs.EachLemmas.{EachSaid}
 use Rattle.wc_ways.proofs.types.put_all_typed.Given as goal
 
 abbrev pub invariant-loop-name : goal.invariant-loop-name

@@ -6,7 +6,7 @@ use Rattle.wc_ways.specs.Private.Needs.{cite_view}
 use Rattle.wc_ways.specs.Private.Notes.{imported_shown}
 use Rattle.wc_ways.specs.Said.{IsTypedSaid}
 use Rattle.wc_ways.proofs.TypedLemmas.{typed_said, untyped_said}
-use Rattle.wc_component_tree.proofs.WalkLemmas.{says_as, says_none}
+use Rattle.wc_tree.proofs.WalkLemmas.{says_as, says_none}
 use Rattle.wc_ways.proofs.types.put_if_typed.Goals as goal
 
 abbrev shown : Bor (List ℕ) × InterfaceId → List ℕ × ℕ

@@ -2,7 +2,7 @@ use Rattle.std.proofs.Common.{◌≡◌, map, string_bytes, String, Global}
 use Rattle.std.proofs.lemmas.Result.{IfOk-weaker}
 use Rattle.wc_tree.specs.Tree.{tree_view}
 use Rattle.wc_tree.specs.TreeGraph.{tree_graph}
-use Rattle.wc_component_tree.specs.Found.{found_view}
+use Rattle.wc_tree.specs.Found.{found_view}
 use Rattle.wc_ways.specs.Private.MainWays.{marks_in}
 use Rattle.wc_ways.specs.Private.TreeFrom.{IsGraphFrom}
 use Rattle.wc_ways.specs.Private.TypedFound.{typed_view}

@@ -2,7 +2,7 @@ use Rattle.std.proofs.Common.{◌<◌, length, map, subst, sym}
 use Rattle.std.proofs.lemmas.List.{length-map}
 use Rattle.wc_world.specs.WorldViews.{world_view}
 use Rattle.wc_world.proofs.FaultLemmas.{passed_on}
-use Rattle.wc_component_tree.specs.Found.{found_view}
+use Rattle.wc_tree.specs.Found.{found_view}
 use Rattle.wc_ways.specs.Private.TypedFound.{typed_view}
 use Rattle.wc_ways.specs.WaysFaults.{IsWaysFault}
 use Rattle.wc_ways.specs.WaysTree.{IsWaysTree}

@@ -4,7 +4,7 @@ use Rattle.json.specs.Print.{print}
 use Rattle.json.specs.Tree.{json_tokens}
 use Rattle.wc_tree.specs.Tree.{tree_view}
 use Rattle.wc_tree.specs.TreeJson.{tree_json}
-use Rattle.wc_component_tree.specs.Found.{found_view}
+use Rattle.wc_tree.specs.Found.{found_view}
 use Rattle.wc_ways.specs.Private.MainWays.{marks_in}
 use Rattle.wc_ways.specs.Private.TreeFrom.{IsJsonFrom}
 use Rattle.wc_ways.specs.Private.TypedFound.{typed_view}

@@ -1,6 +1,6 @@
 use Rattle.std.proofs.Common.{ap, map}
 use Rattle.wc_ways.specs.Private.Found.{AreFound}
-use Rattle.wc_component_tree.specs.Found.{found_view}
+use Rattle.wc_tree.specs.Found.{found_view}
 use Rattle.wc_ways.specs.Private.MainWays.{key_of, world_of}
 use Rattle.wc_ways.proofs.WaysLemmas.{made_said}
 use Rattle.wc_ways.proofs.ways.modules_of.Goals as goal

@@ -1,7 +1,7 @@
 use Rattle.wc_ways.specs.Private.MainWays.{key_of, marks_in, world_of}
 use Rattle.wc_ways.specs.Said.{AreModulesSaid, AreTypesSaid}
 use Rattle.wc_ways.specs.Ways.{AreLibraryPaths, AreOriginalPaths, ArePaths, AreRecordedMainPaths, IsTypedPath, way_lines}
-use Rattle.wc_component_tree.proofs.WalkLemmas.{says_two}
+use Rattle.wc_tree.proofs.WalkLemmas.{says_two}
 use Rattle.wc_ways.proofs.WaysLemmas.{paths_of_both}
 use Rattle.wc_ways.proofs.ways.put_lines.Goals as goal
 

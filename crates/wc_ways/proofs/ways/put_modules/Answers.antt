@@ -1,7 +1,7 @@
 use Rattle.std.proofs.Common.{refl}
 use Rattle.wc_ways.specs.Private.MainWays.{key_of, marks_in, world_of}
 use Rattle.wc_ways.specs.Said.{AreAllSaid, AreModulesSaid}
-use Rattle.wc_component_tree.proofs.WalkLemmas.{says_two}
+use Rattle.wc_tree.proofs.WalkLemmas.{says_two}
 use Rattle.wc_ways.proofs.ways.put_modules.Goals as goal
 
 pub returns-clause-said : goal.returns-clause-said

@@ -1,7 +1,7 @@
 use Rattle.std.proofs.Common.{◌≡◌, List, map, subst}
 use Rattle.std.proofs.lemmas.Result.{IfOk-weaker}
-use Rattle.wc_component_tree.specs.Found.{found_view}
-use Rattle.wc_component_tree.specs.declared.found.FoundModule.{FoundModule}
+use Rattle.wc_tree.specs.Found.{found_view}
+use Rattle.wc_tree.specs.declared.found.FoundModule.{FoundModule}
 use Rattle.wc_tree.specs.Tree.{tree_view}
 use Rattle.wc_tree.specs.declared.tree.Tree.{Tree}
 use Rattle.wc_ways.specs.Private.MainWays.{marks_in}

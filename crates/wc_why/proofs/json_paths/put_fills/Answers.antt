@@ -1,4 +1,4 @@
-use Rattle.wc_json.specs.Shapes.{object_of}
+use Rattle.wc_texts.specs.Shapes.{object_of}
 use Rattle.wc_why.proofs.TokenLemmas.{closed, then}
 use Rattle.wc_why.proofs.json_paths.put_fills.Goals as goal
 

@@ -1,4 +1,4 @@
-use Rattle.wc_json.specs.Shapes.{object_of}
+use Rattle.wc_texts.specs.Shapes.{object_of}
 use Rattle.wc_why.proofs.TokenLemmas.{closed, then}
 use Rattle.wc_why.proofs.marked_paths.put_marked_item.Goals as goal
 

@@ -4,7 +4,7 @@ use Rattle.wc_resolve.specs.Live.{AddsListings}
 use Rattle.wc_resolve.specs.Ranges.{IsFunctionIn}
 use Rattle.wc_resolve.specs.Roots.{function_roots}
 use Rattle.wc_resolve.specs.Views.{FunctionView, InterfaceView, function_view}
-use Rattle.wc_resolve.proofs.LookupLemmas.{name_viewed}
+use Rattle.wc_maps.proofs.LookupLemmas.{name_viewed}
 use Rattle.wc_texts.specs.Names.{under_name}
 use Rattle.wc_world.proofs.live.add_function.Goals as goal
 

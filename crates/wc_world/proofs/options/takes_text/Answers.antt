@@ -2,8 +2,8 @@ use Rattle.std.proofs.Common.{◌∙◌, ap, sym, List, ℕ}
 use Rattle.std.specs.List.{list_any}
 use Rattle.std.specs.Rc.{rc_slice_items}
 use Rattle.wc_resolve.specs.declared.types.WitType.{WitType}
-use Rattle.wc_resolve.specs.Views.{named_view}
-use Rattle.wc_resolve.proofs.ContentLemmas.{any_viewed}
+use Rattle.wc_texts.specs.Names.{named_view}
+use Rattle.wc_maps.proofs.ListLemmas.{any_viewed}
 use Rattle.wc_world.specs.Options.{holds_text}
 use Rattle.wc_world.proofs.options.takes_text.Goals as goal
 

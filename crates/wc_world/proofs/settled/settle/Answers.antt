@@ -2,7 +2,7 @@ use Rattle.std.proofs.Common.{◌≡◌, ◌∙◌, true, IfSome, ap, sym, subst
 use Rattle.wc_world.specs.Private.Marks.{known_to, mark_of}
 use Rattle.wc_world.specs.Private.Settled.{is_settled_for}
 use Rattle.wc_world.specs.Used.{used_view}
-use Rattle.wc_names.proofs.OptionLemmas.{none_of_false}
+use Rattle.wc_maps.proofs.OptionLemmas.{none_of_false}
 use Rattle.wc_world.proofs.SettledLemmas.{settled_more}
 use Rattle.wc_world.proofs.UsedLemmas.{on_ok}
 use Rattle.wc_world.proofs.settled.settle.Goals as goal

@@ -1,4 +1,3 @@
-use Rattle.std.proofs.Common.{}
 use Rattle.wc_write.proofs.BodyLemmas.{body_written}
 use Rattle.wc_write.proofs.bodies.put_body.Goals as goal
 

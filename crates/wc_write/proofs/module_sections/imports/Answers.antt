@@ -1,4 +1,3 @@
-use Rattle.std.proofs.Common.{}
 use Rattle.wc_write.proofs.DefinedItemLemmas.{imports_grouped}
 use Rattle.wc_write.proofs.module_sections.imports.Goals as goal
 

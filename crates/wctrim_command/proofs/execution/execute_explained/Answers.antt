@@ -9,7 +9,7 @@ pub returns-in_err-trim-in-Trim-clause-refusal : goal.returns-in_err-trim-in-Tri
 returns-in_err-trim-in-Trim-clause-refusal g c =
     let p = err_from_is_err_and c.from_residual-in_err-trim-in-Trim.result c.from_residual-in_err-trim-in-Trim.ensures.1 in
     let is = c.in_err-trim-in-Trim.ensures in
-    rw (p.1, p.2, c.in-Trim.is) (trim_refused c.args.input.now c.in-Trim.source.now c.in-Trim.target.now (option_map (λ t. t.now) c.in-Trim.realloc) c.in-Trim.page_size_log2 _ _ is.fault is.place)
+    rw (p.1, p.2, c.in-Trim.is) (trim_refused c.args.input.now c.in-Trim.source.now c.in-Trim.target.now (option_map (λ t. t.now) c.in-Trim.realloc) c.in-Trim.page _ _ is.fault is.place)
 
 pub returns-in_ok-trim-in-Trim-clause-done : goal.returns-in_ok-trim-in-Trim-clause-done
 returns-in_ok-trim-in-Trim-clause-done g c =

@@ -12,5 +12,5 @@ returns-in-Err-Memory-clause-fault g c =
     let fails = store.read_fails c.args.files.now in
     let failed = subst (λ p. FailsBy (fails c.source-source.result.now) p) c.in-Err-Memory.field-0-is c.in-Err-Memory.ensures.problem in
     too_large (command_view c.args.command.now) (file_change store.held store.read_fails store.write_fails c.args.files.now c.args.files.now)
-    (Becomes (output_ends g.O.Sink.written g.O.Output.sent g.O.Sink.is_failed) c.args.out.now c.args.out.now) c.too_large.result c.too_large.ensures
+    (Becomes (output_ends g.O.Sink.written g.O.Output.sent g.O.Sink.is_failed) c.args.out.now c.args.out.now)
     (subst (λ path. FailsBy (fails path) Memory) c.source-source.ensures failed) refl refl

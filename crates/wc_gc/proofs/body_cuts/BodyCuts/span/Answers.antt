@@ -1,6 +1,6 @@
 use Rattle.std.proofs.Common.{refl}
 use Rattle.std.proofs.lemmas.Option.{slice_get_read}
-use Rattle.wc_gc.proofs.ReachLemmas.{no_item}
+use Rattle.wc_graph.proofs.ListLemmas.{no_item}
 use Rattle.wc_gc.proofs.body_cuts.BodyCuts.span.Goals as goal
 
 pub returns-in-Some-clause-within : goal.returns-in-Some-clause-within

@@ -1,8 +1,8 @@
 use Rattle.std.proofs.Common.{◌≡◌, ◌≢◌, ◌∷◌, [], refl, sym, ◌∙◌, ap, subst, ◌<◌, ◌≤◌, length, reverse, get_or, rules, arith}
 use Rattle.std.proofs.lemmas.List.{reverse-append, get_or_default}
 use Rattle.std.proofs.lemmas.Option.{slice_get_read}
-use Rattle.wc_gc.specs.ImportChains.{IsFinderChain}
-use Rattle.wc_gc.proofs.FinderChainLemmas.{IsWalked, walk_end, walk_step}
+use Rattle.wc_graph.specs.ShortestChains.{IsFinderChain}
+use Rattle.wc_graph.proofs.FinderChainLemmas.{IsWalked, walk_end, walk_step}
 use Rattle.wc_gc.proofs.LiveChainLemmas.{chain_shown}
 use Rattle.wc_gc.proofs.import_chains.ImportChains.chain.Goals as goal
 

@@ -1,5 +1,5 @@
 use Rattle.std.proofs.Common.{◌<◌, length, reverse}
-use Rattle.wc_gc.proofs.FinderChainLemmas.{IsWalked}
+use Rattle.wc_graph.proofs.FinderChainLemmas.{IsWalked}
 use Rattle.wc_gc.proofs.import_chains.ImportChains.chain.Given as goal
 
 abbrev pub invariant-loop-at : goal.invariant-loop-at

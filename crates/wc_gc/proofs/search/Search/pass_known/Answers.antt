@@ -1,6 +1,6 @@
 use Rattle.std.proofs.Common.{refl, [], true}
 use Rattle.wc_read.specs.BodyOperators.{operators_left}
-use Rattle.wc_gc.specs.Decoded.{decoded_module}
+use Rattle.wc_read.specs.Decoded.{decoded_module}
 use Rattle.wc_gc.proofs.BodyCutLemmas.{none_run}
 use Rattle.wc_gc.proofs.ReachLemmas.{known_code}
 use Rattle.wc_gc.proofs.search.Search.pass_known.Goals as goal

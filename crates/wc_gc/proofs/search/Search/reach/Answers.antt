@@ -1,8 +1,9 @@
 use Rattle.std.proofs.Common.{sym, ◌∙◌, subst, [], ◌∷◌}
 use Rattle.std.proofs.lemmas.Bool.{not-true}
-use Rattle.wc_gc.specs.Private.Search.{HasGrown}
+use Rattle.wc_graph.specs.Growth.{HasGrown}
 use Rattle.wc_gc.specs.Live.{has_item}
-use Rattle.wc_gc.proofs.SearchLemmas.{grown_push, items_decided}
+use Rattle.wc_graph.proofs.GrowthLemmas.{grown_push}
+use Rattle.wc_gc.proofs.SearchLemmas.{items_decided}
 use Rattle.wc_gc.proofs.search.Search.reach.Goals as goal
 
 pub returns-in_ok-push : goal.returns-in_ok-push

@@ -1,8 +1,9 @@
 use Rattle.std.proofs.Common.{◌<◌, ◌≤◌, length, sym, ◌∙◌, refl, arith, inl, inr, rules}
 use Rattle.std.proofs.lemmas.List.{get_or_default}
-use Rattle.wc_gc.specs.Decoded.{decoded_module}
+use Rattle.wc_read.specs.Decoded.{decoded_module}
 use Rattle.wc_gc.specs.Private.Search.{finds}
-use Rattle.wc_gc.proofs.ReachLemmas.{roots_more, start_at, step_at, reached_at, count_at, reached_in_range, all_there, falls_by}
+use Rattle.wc_gc.proofs.ReachLemmas.{roots_more, start_at, step_at, reached_at, count_at, reached_in_range, all_there}
+use Rattle.wc_graph.proofs.ListLemmas.{falls_by}
 use Rattle.wc_gc.proofs.TrimPlaceLemmas.{refused_at}
 use Rattle.wc_gc.proofs.ItemCountLemmas.{bounded_found, total}
 use Rattle.wc_read.specs.declared.operators.Space.TheVariants.{Types}

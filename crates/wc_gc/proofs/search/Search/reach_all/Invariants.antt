@@ -1,5 +1,5 @@
 use Rattle.std.proofs.Common.{◌-◌, take}
-use Rattle.wc_gc.specs.Decoded.{decoded_module}
+use Rattle.wc_read.specs.Decoded.{decoded_module}
 use Rattle.wc_gc.specs.Private.KeptBodies.{KeepsCuts}
 use Rattle.wc_gc.specs.Private.Search.{FindsItems, finds}
 use Rattle.wc_gc.proofs.ReachLemmas.{IsAt}

@@ -1,6 +1,8 @@
 use Rattle.std.proofs.Common.{refl, Some, None}
 use Rattle.std.proofs.lemmas.Option.{slice_get_read}
-use Rattle.wc_gc.proofs.ReachLemmas.{type_at, table_at, global_at, no_global_at, no_item, finds_none}
+use Rattle.wc_read.proofs.EntryLemmas.{type_at, table_at, global_at, no_global_at}
+use Rattle.wc_graph.proofs.ListLemmas.{no_item}
+use Rattle.wc_gc.proofs.ReachLemmas.{finds_none}
 use Rattle.wc_gc.proofs.search.Search.reach_and_cut.Goals as goal
 
 pub returns-in_ok-reach_func_type-in-Some-clause-found : goal.returns-in_ok-reach_func_type-in-Some-clause-found

@@ -1,6 +1,6 @@
 use Rattle.std.proofs.Common.{sym, ◌∙◌}
 use Rattle.wc_read.specs.BodyOperators.{init_in}
-use Rattle.wc_gc.specs.Decoded.{decoded_module}
+use Rattle.wc_read.specs.Decoded.{decoded_module}
 use Rattle.wc_gc.proofs.ReachLemmas.{finds_no_init}
 use Rattle.wc_gc.proofs.search.Search.reach_any_init.Goals as goal
 

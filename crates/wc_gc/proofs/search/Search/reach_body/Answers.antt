@@ -2,7 +2,7 @@ use Rattle.std.proofs.Common.{sym, ◌∙◌, [], ◌∷◌, Some, refl, inr}
 use Rattle.std.specs.Option.{option_map}
 use Rattle.wc_read.specs.Operators.{instr_value}
 use Rattle.wc_read.specs.BodyOperators.{body_in, locals_read, operators_left}
-use Rattle.wc_gc.specs.Decoded.{decoded_module}
+use Rattle.wc_read.specs.Decoded.{decoded_module}
 use Rattle.wc_gc.proofs.BodyCutLemmas.{cut_none, cut_more, cut_end}
 use Rattle.wc_gc.proofs.ReachLemmas.{body_start, body_more, body_passed, body_end, body_in_range, body_out_of_range}
 use Rattle.wc_gc.proofs.search.Search.reach_body.Goals as goal

@@ -1,6 +1,6 @@
 use Rattle.std.proofs.Common.{◌≡◌, true, []}
 use Rattle.wc_read.specs.BodyOperators.{body_in, locals_read, operators_left, bytes_left}
-use Rattle.wc_gc.specs.Decoded.{decoded_module}
+use Rattle.wc_read.specs.Decoded.{decoded_module}
 use Rattle.wc_gc.specs.Private.BodyCuts.{AreCutTo}
 use Rattle.wc_gc.proofs.ReachLemmas.{IsBodyFound}
 use Rattle.wc_gc.proofs.search.Search.reach_body.Given as goal

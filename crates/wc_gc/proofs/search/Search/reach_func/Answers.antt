@@ -1,8 +1,8 @@
 use Rattle.std.proofs.Common.{[], ◌∷◌}
 use Rattle.wc_read.specs.declared.operators.Space.TheVariants.{Types}
 use Rattle.wc_read.specs.BodyOperators.{body_in}
-use Rattle.wc_gc.specs.Decoded.{ItemIndex, decoded_module}
-use Rattle.wc_gc.specs.Entries.{body_refs}
+use Rattle.wc_read.specs.Decoded.{ItemIndex, decoded_module}
+use Rattle.wc_read.specs.Entries.{body_refs}
 use Rattle.wc_gc.proofs.BodyCutLemmas.{func_cut, not_local}
 use Rattle.wc_gc.proofs.ReachLemmas.{finds_present_then}
 use Rattle.wc_gc.proofs.search.Search.reach_func.Goals as goal

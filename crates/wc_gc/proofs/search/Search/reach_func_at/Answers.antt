@@ -1,11 +1,13 @@
 use Rattle.std.proofs.Common.{ap, refl}
 use Rattle.std.proofs.lemmas.Option.{slice_get_read}
 use Rattle.wc_read.specs.declared.operators.Space.TheVariants.{Funcs}
-use Rattle.wc_gc.specs.Decoded.{decoded_module}
+use Rattle.wc_read.specs.Decoded.{decoded_module}
 use Rattle.std.proofs.lemmas.Result.{err_from_is_err_and}
 use Rattle.wc_gc.proofs.BodyCutLemmas.{open_at}
 use Rattle.wc_gc.specs.InRange.{is_entry_in_range}
-use Rattle.wc_gc.proofs.ReachLemmas.{func_at, no_func_at, no_item, finds_none}
+use Rattle.wc_read.proofs.EntryLemmas.{func_at, no_func_at}
+use Rattle.wc_graph.proofs.ListLemmas.{no_item}
+use Rattle.wc_gc.proofs.ReachLemmas.{finds_none}
 use Rattle.wc_gc.proofs.search.Search.reach_func_at.Goals as goal
 
 pub returns-in_ok-keep-in-Some-clause-found : goal.returns-in_ok-keep-in-Some-clause-found

@@ -1,6 +1,6 @@
 use Rattle.wc_read.specs.Types.{func_type_value}
-use Rattle.wc_gc.specs.Decoded.{decoded_module}
-use Rattle.wc_gc.specs.Entries.{val_type_refs}
+use Rattle.wc_read.specs.Decoded.{decoded_module}
+use Rattle.wc_read.specs.Entries.{val_type_refs}
 use Rattle.wc_gc.proofs.ReachLemmas.{finds_present}
 use Rattle.wc_gc.proofs.search.Search.reach_func_type.Goals as goal
 

@@ -1,6 +1,6 @@
 use Rattle.std.proofs.Common.{rules, OnOk}
-use Rattle.wc_gc.specs.Decoded.{decoded_module, global_code}
-use Rattle.wc_gc.specs.Entries.{def_refs, init_refs, present}
+use Rattle.wc_read.specs.Decoded.{decoded_module, global_code}
+use Rattle.wc_read.specs.Entries.{def_refs, init_refs, present}
 use Rattle.wc_gc.specs.Private.Search.{FindsItems}
 use Rattle.wc_gc.proofs.ReachLemmas.{finds_global_then}
 use Rattle.wc_gc.proofs.search.Search.reach_global.Goals as goal

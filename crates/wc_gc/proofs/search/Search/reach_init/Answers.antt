@@ -1,6 +1,6 @@
 use Rattle.std.proofs.Common.{List, subst, sym}
-use Rattle.wc_gc.specs.Decoded.{ItemIndex, decoded_module}
-use Rattle.wc_gc.specs.Entries.{present}
+use Rattle.wc_read.specs.Decoded.{ItemIndex, decoded_module}
+use Rattle.wc_read.specs.Entries.{present}
 use Rattle.wc_gc.specs.Private.Search.{FindsItems}
 use Rattle.wc_gc.proofs.ReachLemmas.{init_index_refs}
 use Rattle.wc_gc.proofs.search.Search.reach_init.Goals as goal

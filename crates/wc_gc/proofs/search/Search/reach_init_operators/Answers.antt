@@ -1,6 +1,6 @@
 use Rattle.wc_read.specs.Operators.{instr_value}
 use Rattle.wc_read.specs.InitOperators.{init_left}
-use Rattle.wc_gc.specs.Decoded.{decoded_module}
+use Rattle.wc_read.specs.Decoded.{decoded_module}
 use Rattle.wc_gc.proofs.ReachLemmas.{init_start, init_more, init_end}
 use Rattle.wc_gc.proofs.search.Search.reach_init_operators.Goals as goal
 

@@ -1,5 +1,5 @@
 use Rattle.wc_read.specs.InitOperators.{init_bytes_left, init_left}
-use Rattle.wc_gc.specs.Decoded.{decoded_module}
+use Rattle.wc_read.specs.Decoded.{decoded_module}
 use Rattle.wc_gc.proofs.ReachLemmas.{IsInitFound}
 use Rattle.wc_gc.proofs.search.Search.reach_init_operators.Given as goal
 

@@ -1,4 +1,4 @@
-use Rattle.wc_gc.specs.Decoded.{decoded_module}
+use Rattle.wc_read.specs.Decoded.{decoded_module}
 use Rattle.wc_gc.proofs.ReachLemmas.{index_refs, index_in_range}
 use Rattle.wc_gc.proofs.search.Search.reach_operator.Goals as goal
 

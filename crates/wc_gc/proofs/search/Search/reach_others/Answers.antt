@@ -1,5 +1,5 @@
 use Rattle.wc_read.specs.Operators.{instr_value}
-use Rattle.wc_gc.specs.Decoded.{decoded_module}
+use Rattle.wc_read.specs.Decoded.{decoded_module}
 use Rattle.wc_gc.proofs.ReachLemmas.{finds_named}
 use Rattle.wc_gc.proofs.search.Search.reach_others.Goals as goal
 

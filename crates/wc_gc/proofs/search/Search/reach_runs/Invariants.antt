@@ -1,6 +1,6 @@
 use Rattle.std.proofs.Common.{take}
 use Rattle.wc_read.specs.Bodies.{local_types}
-use Rattle.wc_gc.specs.Decoded.{decoded_module}
+use Rattle.wc_read.specs.Decoded.{decoded_module}
 use Rattle.wc_gc.proofs.ReachLemmas.{AreTypesFound}
 use Rattle.wc_gc.proofs.search.Search.reach_runs.Given as goal
 

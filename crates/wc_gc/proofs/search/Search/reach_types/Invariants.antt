@@ -1,5 +1,5 @@
 use Rattle.std.proofs.Common.{take}
-use Rattle.wc_gc.specs.Decoded.{decoded_module}
+use Rattle.wc_read.specs.Decoded.{decoded_module}
 use Rattle.wc_gc.proofs.ReachLemmas.{AreTypesFound}
 use Rattle.wc_gc.proofs.search.Search.reach_types.Given as goal
 

@@ -1,5 +1,5 @@
 use Rattle.std.proofs.Common.{◌<◌, length, sym, ◌∙◌, rules}
-use Rattle.wc_gc.specs.Decoded.{decoded_module}
+use Rattle.wc_read.specs.Decoded.{decoded_module}
 use Rattle.wc_gc.proofs.TrimPlaceLemmas.{outside_at}
 use Rattle.wc_gc.proofs.trim_place.bodies.first_outside.Goals as goal
 

@@ -1,6 +1,6 @@
 use Rattle.std.proofs.Common.{◌≡◌, take, true}
 use Rattle.wc_read.specs.Operators.{instr_values}
-use Rattle.wc_gc.specs.Decoded.{decoded_module}
+use Rattle.wc_read.specs.Decoded.{decoded_module}
 use Rattle.wc_gc.specs.InRange.{is_code_in_range}
 use Rattle.wc_gc.proofs.trim_place.bodies.first_outside.Given as goal
 

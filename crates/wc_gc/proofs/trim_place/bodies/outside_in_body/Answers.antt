@@ -4,7 +4,7 @@ use Rattle.wc_read.specs.Bodies.{BodyValue, body_value}
 use Rattle.wc_read.specs.Operators.{instr_values}
 use Rattle.wc_read.specs.declared.operators.Instr.{Instr}
 use Rattle.wc_read.proofs.DecodingLemmas.{body_found, body_missing}
-use Rattle.wc_gc.specs.Decoded.{decoded_module}
+use Rattle.wc_read.specs.Decoded.{decoded_module}
 use Rattle.wc_gc.specs.InRange.{is_code_in_range}
 use Rattle.wc_gc.specs.TrimPlace.{IsFirstOutside, IsOperatorPlace}
 use Rattle.wc_gc.proofs.trim_place.bodies.outside_in_body.Goals as goal

@@ -2,10 +2,10 @@ use Rattle.std.proofs.Common.{Option, None, subst, sym, refl}
 use Rattle.std.specs.Prelude.{IfOk}
 use Rattle.std.proofs.lemmas.Option.{slice_get_read}
 use Rattle.wc_read.specs.Bodies.{BodyValue}
-use Rattle.wc_gc.specs.Decoded.{decoded_module}
+use Rattle.wc_read.specs.Decoded.{decoded_module}
 use Rattle.wc_gc.specs.TrimPlace.{IsOperatorPlace}
 use Rattle.wc_gc.proofs.TrimPlaceLemmas.{body_not_there, imported_body, local_body}
-use Rattle.wc_gc.proofs.ReachLemmas.{no_item}
+use Rattle.wc_graph.proofs.ListLemmas.{no_item}
 use Rattle.wc_gc.proofs.trim_place.bodies.outside_operator.Goals as goal
 
 pub returns-in-None : goal.returns-in-None

@@ -1,7 +1,7 @@
 use Rattle.std.proofs.Common.{◌∙◌, map, subst, ap}
 use Rattle.std.specs.List.{slice_get}
 use Rattle.wc_read.specs.Types.{func_type_value}
-use Rattle.wc_gc.specs.Decoded.{func_code}
+use Rattle.wc_read.specs.Decoded.{func_code}
 use Rattle.wc_segments.specs.Elements.{element_value}
 use Rattle.wc_paths.specs.Callers.{table_of}
 use Rattle.wc_paths.specs.Paths.{graph_in}

@@ -3,7 +3,8 @@ use Rattle.wc_paths.specs.Counts.{counts_value}
 use Rattle.wc_paths.specs.Graph.{graph_value}
 use Rattle.wc_paths.specs.Items.{counts_of}
 use Rattle.wc_paths.specs.Numbers.{item_count, numbers_in}
-use Rattle.wc_paths.proofs.DominatorLemmas.{none_marked, none_noted, numbers_marked}
+use Rattle.wc_graph.proofs.DominatorLemmas.{none_marked, none_noted}
+use Rattle.wc_paths.proofs.DominatorLemmas.{numbers_marked}
 use Rattle.wc_paths.proofs.dominators.Dominators.none.Goals as goal
 
 pub returns : goal.returns

@@ -2,9 +2,9 @@ use Rattle.std.proofs.Common.{◌<◌, length, sym, subst, arith}
 use Rattle.std.proofs.lemmas.List.{get_or-take, length-take-le}
 use Rattle.wc_paths.specs.Graph.{graph_value}
 use Rattle.wc_paths.specs.Numbers.{numbers_in}
-use Rattle.wc_paths.specs.Tree.{ArePlaces}
-use Rattle.wc_paths.specs.Private.Ways.{IsCut}
-use Rattle.wc_paths.proofs.ChainWayLemmas.{cut_way}
+use Rattle.wc_graph.specs.Tree.{ArePlaces}
+use Rattle.wc_graph.specs.Private.Ways.{IsCut}
+use Rattle.wc_graph.proofs.ChainWayLemmas.{cut_way}
 use Rattle.wc_paths.proofs.dominators.Dominators.on_chain.Goals as goal
 
 pub slice_bounds-on_way-end : goal.slice_bounds-on_way-end

@@ -3,7 +3,8 @@ use Rattle.wc_paths.specs.Counts.{counts_value}
 use Rattle.wc_paths.specs.Graph.{graph_value}
 use Rattle.wc_paths.specs.Items.{counts_of}
 use Rattle.wc_paths.specs.Numbers.{item_count, numbers_in}
-use Rattle.wc_paths.proofs.DominatorLemmas.{numbers_marked, way_marked, way_within}
+use Rattle.wc_paths.proofs.DominatorLemmas.{numbers_marked}
+use Rattle.wc_graph.proofs.DominatorLemmas.{way_marked, way_within}
 use Rattle.wc_paths.proofs.dominators.Dominators.on_way.Goals as goal
 
 pub invariant_of-result : goal.invariant_of-result

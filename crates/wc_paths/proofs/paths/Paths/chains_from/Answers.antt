@@ -1,6 +1,6 @@
 use Rattle.std.proofs.Common.{◌≡◌, ◌<◌, ◌++◌, ℕ, List, length, get_or, refl, true, ◌∙◌, ap, sym, subst, arith}
-use Rattle.wc_gc.specs.Reached.{IsReachedFrom}
-use Rattle.wc_paths.specs.Chains.{AreChains}
+use Rattle.wc_graph.specs.Reached.{IsReachedFrom}
+use Rattle.wc_graph.specs.Chains.{AreChains}
 use Rattle.wc_paths.specs.Counts.{counts_value}
 use Rattle.wc_paths.specs.Graph.{graph_value}
 use Rattle.wc_paths.specs.Items.{CountsValue, counts_of, is_closed}

@@ -3,8 +3,8 @@ use Rattle.std.specs.Prelude.{All, filter}
 use Rattle.std.specs.List.{range_with_len}
 use Rattle.std.proofs.lemmas.List.Elements.{All-filter}
 use Rattle.wc_paths.specs.Counts.{counts_value}
-use Rattle.wc_paths.specs.OnChains.{AreMarkedTo}
-use Rattle.wc_paths.specs.Private.Places.{is_missing_at, is_set_in}
+use Rattle.wc_graph.specs.OnChains.{AreMarkedTo}
+use Rattle.wc_graph.specs.Private.Places.{is_missing_at, is_set_in}
 use Rattle.wc_paths.proofs.OnPathLemmas.{on_item_by}
 use Rattle.wc_paths.proofs.PathLemmas.{numbers_below, numbers_parts}
 use Rattle.wc_paths.proofs.paths.Paths.on_paths.Goals as goal

@@ -1,6 +1,6 @@
 use Rattle.std.proofs.Common.{◌≡◌, ◌∙◌, ap, map, sym, subst, Some, None, false, true}
-use Rattle.wc_gc.specs.ImportChains.{IsShortestChain}
-use Rattle.wc_paths.specs.Chains.{IsChainAnswer}
+use Rattle.wc_graph.specs.ShortestChains.{IsShortestChain}
+use Rattle.wc_graph.specs.Chains.{IsChainAnswer}
 use Rattle.wc_paths.specs.Counts.{counts_value}
 use Rattle.wc_paths.specs.Items.{counts_of, has_item}
 use Rattle.wc_paths.specs.Numbers.{item_at, item_count, numbers_in, numbers_of}

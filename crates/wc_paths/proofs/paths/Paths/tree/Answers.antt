@@ -1,5 +1,5 @@
 use Rattle.std.proofs.Common.{◌≡◌, ◌<◌, ◌≤◌, ℕ, length, map, get_or, sym, ◌∙◌, ap, subst, Option, refl}
-use Rattle.wc_paths.specs.ChainTree.{IsChainTree, IsInside}
+use Rattle.wc_graph.specs.ChainTree.{IsChainTree, IsInside}
 use Rattle.wc_paths.specs.Counts.{counts_value}
 use Rattle.wc_paths.specs.Private.PathTree.{finders_in, found_in, is_past, item_in, position_in}
 use Rattle.wc_paths.proofs.PathTreeLemmas.{all_there, finders_earlier}

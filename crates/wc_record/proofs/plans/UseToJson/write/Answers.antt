@@ -1,4 +1,4 @@
-use Rattle.wc_json.specs.Shapes.{number_json}
+use Rattle.wc_texts.specs.Shapes.{number_json}
 use Rattle.wc_record.proofs.ShapeLemmas.{no_fields, field_then, object_written, field_is, nullable_same}
 use Rattle.wc_record.proofs.plans.UseToJson.write.Goals as goal
 

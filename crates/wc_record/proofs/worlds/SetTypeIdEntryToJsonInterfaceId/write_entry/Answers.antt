@@ -1,6 +1,6 @@
 use Rattle.std.proofs.Common.{ap, map}
 use Rattle.wc_resolve.specs.Roots.{indices}
-use Rattle.wc_json.specs.Shapes.{array_of, number_json}
+use Rattle.wc_texts.specs.Shapes.{array_of, number_json}
 use Rattle.wc_record.proofs.ShapeLemmas.{no_fields, field_then, object_written, field_is}
 use Rattle.wc_record.proofs.worlds.SetTypeIdEntryToJsonInterfaceId.write_entry.Goals as goal
 

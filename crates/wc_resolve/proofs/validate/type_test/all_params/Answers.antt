@@ -1,5 +1,5 @@
 use Rattle.std.proofs.Common.{rules}
-use Rattle.wc_resolve.specs.Views.{named_view}
+use Rattle.wc_texts.specs.Names.{named_view}
 use Rattle.wc_resolve.proofs.ViewedLemmas.{viewed}
 use Rattle.wc_resolve.proofs.validate.type_test.all_params.Goals as goal
 

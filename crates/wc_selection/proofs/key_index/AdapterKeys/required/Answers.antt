@@ -4,7 +4,7 @@ use Rattle.wc_selection.proofs.KeyIndexLemmas.{required_under}
 use Rattle.wc_selection.proofs.TextListLemmas.{listed_none, listed_there}
 use Rattle.wc_selection.proofs.key_index.AdapterKeys.required.Goals as goal
 use Rattle.wc_selection.specs.KeyIndex.{keys_under}
-use Rattle.wc_selection.specs.Texts.{text_of}
+use Rattle.wc_maps.specs.Texts.{text_of}
 
 pub returns-in-Some : goal.returns-in-Some
 returns-in-Some c q keys are =

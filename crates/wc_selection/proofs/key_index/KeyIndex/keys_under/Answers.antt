@@ -4,7 +4,7 @@ use Rattle.wc_selection.proofs.KeyIndexLemmas.{found_apart, keys_are, positions_
 use Rattle.wc_selection.proofs.key_index.KeyIndex.keys_under.Goals as goal
 use Rattle.wc_selection.specs.KeyIndex.{AreApart, keys_under}
 use Rattle.wc_selection.specs.Keys.{named_key}
-use Rattle.wc_selection.specs.Texts.{text_of}
+use Rattle.wc_maps.specs.Texts.{text_of}
 
 pub keys_at-requires : goal.keys_at-requires
 keys_at-requires c =

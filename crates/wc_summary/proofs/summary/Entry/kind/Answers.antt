@@ -4,7 +4,7 @@ use Rattle.std.specs.List.{list_any}
 use Rattle.std.proofs.lemmas.List.{length-map}
 use Rattle.wc_summary.specs.Summary.{kind_by, part_view, stays_in}
 use Rattle.wc_summary.specs.declared.summary.AdapterPart.{AdapterPart}
-use Rattle.wc_resolve.proofs.ContentLemmas.{any_viewed}
+use Rattle.wc_maps.proofs.ListLemmas.{any_viewed}
 use Rattle.wc_summary.proofs.summary.Entry.kind.Goals as goal
 
 pub returns : goal.returns

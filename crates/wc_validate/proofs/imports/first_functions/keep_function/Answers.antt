@@ -2,7 +2,7 @@ use Rattle.std.proofs.Common.{ℕ, List, OnOk, ◌++◌, [], map, subst}
 use Rattle.std.specs.List.{cons_option}
 use Rattle.std.specs.Option.{option_map}
 use Rattle.wc_read.specs.Types.{FuncTypeValue}
-use Rattle.wc_resolve.specs.Views.{named_view}
+use Rattle.wc_texts.specs.Names.{named_view}
 use Rattle.wc_validate.specs.Private.Imports.AdapterFunctions.{HasFirsts}
 use Rattle.wc_validate.proofs.imports.first_functions.keep_function.Goals as goal
 

@@ -1,12 +1,12 @@
 use Rattle.std.proofs.Common.{All, Some, ap, subst, sym}
-use Rattle.wc_plan.specs.Calls.{IsNameable}
+use Rattle.wc_world.specs.Nameable.{IsNameable}
 use Rattle.wc_resolve.specs.Kinds.{ResolveView}
 use Rattle.wc_validate.specs.Imports.Map.{imports_in}
 use Rattle.wc_world.specs.Slots.{imports_of}
 use Rattle.wc_ways.specs.Private.Adapters.{IsSaidAlone, marks_at}
 use Rattle.wc_ways.specs.Private.Marked.{shown_by}
 use Rattle.wc_ways.specs.Ways.{AreLibraryPaths, recorded_paths}
-use Rattle.wc_component_tree.proofs.WalkLemmas.{says_known}
+use Rattle.wc_tree.proofs.WalkLemmas.{says_known}
 use Rattle.wc_ways.proofs.forms.AnyForm.put_alone.Goals as goal
 
 pub recorded_paths-requires : goal.recorded_paths-requires

@@ -1,7 +1,7 @@
 use Rattle.std.proofs.Common.{refl}
 use Rattle.wc_ways.specs.Private.Adapters.{IsSaidAlone}
 use Rattle.wc_ways.specs.Private.Found.{AreFoundInLibrary}
-use Rattle.wc_component_tree.specs.Found.{found_view}
+use Rattle.wc_tree.specs.Found.{found_view}
 use Rattle.wc_ways.proofs.FoundLemmas.{module_said}
 use Rattle.wc_ways.proofs.found.FoundForm.put_alone.Goals as goal
 

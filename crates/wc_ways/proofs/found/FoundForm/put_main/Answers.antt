@@ -1,6 +1,6 @@
 use Rattle.std.proofs.Common.{refl}
 use Rattle.wc_ways.specs.Private.Found.{AreFoundInMain}
-use Rattle.wc_component_tree.specs.Found.{found_view}
+use Rattle.wc_tree.specs.Found.{found_view}
 use Rattle.wc_ways.specs.Private.MainWays.{key_of, world_of}
 use Rattle.wc_ways.proofs.FoundLemmas.{module_said}
 use Rattle.wc_ways.proofs.found.FoundForm.put_main.Goals as goal

@@ -1,7 +1,7 @@
 use Rattle.std.proofs.Common.{refl}
 use Rattle.wc_ways.specs.Private.Adapters.{key_in, original_in}
 use Rattle.wc_ways.specs.Private.Found.{AreFoundIn}
-use Rattle.wc_component_tree.specs.Found.{found_view}
+use Rattle.wc_tree.specs.Found.{found_view}
 use Rattle.wc_ways.proofs.FoundLemmas.{module_said}
 use Rattle.wc_ways.proofs.found.FoundForm.put_walk.Goals as goal
 

@@ -3,7 +3,7 @@ use Rattle.wc_read.specs.Names.{name_entries}
 use Rattle.wc_why.specs.Paths.{unfollowed}
 use Rattle.wc_why.specs.declared.paths.Unfollowed.TheVariants.{Unreached}
 use Rattle.wc_ways.specs.Private.MainPaths.{AreItemSteps, AreStepsIn}
-use Rattle.wc_component_tree.specs.Keys.{Key}
+use Rattle.wc_tree.specs.Keys.{Key}
 use Rattle.wc_ways.proofs.MainLemmas.{made_as, steps_found, steps_missing}
 use Rattle.wc_ways.proofs.main_paths.MainPaths.steps.Goals as goal
 

@@ -1,7 +1,7 @@
 use Rattle.std.proofs.Common.{ap, sym, [], ◌∙◌, map}
 use Rattle.std.proofs.lemmas.List.{nil_from_length}
 use Rattle.wc_validate.specs.Imports.FirstFunctions.{first_functions, position_entries, positions_under}
-use Rattle.wc_resolve.specs.Views.{named_view}
+use Rattle.wc_texts.specs.Names.{named_view}
 use Rattle.wc_validate.specs.Imports.Instances.{instance_view}
 use Rattle.wc_validate.proofs.FirstFunctionLemmas.{none_added, value_put}
 use Rattle.wc_validate.proofs.imports.first_functions.FirstFunctions.add_module.Goals as goal

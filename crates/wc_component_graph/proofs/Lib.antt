@@ -1,3 +1,0 @@
-mod LinkLemmas
-mod LaidLemmas
-mod MarkLemmas

@@ -1,4 +1,0 @@
-pub mod Lists
-pub mod Parts
-pub mod Marks
-pub mod Private

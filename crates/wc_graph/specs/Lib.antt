@@ -1,0 +1,16 @@
+pub mod Growth
+pub mod Reached
+pub mod ShortestChains
+pub mod Finders
+pub mod Tree
+pub mod Search
+pub mod Chains
+pub mod ChainMarks
+pub mod OnChains
+pub mod ChainTree
+pub mod Dominators
+pub mod Positions
+pub mod Labels
+pub mod Alone
+pub mod Leads
+pub mod Private

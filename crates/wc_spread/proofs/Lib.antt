@@ -1,4 +1,0 @@
-pub mod AloneLemmas
-pub mod LabelLemmas
-pub mod LeadLemmas
-pub mod MarkLemmas

@@ -1,0 +1,3 @@
+-- What the examples' contracts cite.
+pub mod World
+pub mod Gc

@@ -1,0 +1,37 @@
+//! An example of `wc_encoder`.
+
+ghost use Rattle.std.specs.Prelude.{◌≡◌, ◌<◌, IfOk, IsErrOf, length};
+ghost use Rattle.wc_encoder.specs.WellFormed.{IsWellFormed};
+
+use std::alloc::Global;
+use wc_encoder::{ComponentEncoder, EncoderFault, EncoderParts, Metadata};
+use wc_maps::{Map, Seed, Set};
+use wc_resolve::{Resolve, WorldId};
+
+/// An encoder of a main module without adapters, for a world of `resolve`. `seed` is that of its maps, which a program
+/// draws by `Seed::drawn(&rt)`.
+pub(crate) fn encoder_for(
+    alloc: Global,
+    seed: Seed,
+    main_module: Vec<u8>,
+    resolve: Resolve,
+    world: WorldId,
+) -> Result<ComponentEncoder, EncoderFault>
+    ensures module { IfOk result (λ e. e.module_bytes ≡ main_module.items) }
+    ensures world { IfOk result (λ e. (e.resolve ≡ resolve) × (e.world ≡ world.0)) }
+    ensures well_formed { IfOk result IsWellFormed }
+    ensures unknown { IsErrOf result EncoderFault.UnknownWorld
+        → ¬ (world.0 < length resolve.worlds) }
+{
+    let parts = EncoderParts {
+        module: main_module,
+        module_import_map: None,
+        metadata: Metadata { resolve, world },
+        main_module_exports: Set::with_hasher(alloc, seed),
+        adapters: Map::with_hasher(alloc, seed),
+        reject_legacy_names: false,
+        realloc_via_memory_grow: false,
+        task_hook: String::new(alloc),
+    };
+    ComponentEncoder::build(alloc, parts)
+}

@@ -1,2 +1,0 @@
-pub mod PlanViews
-pub mod Views

@@ -1,0 +1,17 @@
+pub mod Arguments
+pub mod Reading
+pub mod Fault
+pub mod Nearest
+pub mod Exporters
+pub mod ExplainedPart
+pub mod Listing
+pub mod ExporterFault
+pub mod SharedKeys
+pub mod AdapterNames
+pub mod Details
+pub mod Explained
+pub mod FileNames
+pub mod ModuleKeys
+pub mod Asked
+pub mod Inputs
+pub mod Private

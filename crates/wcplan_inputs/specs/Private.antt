@@ -1,0 +1,6 @@
+-- Words of contracts of private functions. No contract of a public function cites these, directly or through others.
+pub mod Causes
+pub mod Exporters
+pub mod SharedKeys
+pub mod AdapterFiles
+pub mod Inputs

@@ -1,0 +1,10 @@
+mod JoinedLemmas
+mod ArgumentLemmas
+mod LineLemmas
+mod TreeLemmas
+mod ExecutionLemmas
+mod AdapterNameLemmas
+mod InputLemmas
+mod ModuleWayLemmas
+mod RunLemmas
+mod NearExportLemmas

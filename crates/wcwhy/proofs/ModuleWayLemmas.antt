@@ -1,0 +1,171 @@
+-- What was printed of a main module and its adapters, or why it could not be.
+use Rattle.std.proofs.Common.{◌≡◌, ℕ, List, Contains, String, Global, string_bytes, Option, Some, None, Result, Ok, Err, OnOk, IfErr, refl, sym, subst, inl, inr}
+use Rattle.wc_gc.specs.declared.fault.GcFault.{GcFault}
+use Rattle.wc_gc.specs.declared.fault.GcFault.TheVariants.{Memory as gc_memory}
+use Rattle.wc_gc.specs.declared.trim_place.TrimPlace.{TrimPlace}
+use Rattle.wc_import_paths.specs.Patterns.{PatternView, first_unknown, pattern_view}
+use Rattle.wc_module_ways.specs.Adapters.{AdapterView, Given}
+use Rattle.wc_module_ways.specs.Main.{IsMainRefusal}
+use Rattle.wc_module_ways.specs.Modules.{InputView, IsModules, ModulesView, imports_of}
+use Rattle.wc_module_ways.specs.Names.{NamePair}
+use Rattle.wc_module_ways.specs.Refusals.{IsReadRefusal, IsWaysRefusal, adapter_in}
+use Rattle.wc_module_ways.specs.declared.refusals.ModulesRefusal.{ModulesRefusal}
+use Rattle.wc_program.specs.Screen.{Printing, nothing, printed}
+use Rattle.wcwhy.specs.Arguments.{CommandView}
+use Rattle.wcwhy.specs.Fault.{IsAdapterFault, IsNamedFault, IsSourceFault, of_adapter, of_source}
+use Rattle.wcwhy.specs.ModuleWays.{ArePrinted, IsAdapterRefusal, IsModulesCause, IsUnfollowed, modules_input, IsShown}
+use Rattle.wcwhy.specs.NearExports.{IsNearFor}
+use Rattle.wcwhy.specs.Private.Execution.{PrintsSome}
+use Rattle.wcwhy.specs.Private.ModuleWays.{AreKnownPrinted, IsKnownCause, IsModulesFault, IsModulesFaultOf, IsPutFault, IsUnknownOf, IsWaysCause, IsWaysFault, IsWaysFaultOf}
+use Rattle.wcwhy.specs.declared.fault.WhyFault.{WhyFault}
+use Rattle.wcwhy.specs.declared.fault.WhyFault.TheVariants.{Memory, Adapter, NoImport, Output}
+
+-- the modules of a command
+pub given_is : (c : CommandView) (main m : List ℕ) (exports : List (List ℕ)) (adapters given : List Given) (asked : List NamePair) → m ≡ main → exports ≡ c.exports
+    → given ≡ adapters → asked ≡ c.adapter_exports
+    → ◌≡◌ {A = InputView} (record { main = m; exports = exports; adapters = given; adapter_exports = asked }) (modules_input c main adapters)
+given_is c main m exports adapters given asked a b d e = λ t. record { main = a t; exports = b t; adapters = d t; adapter_exports = e t }
+
+-- ---- faults of a want of memory
+
+named_memory : (name : List ℕ) (place : Option TrimPlace) (near : Option (String Global)) (fault : WhyFault) → IsNamedFault name gc_memory place near fault
+    → fault ≡ Memory
+named_memory name place near fault (inl none) = none
+named_memory name place near fault (inr (n, is, of)) = of
+
+adapter_memory : (name bytes : List ℕ) (place : Option TrimPlace) (fault : WhyFault) → IsAdapterFault name bytes gc_memory place fault → fault ≡ Memory
+adapter_memory name bytes place fault (inl none) = none
+adapter_memory name bytes place fault (inr (near, is, named)) = named_memory name place near fault named
+
+source_memory : (bytes : List ℕ) (place : Option TrimPlace) (fault : WhyFault) → IsSourceFault bytes gc_memory place fault → fault ≡ Memory
+source_memory bytes place fault (inl none) = none
+source_memory bytes place fault (inr (near, is, of)) = of
+
+modules_memory : (main : List ℕ) (o : Option Given) (place : Option TrimPlace) (fault : WhyFault) → IsModulesFaultOf main o gc_memory place fault
+    → fault ≡ Memory
+modules_memory main None place fault h = source_memory main place fault h
+modules_memory main (Some g) place fault h = adapter_memory g.0 g.1 place fault h
+
+ways_memory : (o : Option Given) (place : Option TrimPlace) (fault : WhyFault) → IsWaysFaultOf o gc_memory place fault → fault ≡ Memory
+ways_memory None place fault h = h
+ways_memory (Some g) place fault h = adapter_memory g.0 g.1 place fault h
+
+-- ---- modules that can't be read
+
+module _ (c : CommandView) (i : InputView) (out : Printing → Type 0) (still : out nothing) where
+  main_with : (f : GcFault) (place : Option TrimPlace) (near : Option (String Global)) → IsMainRefusal i.main i.exports f place → IsNearFor i.main f near
+      → IsModulesCause c i out (of_source f place near)
+  main_with gc_memory place near h is = tt
+  main_with f place near h is = (((λ e. cc), h, is), still)
+
+  main_cause : (f : GcFault) (place : Option TrimPlace) (fault : WhyFault) → IsMainRefusal i.main i.exports f place → IsSourceFault i.main f place fault
+      → IsModulesCause c i out fault
+  main_cause f place fault h (inl none) = subst (IsModulesCause c i out) (sym none) tt
+  main_cause f place fault h (inr (near, near_is, is)) = subst (IsModulesCause c i out) (sym is) (main_with f place near h near_is)
+
+  adapter_with : (g : Given) (n : String Global) (f : GcFault) (place : Option TrimPlace) (near : Option (String Global)) → string_bytes n ≡ g.0
+      → IsAdapterRefusal i g f place → IsNearFor g.1 f near → IsModulesCause c i out (of_adapter n f place near)
+  adapter_with g n gc_memory place near named h is = tt
+  adapter_with g n f place near named h is = (((λ e. cc), g, named, h, is), still)
+
+  named_cause : (g : Given) (f : GcFault) (place : Option TrimPlace) (near : Option (String Global)) (fault : WhyFault) → IsAdapterRefusal i g f place
+      → IsNearFor g.1 f near → IsNamedFault g.0 f place near fault → IsModulesCause c i out fault
+  named_cause g f place near fault h is (inl none) = subst (IsModulesCause c i out) (sym none) tt
+  named_cause g f place near fault h is (inr (n, named, of)) = subst (IsModulesCause c i out) (sym of) (adapter_with g n f place near named h is)
+
+  adapter_cause : (g : Given) (f : GcFault) (place : Option TrimPlace) (fault : WhyFault) → IsAdapterRefusal i g f place → IsAdapterFault g.0 g.1 f place fault
+      → IsModulesCause c i out fault
+  adapter_cause g f place fault h (inl none) = subst (IsModulesCause c i out) (sym none) tt
+  adapter_cause g f place fault h (inr (near, is, named)) = named_cause g f place near fault h is named
+
+  pub read_cause : (r : ModulesRefusal) (fault : WhyFault) → IsReadRefusal i.main i.exports i.adapters r → IsModulesFault i.main r fault
+      → IsModulesCause c i out fault
+  read_cause r fault (inl (none, refused)) is =
+      main_cause r.fault r.place fault refused (subst (λ o. IsModulesFaultOf i.main o r.fault r.place fault) none is)
+  read_cause r fault (inr (inl memory)) is =
+      subst (IsModulesCause c i out) (sym (modules_memory i.main (adapter_in r) r.place fault
+      (subst (λ f. IsModulesFaultOf i.main (adapter_in r) f r.place fault) memory is))) tt
+  read_cause r fault (inr (inr (g, has, refused))) is =
+      adapter_cause g r.fault r.place fault (inl (has, refused.1)) (subst (λ o. IsModulesFaultOf i.main o r.fault r.place fault) refused.0 is)
+
+-- ---- modules that can't be followed
+
+module _ (w : ModulesView) (out : Printing → Type 0) (still : out nothing) where
+  unfollowed_with : (g : Given) (n : String Global) (f : GcFault) (place : Option TrimPlace) (near : Option (String Global)) → string_bytes n ≡ g.0
+      → IsUnfollowed w g f place → IsNearFor g.1 f near → IsWaysCause w out (of_adapter n f place near)
+  unfollowed_with g n gc_memory place near named h is = tt
+  unfollowed_with g n f place near named h is = (((λ e. cc), g, named, h, is), still)
+
+  unfollowed_named : (g : Given) (f : GcFault) (place : Option TrimPlace) (near : Option (String Global)) (fault : WhyFault) → IsUnfollowed w g f place
+      → IsNearFor g.1 f near → IsNamedFault g.0 f place near fault → IsWaysCause w out fault
+  unfollowed_named g f place near fault h is (inl none) = subst (IsWaysCause w out) (sym none) tt
+  unfollowed_named g f place near fault h is (inr (n, named, of)) = subst (IsWaysCause w out) (sym of) (unfollowed_with g n f place near named h is)
+
+  unfollowed_cause : (g : Given) (f : GcFault) (place : Option TrimPlace) (fault : WhyFault) → IsUnfollowed w g f place → IsAdapterFault g.0 g.1 f place fault
+      → IsWaysCause w out fault
+  unfollowed_cause g f place fault h (inl none) = subst (IsWaysCause w out) (sym none) tt
+  unfollowed_cause g f place fault h (inr (near, is, named)) = unfollowed_named g f place near fault h is named
+
+  pub ways_cause : (adapters : List AdapterView) → adapters ≡ w.adapters → (r : ModulesRefusal) (fault : WhyFault) → IsWaysRefusal adapters r → IsWaysFault r fault
+      → IsWaysCause w out fault
+  ways_cause adapters are r fault (inl memory) is =
+      subst (IsWaysCause w out) (sym (ways_memory (adapter_in r) r.place fault (subst (λ f. IsWaysFaultOf (adapter_in r) f r.place fault) memory is))) tt
+  ways_cause adapters are r fault (inr (a, has, refused)) is =
+      unfollowed_cause (a.name, a.bytes) r.fault r.place fault (a, subst (λ l. Contains l a) are has, refl, refused.1, refused.2)
+      (subst (λ o. IsWaysFaultOf o r.fault r.place fault) refused.0 is)
+
+-- ---- what was printed of modules, or why it could not be
+
+put_cause : (w : ModulesView) (out : Printing → Type 0) (f : WhyFault) → IsPutFault out f → IsWaysCause w out f
+put_cause w out Output h = h
+put_cause w out f h = absurd h
+
+pub unknown_cause : (c : CommandView) (w : ModulesView) (out : Printing → Type 0) (patterns : List PatternView) (f : WhyFault) → out nothing
+    → patterns ≡ c.imports → IsUnknownOf (imports_of w) patterns f → IsKnownCause c w out f
+unknown_cause c w out patterns Memory still are h = tt
+unknown_cause c w out patterns (NoImport p near) still are h =
+    ((subst (λ l. first_unknown (imports_of w) l ≡ Some (pattern_view p)) are h.0, h.1), still)
+unknown_cause c w out patterns f still are h = absurd h
+
+known_cause : (c : CommandView) (w : ModulesView) (out : Printing → Type 0) (f : WhyFault) → IsWaysCause w out f → IsKnownCause c w out f
+known_cause c w out (NoImport p near) h = absurd h.0
+known_cause c w out f h = h
+
+pub ways_known : {T : Type 0} (c : CommandView) (w : ModulesView) (out : Printing → Type 0) (r : Result T WhyFault) → IfErr r (IsWaysCause w out)
+    → IfErr r (IsKnownCause c w out)
+ways_known c w out (Ok x) h = tt
+ways_known c w out (Err f) h = known_cause c w out f h
+
+pub ways_printed : {T : Type 0} (c : CommandView) (w : ModulesView) (patterns : List PatternView) (out : Printing → Type 0) (r : Result T WhyFault)
+    → patterns ≡ c.imports → first_unknown (imports_of w) patterns ≡ None → OnOk r (PrintsSome (IsShown c w patterns) out)
+    → OnOk r (AreKnownPrinted c w out)
+ways_printed c w patterns out (Ok x) are known (text, is, shown) =
+    (text, subst (λ l. first_unknown (imports_of w) l ≡ None) are known, subst (λ l. IsShown c w l text) are is, shown)
+ways_printed c w patterns out (Err f) are known h = tt
+
+module _ (c : CommandView) (i : InputView) (w : ModulesView) (is : IsModules i w) (out : Printing → Type 0) where
+  pub known_printed : {T : Type 0} (r : Result T WhyFault) → OnOk r (AreKnownPrinted c w out) → OnOk r (PrintsSome (ArePrinted c i) out)
+  known_printed (Ok x) (text, known, shows, shown) = (text, record { modules = w; are = is; known = known; is = shows }, shown)
+  known_printed (Err f) h = tt
+
+  modules_cause : (f : WhyFault) → IsKnownCause c w out f → IsModulesCause c i out f
+  modules_cause Memory h = tt
+  modules_cause Output h = h
+  modules_cause (NoImport p near) h = ((w, is, h.0), h.1)
+  modules_cause (Adapter name f place near) h = ((h.0.0, h.0.1, h.0.2, inr (w, is, h.0.3), h.0.4), h.1)
+  modules_cause f h = absurd h.0
+
+  pub known_failed : {T : Type 0} (r : Result T WhyFault) → IfErr r (IsKnownCause c w out) → IfErr r (IsModulesCause c i out)
+  known_failed (Ok x) h = tt
+  known_failed (Err f) h = modules_cause f h
+
+-- ---- a text that was put
+
+pub put_printed : {T : Type 0} (Is : List ℕ → Type 0) (out : Printing → Type 0) (text put : List ℕ) (r : Result T WhyFault) → put ≡ text → Is text
+    → OnOk r (out (printed put)) → OnOk r (PrintsSome Is out)
+put_printed Is out text put (Ok x) same is shown = (text, is, subst (λ t. out (printed t)) same shown)
+put_printed Is out text put (Err f) same is shown = tt
+
+pub put_failed : {T : Type 0} (w : ModulesView) (out : Printing → Type 0) (r : Result T WhyFault) → IfErr r (IsPutFault out) → IfErr r (IsWaysCause w out)
+put_failed w out (Ok x) h = tt
+put_failed w out (Err f) h = put_cause w out f h

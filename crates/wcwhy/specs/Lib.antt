@@ -1,0 +1,14 @@
+pub mod Arguments
+pub mod Reading
+pub mod Usage
+pub mod Texts
+pub mod Patterns
+pub mod Lines
+pub mod NearExports
+pub mod Fault
+pub mod Tree
+pub mod AdapterNames
+pub mod Inputs
+pub mod ModuleWays
+pub mod Program
+pub mod Private

@@ -1,0 +1,84 @@
+-- What is printed of a main module and its adapters.
+use Rattle.std.specs.Prelude.{◌≡◌, ◌≢◌, ◌⊎◌, ⊤, ℕ, Bool, true, false, Contains, List, Option, Some, None, String, string_bytes}
+use Rattle.std.specs.Option.{option_map}
+use Rattle.std.specs.declared.alloc.Global.{Global}
+use Rattle.wc_gc.specs.LiveItems.{IsFault}
+use Rattle.wc_gc.specs.TrimPlace.{IsExplained}
+use Rattle.wc_gc.specs.declared.fault.GcFault.{GcFault}
+use Rattle.wc_gc.specs.declared.fault.GcFault.TheVariants.{Memory as gc_memory}
+use Rattle.wc_gc.specs.declared.trim_place.TrimPlace.{TrimPlace}
+use Rattle.wc_import_paths.specs.Patterns.{PatternView, first_unknown, pattern_view}
+use Rattle.wc_import_paths.specs.declared.patterns.ImportPattern.{ImportPattern}
+use Rattle.wc_module_ways.specs.Adapters.{AdapterView, Given, search_input}
+use Rattle.wc_module_ways.specs.Imports.{IsImportsJson, IsImportsText}
+use Rattle.wc_module_ways.specs.Main.{IsMainRefusal}
+use Rattle.wc_module_ways.specs.Modules.{InputView, IsModules, ModulesView, imports_of}
+use Rattle.wc_module_ways.specs.Refusals.{IsAdapterUnread}
+use Rattle.wc_module_ways.specs.Tree.{IsTreeGraph, IsTreeJson}
+use Rattle.wc_module_ways.specs.Ways.{IsText}
+use Rattle.wc_program.specs.Screen.{Printing, nothing, failed}
+use Rattle.wc_read.specs.Imports.{ImportValue}
+use Rattle.wcwhy.specs.Arguments.{CommandView}
+use Rattle.wcwhy.specs.Fault.{near_text}
+use Rattle.wcwhy.specs.NearExports.{IsNearFor}
+use Rattle.wcwhy.specs.declared.fault.WhyFault.{WhyFault}
+use Rattle.wcwhy.specs.declared.fault.WhyFault.TheVariants.{Memory, Source, Adapter, NoImport, Output}
+
+-- the modules of a command, whose files have these bytes
+abbrev pub modules_input : CommandView → List ℕ → List Given → InputView
+modules_input c main adapters = record { main = main; exports = c.exports; adapters = adapters; adapter_exports = c.adapter_exports }
+
+-- what modules import, by interfaces, as JSON or as lines
+abbrev pub IsSummary : Bool → ModulesView → List ℕ → Type 0
+IsSummary true w text = IsImportsJson w text
+IsSummary false w text = IsImportsText w text
+
+-- the paths through them, as a graph, as JSON or as lines
+abbrev pub AreWays : Bool → Bool → ModulesView → List PatternView → List ℕ → Type 0
+AreWays true json w patterns text = IsTreeGraph w patterns text
+AreWays false true w patterns text = IsTreeJson w patterns text
+AreWays false false w patterns text = IsText w patterns text
+
+-- what a command asks to print of them
+abbrev pub IsShownBy : Bool → CommandView → ModulesView → List PatternView → List ℕ → Type 0
+IsShownBy true c w patterns text = IsSummary c.json w text
+IsShownBy false c w patterns text = AreWays c.dot c.json w patterns text
+
+abbrev pub IsShown : CommandView → ModulesView → List PatternView → List ℕ → Type 0
+IsShown c w patterns text = IsShownBy c.summary c w patterns text
+
+-- what is printed of modules: they have some of the imports that each option asks for
+pub record ArePrinted (c : CommandView) (i : InputView) (text : List ℕ) : Type 0 where
+  pub modules : ModulesView
+  pub are : IsModules i modules
+  pub known : first_unknown (imports_of modules) c.imports ≡ None
+  pub is : IsShown c modules c.imports text
+
+-- the first option that asks for none of these imports, and what is there in their place
+abbrev pub IsNoImport : List ImportValue → List PatternView → ImportPattern → Option (String Global) → Type 0
+IsNoImport imports patterns p near =
+    (first_unknown imports patterns ≡ Some (pattern_view p)) × (option_map string_bytes near ≡ near_text imports (pattern_view p))
+
+-- an adapter of modules is refused: what is required of it can't be followed
+abbrev pub IsUnfollowed : ModulesView → Given → GcFault → Option TrimPlace → Type 0
+IsUnfollowed w g f place =
+    (a : AdapterView) × Contains w.adapters a × (g ≡ (a.name, a.bytes)) × IsFault (search_input a) f × IsExplained (search_input a) f place
+
+-- an adapter is refused: its bytes are no module; or it is one of the modules, and can't be followed
+abbrev pub IsAdapterRefusal : InputView → Given → GcFault → Option TrimPlace → Type 0
+IsAdapterRefusal i g f place =
+    (Contains i.adapters g × IsAdapterUnread g.1 f place) ⊎ ((w : ModulesView) × IsModules i w × IsUnfollowed w g f place)
+
+-- why nothing is printed of modules
+abbrev pub AreRefused : CommandView → InputView → WhyFault → Type 0
+AreRefused c i (Source f place near) = (f ≢ gc_memory) × IsMainRefusal i.main i.exports f place × IsNearFor i.main f near
+AreRefused c i (Adapter name f place near) =
+    (f ≢ gc_memory) × (g : Given) × (string_bytes name ≡ g.0) × IsAdapterRefusal i g f place × IsNearFor g.1 f near
+AreRefused c i (NoImport p near) = (w : ModulesView) × IsModules i w × IsNoImport (imports_of w) c.imports p near
+AreRefused c i f = ⊥
+
+-- why modules could not be printed of
+abbrev pub IsModulesCause : CommandView → InputView → (Printing → Type 0) → WhyFault → Type 0
+IsModulesCause c i out Memory = ⊤
+IsModulesCause c i out Output = out failed
+IsModulesCause c i out f = AreRefused c i f × out nothing

@@ -1,0 +1,48 @@
+-- What parts of a run of a command do.
+use Rattle.std.specs.Prelude.{◌≡◌, ◌⊎◌, ⊤, ℕ, List, None, string_bytes}
+use Rattle.std.specs.Option.{option_map}
+use Rattle.wc_read.specs.Imports.{ImportValue}
+use Rattle.wc_read.specs.Modules.{module_value}
+use Rattle.wc_program.specs.Screen.{Printing, nothing, printed, failed}
+use Rattle.wc_options.specs.Wrong.{help, version, wrong, wrong_view}
+use Rattle.wc_import_paths.specs.Patterns.{first_unknown, pattern_view}
+use Rattle.wcwhy.specs.Arguments.{CommandView}
+use Rattle.wcwhy.specs.Fault.{near_text}
+use Rattle.wcwhy.specs.ModuleWays.{IsNoImport}
+use Rattle.wcwhy.specs.Program.{EndsWithoutMemory, StopEnds}
+use Rattle.wcwhy.specs.Private.Followed.{IsSourceText}
+use Rattle.wc_import_paths.specs.declared.followed.Followed.{Followed}
+use Rattle.wc_import_paths.specs.declared.patterns.ImportPattern.{ImportPattern}
+use Rattle.wc_options.specs.declared.wrong.NoCommand.{NoCommand}
+use Rattle.wc_options.specs.declared.wrong.NoCommand.TheVariants.{Memory, Help, Version, Wrong}
+use Rattle.wcwhy.specs.declared.fault.WhyFault.{WhyFault}
+use Rattle.wcwhy.specs.declared.fault.WhyFault.TheVariants.{Memory as why_memory, NoImport, Output}
+
+-- what is printed where there is no command; there may have been no memory for it
+abbrev pub AnswersStop : NoCommand → (Printing → Type 0) → (Printing → Type 0) → ℕ → Type 0
+AnswersStop Memory out err status = EndsWithoutMemory out err status
+AnswersStop Help out err status = StopEnds help out err status
+AnswersStop Version out err status = StopEnds version out err status
+AnswersStop (Wrong w) out err status = StopEnds (wrong (wrong_view w)) out err status ⊎ EndsWithoutMemory out err status
+
+-- a module that is followed has some of the imports that each option asks for, and what is asked for is printed of it
+abbrev pub IsSourcePrinted : CommandView → Followed → (Printing → Type 0) → Type 0
+IsSourcePrinted c f out =
+    (text : List ℕ) × (first_unknown (module_value f.code).imports c.imports ≡ None) × IsSourceText c.dot c.json f c.imports text × out (printed text)
+
+-- why it could not be printed
+abbrev pub IsFollowedCause : CommandView → Followed → (Printing → Type 0) → WhyFault → Type 0
+IsFollowedCause c f out why_memory = ⊤
+IsFollowedCause c f out Output = out failed
+IsFollowedCause c f out (NoImport p near) = IsNoImport (module_value f.code).imports c.imports p near × out nothing
+IsFollowedCause c f out fault = ⊥
+
+-- the fault for what an option asks for, of which none of these imports is
+abbrev pub IsNoImportFault : List ImportValue → ImportPattern → WhyFault → Type 0
+IsNoImportFault imports p why_memory = ⊤
+IsNoImportFault imports p (NoImport q near) = (q ≡ p) × (option_map string_bytes near ≡ near_text imports (pattern_view p))
+IsNoImportFault imports p f = ⊥
+
+-- a text that is as `Is` says is printed
+abbrev pub PrintsSome : (List ℕ → Type 0) → (Printing → Type 0) → Type 0
+PrintsSome Is out = (text : List ℕ) × Is text × out (printed text)

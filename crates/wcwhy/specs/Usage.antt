@@ -1,0 +1,41 @@
+-- The texts that say how the program is called, and what is printed of a wrong call.
+use Rattle.std.specs.Prelude.{ℕ, List, ◌++◌, codes}
+
+-- the usage text
+abbrev pub usage_text : List ℕ
+usage_text =
+    codes "usage: wcwhy IN [--adapt [NAME=]FILE]... [--adapter-export NAME=EXPORT]...\n"
+    ++ (codes "             [--import KEY[=NAME]]... [--dot] [--json] [--imports] [EXPORT]...\n" ++ codes "       wcwhy --help | --version\n")
+
+-- what each argument is
+abbrev pub options_text : List ℕ
+options_text =
+    codes "  IN                      a core module; with --adapt the main module of a component\n"
+    ++ (codes "  EXPORT                  an export of it at which paths may begin; else all\n"
+    ++ (codes "  --adapt [NAME=]FILE     an adapter, and its module; NAME is else FILE's name up to its first `.`\n"
+    ++ (codes "  --adapter-export NAME=EXPORT\n"
+    ++ (codes "                          an export that a component needs of the adapter\n"
+    ++ (codes "  --import KEY[=NAME]     imports of a module or a package; else all that stay\n"
+    ++ (codes "  --dot                   print a graph, in the language of Graphviz\n"
+    ++ (codes "  --json                  print the paths as JSON; with --imports these\n"
+    ++ (codes "  --imports               print by which modules each interface is imported, and with what it goes\n"
+    ++ (codes "  -h, --help              print this text\n"
+    ++ codes "  --version               print the version\n")))))))))
+
+abbrev pub help_text : List ℕ
+help_text = usage_text ++ options_text
+
+abbrev pub version_text : List ℕ
+version_text = codes "wcwhy 0.5.0 (wit-component 0.262.0)\n"
+
+-- what is wrong where an argument is no text
+abbrev pub no_text : List ℕ
+no_text = codes "argument that is not UTF-8"
+
+-- the line that says why the program failed, or what is wrong with a call
+abbrev pub fault_line : List ℕ → List ℕ
+fault_line text = codes "wcwhy: " ++ (text ++ codes "\n")
+
+-- that line, and the usage text
+abbrev pub fault_and_usage : List ℕ → List ℕ
+fault_and_usage text = codes "wcwhy: " ++ (text ++ (codes "\n" ++ usage_text))

@@ -1,0 +1,357 @@
+//! Faults of the program: the reasons why a command could not be done.
+
+ghost use Rattle.std.specs.Prelude.{◌≡◌, IfNone, IfOk, IfSome, map, string_bytes};
+ghost use Rattle.std.specs.Option.{option_map};
+ghost use Rattle.wc_read.specs.Imports.{import_value};
+ghost use Rattle.wc_import_paths.specs.Patterns.{pattern_view};
+ghost use Rattle.wcwhy.specs.Fault.{IsAdapterFault, IsNamedFault, IsSourceFault, NeedsText, adapter_text, given_word, near_package_text, near_text, no_adapter_text, of_adapter, of_source, package_pattern_text, pattern_text, repeated_adapter_text, source_text, unknown_text, unread_text, why_fault_text};
+
+use crate::near_exports::near_for;
+use crate::patterns::{named_under, near_import, near_package, near_pattern};
+use std::alloc::{AllocError, AllocFailed, Global};
+use wc_gc::{GcFault, TrimPlace};
+use wc_import_paths::ImportPattern;
+use wc_program::{FileProblem, problem_text};
+use wc_read::Import;
+use wc_texts::{OUT_OF_MEMORY, PutFailed, Refused, escaped, text_of};
+use wc_why::{package_text, word};
+
+/// Why the program could not do what its arguments say. `run_command` says which of several causes is named; `Memory`
+/// may come in place of any.
+#[derive(Debug, Drop)]
+pub enum WhyFault<'a> {
+    /// An allocation failed.
+    Memory,
+    /// The file of this path could not be read, and why: never `Memory`.
+    CannotRead(&'a str, FileProblem),
+    /// Two adapters have this name.
+    RepeatedAdapter(&'a str),
+    /// No adapter has this name, and an export is asked of it. It carries what adapters there are, as a text.
+    NoAdapter(&'a str, String),
+    /// The module can't be followed. It carries why not, never `Memory`, and where; and of an export that is not there the
+    /// first that is equal to it but for its version and for the case of letters, as it is in the fault's text.
+    Source(GcFault, Option<TrimPlace>, Option<String>),
+    /// The adapter of this name can't be followed. It carries what `Source` does.
+    Adapter(String, GcFault, Option<TrimPlace>, Option<String>),
+    /// An option asks for imports, and the module has none of them. It carries what the option asks for; and of the first
+    /// import that it would ask for by the module, if versions and the case of letters did not count, the module; else of
+    /// the first that it would ask for so by the package, the package with its version. After an option with a name it is
+    /// followed by the name of that import, as they are in the fault's text.
+    NoImport(ImportPattern<'a>, Option<String>),
+    /// The lines, or the graph, could not be printed.
+    Output,
+}
+
+impl WhyFault<'_> {
+    /// The text of the fault, which the program prints in a line. Texts from outside in it are escaped
+    /// (`wc_texts::escaped`).
+    ///
+    /// # Errors
+    ///
+    /// `AllocError`: an allocation failed.
+    pub fn text(&self, alloc: Global) -> Result<String, AllocError>
+        ensures { IfOk result (λ text. string_bytes text ≡ why_fault_text self.now) }
+    {
+        match self {
+            WhyFault::Memory => String::from_str(alloc, OUT_OF_MEMORY),
+            WhyFault::CannotRead(path, problem) => unread_text(alloc, path, *problem),
+            WhyFault::RepeatedAdapter(name) => repeated_adapter_text(alloc, name),
+            WhyFault::NoAdapter(name, listing) => no_adapter_text(alloc, name, listing),
+            WhyFault::Source(fault, place, near) => source_text(alloc, fault, place, near),
+            WhyFault::Adapter(name, fault, place, near) => {
+                let text = source_text(alloc, fault, place, near)?;
+                adapter_text(alloc, name, &text)
+            }
+            WhyFault::NoImport(pattern, near) => unknown_text(alloc, pattern, near),
+            WhyFault::Output => String::from_str(alloc, UNPRINTED),
+        }
+    }
+
+    /// The text of the fault, where it is always the same.
+    pub(crate) fn fixed_text(&self) -> Option<&'static str>
+        ensures whole { IfSome result (λ text. text.now ≡ why_fault_text self.now) }
+        ensures none { IfNone result (NeedsText self.now) }
+    {
+        match self {
+            WhyFault::Memory => Some(OUT_OF_MEMORY),
+            WhyFault::Output => Some(UNPRINTED),
+            WhyFault::CannotRead(_, _)
+            | WhyFault::RepeatedAdapter(_)
+            | WhyFault::NoAdapter(_, _)
+            | WhyFault::Source(_, _, _)
+            | WhyFault::Adapter(_, _, _, _)
+            | WhyFault::NoImport(_, _) => None,
+        }
+    }
+}
+
+impl From<AllocError> for WhyFault<'_> {
+    ghost use Rattle.wcwhy.specs.declared.fault.WhyFault.TheVariants.{Memory};
+
+    ghost from_gives = { λ _ e. e ≡ Memory };
+
+    fn from(_e: AllocError) -> Self {
+        WhyFault::Memory
+    }
+}
+
+impl<T: Drop> From<AllocFailed<T>> for WhyFault<'_> {
+    ghost use Rattle.wcwhy.specs.declared.fault.WhyFault.TheVariants.{Memory};
+
+    ghost from_gives = { λ _ e. e ≡ Memory };
+
+    fn from(_e: AllocFailed<T>) -> Self {
+        WhyFault::Memory
+    }
+}
+
+/// The text where what was to be printed could not be.
+const UNPRINTED: &str = "cannot print";
+
+/// The fault for a file that could not be read: its path, and why.
+fn unread_text(alloc: Global, path: &str, problem: FileProblem) -> Result<String, AllocError>
+    ensures { IfOk result (λ text. string_bytes text ≡ unread_text path.now problem) }
+{
+    let path = escaped(alloc, path)?;
+    let problem = problem_text(problem);
+    format!(in alloc; "cannot read {path}{problem}")
+}
+
+/// The fault for a name that two adapters have.
+fn repeated_adapter_text(alloc: Global, name: &str) -> Result<String, AllocError>
+    ensures { IfOk result (λ text. string_bytes text ≡ repeated_adapter_text name.now) }
+{
+    let name = escaped(alloc, name)?;
+    format!(in alloc; "adapter `{name}` twice")
+}
+
+/// The fault for a name that no adapter has, with what adapters there are.
+fn no_adapter_text(alloc: Global, name: &str, listing: &str) -> Result<String, AllocError>
+    ensures { IfOk result (λ text. string_bytes text ≡ no_adapter_text name.now listing.now) }
+{
+    let text = format!(in alloc; "no adapter `{name}`; adapters:{listing}")?;
+    escaped(alloc, &text)
+}
+
+/// The text of why the adapter of a name can't be followed.
+fn adapter_text(alloc: Global, name: &str, text: &str) -> Result<String, AllocError>
+    ensures { IfOk result (λ t. string_bytes t ≡ adapter_text name.now text.now) }
+{
+    let name = escaped(alloc, name)?;
+    format!(in alloc; "Adapter `{name}`: {text}")
+}
+
+/// The text of why a module can't be followed, with what a terminal would act on escaped, and under it what it is about,
+/// if it is about a place, or else what is there in place of an export, if something is.
+fn source_text(
+    alloc: Global,
+    fault: &GcFault,
+    place: &Option<TrimPlace>,
+    near: &Option<String>,
+) -> Result<String, AllocError>
+    ensures { IfOk result (λ text. string_bytes text
+        ≡ source_text fault.now place.now (option_map string_bytes near.now)) }
+{
+    let text = text_of(alloc, fault)?;
+    let text = escaped(alloc, &text)?;
+    match place {
+        Some(place) => format!(in alloc; "{text}\n  {place}"),
+        None => match near {
+            Some(near) => format!(in alloc; "{text}\n  is there: {near}"),
+            None => Ok(text),
+        },
+    }
+}
+
+/// The fault for a module that has none of the imports that an option asks for, and under it what is there in their
+/// place, if something is.
+fn unknown_text(
+    alloc: Global,
+    pattern: &ImportPattern<'_>,
+    near: &Option<String>,
+) -> Result<String, AllocError>
+    ensures { IfOk result (λ text. string_bytes text
+        ≡ unknown_text (pattern_view pattern.now) (option_map string_bytes near.now)) }
+{
+    let asked = pattern_text(alloc, pattern)?;
+    match near {
+        Some(near) => format!(in alloc; "no import {asked}\n  is there: {near}"),
+        None => format!(in alloc; "no import {asked}"),
+    }
+}
+
+/// The text of an option's pattern: the key, and the name, if it has one.
+fn pattern_text(alloc: Global, pattern: &ImportPattern<'_>) -> Result<String, AllocError>
+    ensures { IfOk result (λ text. string_bytes text ≡ pattern_text (pattern_view pattern.now)) }
+{
+    let key = given_word(alloc, pattern.key)?;
+    match pattern.name {
+        Some(name) => {
+            let name = given_word(alloc, name)?;
+            format!(in alloc; "{key} {name}")
+        }
+        None => Ok(key),
+    }
+}
+
+/// The nearest text to an option's pattern: the module, or the module and the name, of the first of these imports that
+/// the option would ask for, if versions and the case of letters did not count; or else the package for the module.
+pub(crate) fn near_text(
+    alloc: Global,
+    pattern: &ImportPattern<'_>,
+    imports: &[Import<'_>],
+) -> Result<Option<String>, AllocError>
+    ensures { IfOk result (λ r. option_map string_bytes r ≡ near_text
+        (map import_value imports.now) (pattern_view pattern.now)) }
+{
+    match near_import(pattern, imports) {
+        Some(import) => {
+            let near = near_pattern(pattern, import);
+            Ok(Some(pattern_text(alloc, &near)?))
+        }
+        None => near_package_text(alloc, pattern, imports),
+    }
+}
+
+/// The package, or the package and the name, of the first of these imports for whose package an option would ask, if
+/// versions and the case of letters did not count.
+fn near_package_text(
+    alloc: Global,
+    pattern: &ImportPattern<'_>,
+    imports: &[Import<'_>],
+) -> Result<Option<String>, AllocError>
+    ensures { IfOk result (λ r. option_map string_bytes r ≡ near_package_text
+        (map import_value imports.now) (pattern_view pattern.now)) }
+{
+    match near_package(pattern, imports) {
+        Some(import) => package_pattern_text(alloc, pattern, import),
+        None => Ok(None),
+    }
+}
+
+/// The package of an import with its version, and its name where an option has one.
+fn package_pattern_text(
+    alloc: Global,
+    pattern: &ImportPattern<'_>,
+    import: &Import<'_>,
+) -> Result<Option<String>, AllocError>
+    ensures { IfOk result (λ r. option_map string_bytes r ≡ package_pattern_text
+        (pattern_view pattern.now) (import_value import.now)) }
+{
+    match package_text(alloc, import.module)? {
+        Some(package) => {
+            let near = named_under(pattern, &package, import.name);
+            Ok(Some(pattern_text(alloc, &near)?))
+        }
+        None => Ok(None),
+    }
+}
+
+/// A text that was given, as a word; an empty one as `''`, so that it is seen.
+fn given_word(alloc: Global, text: &str) -> Result<String, AllocError>
+    ensures { IfOk result (λ word. string_bytes word ≡ given_word text.now) }
+{
+    if text == "" {
+        return String::from_str(alloc, "''");
+    }
+    word(alloc, text)
+}
+
+/// The fault for the module with these bytes, which can't be followed.
+pub(crate) fn source_fault<'a>(
+    alloc: Global,
+    bytes: &[u8],
+    refused: Refused<GcFault, TrimPlace>,
+) -> WhyFault<'a>
+    ensures { IsSourceFault bytes.now refused.fault refused.place result }
+{
+    match near_for(alloc, bytes, &refused.fault) {
+        Ok(near) => refused_fault(refused, near),
+        Err(AllocError) => WhyFault::Memory,
+    }
+}
+
+/// The fault for a module that can't be followed, with what is there in place of an export.
+fn refused_fault<'a>(refused: Refused<GcFault, TrimPlace>, near: Option<String>) -> WhyFault<'a>
+    ensures { result ≡ of_source refused.fault refused.place near }
+{
+    let Refused { fault, place } = refused;
+    match fault {
+        GcFault::Memory => WhyFault::Memory,
+        _ => WhyFault::Source(fault, place, near),
+    }
+}
+
+/// The fault for the adapter of this name with these bytes, which can't be followed.
+pub(crate) fn adapter_fault<'a>(
+    alloc: Global,
+    name: &str,
+    bytes: &[u8],
+    refused: Refused<GcFault, TrimPlace>,
+) -> WhyFault<'a>
+    ensures { IsAdapterFault name.now bytes.now refused.fault refused.place result }
+{
+    match near_for(alloc, bytes, &refused.fault) {
+        Ok(near) => named_fault(alloc, name, refused, near),
+        Err(AllocError) => WhyFault::Memory,
+    }
+}
+
+/// The fault for the adapter of this name, with what is there in place of an export.
+fn named_fault<'a>(
+    alloc: Global,
+    name: &str,
+    refused: Refused<GcFault, TrimPlace>,
+    near: Option<String>,
+) -> WhyFault<'a>
+    ensures { IsNamedFault name.now refused.fault refused.place near result }
+{
+    match String::from_str(alloc, name) {
+        Ok(name) => of_adapter(name, refused, near),
+        Err(AllocError) => WhyFault::Memory,
+    }
+}
+
+/// The fault for an adapter by its name.
+fn of_adapter<'a>(
+    name: String,
+    refused: Refused<GcFault, TrimPlace>,
+    near: Option<String>,
+) -> WhyFault<'a>
+    ensures { result ≡ of_adapter name refused.fault refused.place near }
+{
+    let Refused { fault, place } = refused;
+    match fault {
+        GcFault::Memory => WhyFault::Memory,
+        _ => WhyFault::Adapter(name, fault, place, near),
+    }
+}
+
+/// Why something could not be printed.
+#[derive(Clone, Copy)]
+pub(crate) enum PrintFault {
+    /// An allocation failed.
+    Memory,
+    /// The output failed.
+    Output,
+}
+
+impl From<AllocError> for PrintFault {
+    ghost use Rattle.wcwhy.specs.declared.fault.PrintFault.TheVariants.{Memory};
+
+    ghost from_gives = { λ _ e. e ≡ Memory };
+
+    fn from(_e: AllocError) -> PrintFault {
+        PrintFault::Memory
+    }
+}
+
+impl From<PutFailed> for PrintFault {
+    ghost use Rattle.wcwhy.specs.declared.fault.PrintFault.TheVariants.{Output};
+
+    ghost from_gives = { λ _ e. e ≡ Output };
+
+    fn from(_e: PutFailed) -> PrintFault {
+        PrintFault::Output
+    }
+}

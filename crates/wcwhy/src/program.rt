@@ -1,0 +1,290 @@
+//! The program: its arguments, its file, what it prints, and its exit status.
+
+ghost use Rattle.std.specs.Prelude.{◌≡◌, ◌==◌, IfErr, IfOk, IsErr, OnOk, length, map, ◌&&◌, not};
+ghost use Rattle.std.specs.IoError.{error_kind};
+ghost use Rattle.wc_program.specs.Files.{file_change};
+ghost use Rattle.wc_program.specs.Screen.{Becomes, output_ends};
+ghost use Rattle.wc_program.specs.Program.{Prints, failure, success, wrong_arguments};
+ghost use Rattle.wcwhy.specs.Arguments.{command_view};
+ghost use Rattle.wcwhy.specs.Fault.{NeedsText};
+ghost use Rattle.wcwhy.specs.Program.{CommandEnds, EndsWell, EndsWith, EndsWithout, EndsWithoutArguments, IsReported, IsRunCause, IsTextCause, IsTextOf, ProgramEnds, is_alone};
+ghost use Rattle.wcwhy.specs.Private.Execution.{AnswersStop, PrintsSome};
+ghost use Rattle.wcwhy.specs.Private.Inputs.{file_view};
+ghost use Rattle.wcwhy.specs.Usage.{fault_and_usage, fault_line, help_text, usage_text};
+
+use crate::arguments::{Command, NoCommand, parse};
+use crate::execution::print_reasons;
+use crate::fault::WhyFault;
+use crate::inputs::{Input, read_input};
+use crate::module_ways::print_modules;
+use crate::usage::{NO_TEXT, VERSION, page};
+use std::alloc::{AllocError, Global};
+use std::io::{self, ErrorKind};
+use wc_maps::Seed;
+use wc_options::{Help, Usage, WrongCall};
+use wc_program::{
+    FAILURE, FileStore, NoArguments, Output, Program, SUCCESS, Screen, Shell, Text, TextBetween,
+    WRONG_ARGUMENTS, print,
+};
+use wc_texts::OUT_OF_MEMORY;
+
+/// Runs the program with these arguments, the first of them the one after the program's name. No file is written. What is
+/// done is the same for every seed of the shell. The answer is its exit status:
+///
+/// | Status | Where | Printed |
+/// |---|---|---|
+/// | 0 | there are no arguments | the usage text, to `out` |
+/// | 0 | `parse` answers `Help` or `Version` | the help text or the version, to `out` |
+/// | 0 | the command was run | the lines of imports, or the graph or JSON of them, to `out` |
+/// | 1 | the command could not be run | the line `wcwhy: TEXT`, to `err` |
+/// | 1 | there was no memory for the arguments | the line `wcwhy: out of memory`, to `err` |
+/// | 2 | an argument is wrong, or no text | the line `wcwhy: TEXT` and the usage text, to `err` |
+/// | 1 | `out` or `err` failed | not known there |
+///
+/// TEXT is the text of `run_command`'s fault (`WhyFault::text`) or of the wrong argument (`WrongArgument::text`), or
+/// `out of memory` where there was no memory for it; then the status is 1. The texts of `Memory` and `Output` need none.
+/// All that is printed is flushed, but what was printed before memory ran out. Nothing is printed to the other output,
+/// unless `out` failed or memory ran out before.
+pub fn run<F: FileStore, O: Output, E: Screen>(
+    arguments: &io::Result<Vec<String>>,
+    shell: &mut Shell<F, O, E>,
+) -> u8
+    ensures known { IfOk arguments.now (λ v. ProgramEnds v.items
+        (file_change F.held F.read_fails F.write_fails shell.old.files shell.new.files)
+        (Becomes (output_ends O.written O.sent O.is_failed) shell.old.out shell.new.out)
+        (Becomes E.ends shell.old.err shell.new.err) result) }
+    ensures unknown { IfErr arguments.now (λ e. EndsWithoutArguments
+        (error_kind e ≡ ErrorKind.OutOfMemory)
+        (Becomes (output_ends O.written O.sent O.is_failed) shell.old.out shell.new.out)
+        (Becomes E.ends shell.old.err shell.new.err) result) }
+    ensures kept { IsErr arguments.now → F.held shell.new.files ≡ F.held shell.old.files }
+{
+    wc_program::run(&Wcwhy, arguments, shell)
+}
+
+/// The program, by what it does with its arguments.
+struct Wcwhy;
+
+impl<F: FileStore, O: Output, E: Screen> Program<F, O, E> for Wcwhy {
+    ghost ends_with = { λ texts before after status. EndsWith texts
+        (file_change F.held F.read_fails F.write_fails before.files after.files)
+        (Becomes (output_ends O.written O.sent O.is_failed) before.out after.out)
+        (Becomes E.ends before.err after.err) status };
+
+    ghost ends_without = { λ why before after status. EndsWithout why
+        (file_change F.held F.read_fails F.write_fails before.files after.files)
+        (Becomes (output_ends O.written O.sent O.is_failed) before.out after.out)
+        (Becomes E.ends before.err after.err) status };
+
+    fn run_with(&self, arguments: &[String], shell: &mut Shell<F, O, E>) -> u8 {
+        match parse(shell.alloc, arguments) {
+            Ok(command) => run_and_report(&command, shell),
+            Err(stop) => answer_stop(shell.alloc, &stop, &mut shell.out, &mut shell.err),
+        }
+    }
+
+    fn run_without(&self, why: NoArguments, shell: &mut Shell<F, O, E>) -> u8 {
+        match why {
+            NoArguments::Empty => print_usage(&mut shell.out),
+            NoArguments::NoMemory => print_fault(&mut shell.err, OUT_OF_MEMORY),
+            NoArguments::NoText => print_usage_fault(&mut shell.err, NO_TEXT),
+        }
+    }
+}
+
+/// Prints what is asked for in place of a command, or what is wrong with the arguments. The answer is the exit status.
+fn answer_stop<O: Output, E: Screen>(
+    alloc: Global,
+    stop: &NoCommand<'_>,
+    out: &mut O,
+    err: &mut E,
+) -> u8
+    ensures { AnswersStop stop.now
+        (Becomes (output_ends O.written O.sent O.is_failed) out.old out.new)
+        (Becomes E.ends err.old err.new) result }
+{
+    match stop {
+        NoCommand::Memory => print_fault(err, OUT_OF_MEMORY),
+        NoCommand::Help => print_help(out),
+        NoCommand::Version => print(out, &Text(VERSION), SUCCESS),
+        NoCommand::Wrong(wrong) => match wrong.text(alloc) {
+            Ok(text) => print_usage_fault(err, &text),
+            Err(AllocError) => print_fault(err, OUT_OF_MEMORY),
+        },
+    }
+}
+
+/// Runs a command on its file, and prints why it could not be run. The answer is the exit status.
+fn run_and_report<F: FileStore, O: Output, E: Screen>(
+    command: &Command<'_>,
+    shell: &mut Shell<F, O, E>,
+) -> u8
+    ensures ends { CommandEnds (command_view command.now)
+        (file_change F.held F.read_fails F.write_fails shell.old.files shell.new.files)
+        (Becomes (output_ends O.written O.sent O.is_failed) shell.old.out shell.new.out)
+        (Becomes E.ends shell.old.err shell.new.err) result }
+    ensures files { F.held shell.new.files ≡ F.held shell.old.files }
+{
+    match run_command(
+        shell.alloc,
+        shell.seed,
+        command,
+        &shell.files,
+        &mut shell.out,
+    ) {
+        Ok(()) => SUCCESS,
+        Err(fault) => report(shell.alloc, &mut shell.err, &fault),
+    }
+}
+
+/// Reads the module of a command, and its adapters, and prints why imports stay.
+///
+/// Of a module that stands alone, without adapters: for each import that is asked for, in the order of the
+/// file, the lines of the one path to its item: `MODULE NAME`, where the path begins, as `  export NAME`, `  start`,
+/// `  fills table T` or `  fills memory M`, and then a line for each of its items, as `  func 33 write_all`. Where nothing
+/// leads there, it is the line `MODULE NAME: not reached` if imports are asked for, and no line if all are shown.
+///
+/// Paths begin at the exports that are asked for, in their order, or at all, in the order of the file, and then at the start
+/// function; only where none of these leads to an import, they begin at an active segment (`wc_paths`).
+///
+/// With `--json` it prints the tree of these paths instead, as JSON (`wc_tree::tree_to_json`), and with `--dot` as a graph
+/// (`wc_tree::tree_to_graph`). An import that nothing leads to is not in it.
+///
+/// With adapters the module is the main module of a component. It prints the lines of `wc_module_ways::ways_text` for its
+/// imports and those of the adapters that it needs; with `--json` the tree of `wc_module_ways::ways_json`, and with `--dot`
+/// the graph of `wc_module_ways::ways_graph`.
+///
+/// With `--imports` it prints the lines of `wc_module_ways::imports_text` instead, of a module that stands alone too, or with
+/// `--json` the list of `wc_module_ways::imports_json`.
+///
+/// All lines are flushed. The path `-` of a file is that of `/dev/stdin`. `seed`: the seed of the maps that are made.
+///
+/// It takes time and memory linear in the modules and in what is asked for, and time linear in what is printed; with adapters
+/// memory too.
+///
+/// # Errors
+///
+/// Of several causes the first in this order is named; `Memory` may come in place of any.
+///
+/// - `CannotRead`: the module could not be read. It carries why.
+/// - `RepeatedAdapter`, `NoAdapter`: two adapters have one name; or an export is asked of one that is not given.
+/// - `CannotRead`: an adapter could not be read; they are read in order.
+/// - `Source`: the module can't be followed: `Read` of a module that can't be read, and then of segments; `MissingExport`;
+///   `LiveBody`, of a body that paths reach. With `MissingExport` it carries the first export that is equal but for its version
+///   and for the case of letters. With adapters segments and bodies that can't be read are no faults of the main module.
+/// - `Adapter`: the bytes of an adapter are no module.
+/// - `NoImport`: the module, or with adapters each of the modules, has none of the imports that an option asks for. It carries the first such, and the first
+///   import that it would ask for by the module, or else by the package, if versions and the case of letters did not count.
+/// - `Adapter`: an adapter that the component needs can't be followed, as one that is trimmed (`wc_gc::why_imports`). With
+///   `MissingExport` it carries what `Source` does.
+/// - `Output`: a put or the flush failed; `out` is failed, and how much was printed is left open.
+/// - `Memory`: an allocation failed, or a file is too large for memory. How much was printed is left open.
+///
+/// After each fault but `Output` and `Memory` nothing was printed.
+pub fn run_command<'a, F: FileStore, O: Output>(
+    alloc: Global,
+    seed: Seed,
+    command: &Command<'a>,
+    files: &F,
+    out: &mut O,
+) -> Result<(), WhyFault<'a>>
+    ensures done { OnOk result (EndsWell (command_view command.now) (F.held files.now)
+        (Becomes (output_ends O.written O.sent O.is_failed) out.old out.new)) }
+    ensures fault { IfErr result (IsRunCause (command_view command.now)
+        (file_change F.held F.read_fails F.write_fails files.now files.now)
+        (Becomes (output_ends O.written O.sent O.is_failed) out.old out.new)) }
+{
+    match read_input(alloc, seed, command, files) {
+        Ok(input) => print_input(alloc, seed, command, &input, out),
+        Err(fault) => Err(fault),
+    }
+}
+
+/// Prints why imports stay of a module that stands alone, or of a main module and its adapters.
+fn print_input<'a, O: Output>(
+    alloc: Global,
+    seed: Seed,
+    command: &Command<'a>,
+    input: &Input<'_>,
+    out: &mut O,
+) -> Result<(), WhyFault<'a>>
+    ensures done { OnOk result (PrintsSome (IsTextOf (is_alone (command_view command.now))
+        (command_view command.now) input.now.main.items (map file_view input.now.adapters.items))
+        (Becomes (output_ends O.written O.sent O.is_failed) out.old out.new)) }
+    ensures fault { IfErr result (IsTextCause (is_alone (command_view command.now))
+        (command_view command.now) input.now.main.items (map file_view input.now.adapters.items)
+        (Becomes (output_ends O.written O.sent O.is_failed) out.old out.new)) }
+{
+    if is_alone(command.adapters.as_slice(), command.summary) {
+        print_reasons(alloc, seed, command, &input.main, out)
+    } else {
+        print_modules(alloc, seed, command, input, out)
+    }
+}
+
+/// Whether a module has none of these adapters, and paths in it are asked for.
+fn is_alone(adapters: &[(&str, &str)], summary: bool) -> bool
+    ensures { result ≡ (length adapters.now == 0 && not summary) }
+{
+    adapters.is_empty() && !summary
+}
+
+/// Prints why the program failed. The answer is the status of a failure.
+fn report<E: Screen>(alloc: Global, err: &mut E, fault: &WhyFault<'_>) -> u8
+    ensures { IsReported fault.now (Becomes E.ends err.old err.new) result }
+{
+    match fault.fixed_text() {
+        Some(text) => print_fault(err, text),
+        None => report_made(alloc, err, fault),
+    }
+}
+
+/// Prints why the program failed, where memory is needed for this. The answer is the status of a failure.
+fn report_made<E: Screen>(alloc: Global, err: &mut E, fault: &WhyFault<'_>) -> u8
+    requires { NeedsText fault.now }
+    ensures { IsReported fault.now (Becomes E.ends err.old err.new) result }
+{
+    match fault.text(alloc) {
+        Ok(text) => print_fault(err, &text),
+        Err(AllocError) => print_fault(err, OUT_OF_MEMORY),
+    }
+}
+
+/// Prints the usage text. The answer is the exit status.
+fn print_usage<O: Screen>(out: &mut O) -> u8
+    ensures { Prints usage_text success (Becomes O.ends out.old out.new) result }
+{
+    print(out, &Usage(page()), SUCCESS)
+}
+
+/// Prints the help text. The answer is the exit status.
+fn print_help<O: Screen>(out: &mut O) -> u8
+    ensures { Prints help_text success (Becomes O.ends out.old out.new) result }
+{
+    print(out, &Help(page()), SUCCESS)
+}
+
+/// Prints the text of a fault in a line. The answer is the status of a failure.
+fn print_fault<E: Screen>(err: &mut E, text: &str) -> u8
+    ensures { Prints (fault_line text.now) failure (Becomes E.ends err.old err.new) result }
+{
+    let line = TextBetween {
+        before: "wcwhy: ",
+        text: &Text(text),
+        after: "\n",
+    };
+    print(err, &line, FAILURE)
+}
+
+/// Prints what is wrong with the arguments in a line, and the usage text. The answer is the exit status.
+fn print_usage_fault<E: Screen>(err: &mut E, text: &str) -> u8
+    ensures { Prints (fault_and_usage text.now) wrong_arguments
+        (Becomes E.ends err.old err.new) result }
+{
+    let lines = WrongCall {
+        start: "wcwhy: ",
+        text,
+        page: page(),
+    };
+    print(err, &lines, WRONG_ARGUMENTS)
+}
