@@ -2,6 +2,7 @@
 
 Chromium is asked over a pipe, in the protocol of its developer tools; Firefox over a port of this machine, by Marionette.
 """
+import base64
 import json
 import os
 import shutil
@@ -10,6 +11,9 @@ import subprocess
 import time
 
 SECONDS = 300
+
+# of keys that are no character: the code, the number and the text
+KEYS = {"Tab": (9, ""), "Enter": (13, "\r"), "Escape": (27, ""), "End": (35, ""), "Home": (36, ""), "ArrowUp": (38, ""), "ArrowDown": (40, "")}
 
 
 class Failed(Exception):
@@ -60,6 +64,24 @@ class Chromium:
         if "exceptionDetails" in answer:
             raise Failed(json.dumps(answer["exceptionDetails"])[:500])
         return answer["result"].get("value")
+
+    def press(self, key, shift=False):
+        """Presses a key and lets it go, as a keyboard does."""
+        number, text = KEYS[key]
+        event = {"key": key, "code": key, "windowsVirtualKeyCode": number, "nativeVirtualKeyCode": number, "modifiers": 8 if shift else 0}
+        self.call("Input.dispatchKeyEvent", type="keyDown" if text else "rawKeyDown", **event, **({"text": text} if text else {}))
+        self.call("Input.dispatchKeyEvent", type="keyUp", **event)
+
+    def resize(self, width, height):
+        self.call("Emulation.setDeviceMetricsOverride", width=width, height=height, deviceScaleFactor=1, mobile=False)
+
+    def dark(self, is_dark):
+        self.call("Emulation.setEmulatedMedia", features=[{"name": "prefers-color-scheme", "value": "dark" if is_dark else "light"}])
+
+    def picture(self, path):
+        """Writes a picture of the window to a file."""
+        with open(path, "wb") as file:
+            file.write(base64.b64decode(self.call("Page.captureScreenshot", format="png")["data"]))
 
     def close(self):
         self.process.kill()

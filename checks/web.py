@@ -9,6 +9,8 @@ Its parts, each of which is a line:
     files       the page loads nothing from elsewhere, and names only files that there are
     module      web/nuigatre.wasm is what web/nuigatre.wasm.json says; it is said whether it is made of these sources
     heap        web/heap.c, the memory of nuigatre.wasm, over refused growth (checks/c/web_heap.c): needs cc
+    memory      calls on large inputs of ten shapes take at most twice the memory that native calls have at once, which
+                web/test/native_peak.c measures over the library that the Rust crate has packed: needs node and cc
     node        the calls of JavaScript (web/test): needs node, 20 or newer, and web/nuigatre.wasm
     wctrim      the bytes of web/nuigatre.wasm are those of a program of this machine, for the adapters of examples and damaged
                 ones: the program that --wctrim names, or else checks/c/like_wctrim.c over the library that the Rust crate has
@@ -17,12 +19,14 @@ Its parts, each of which is a line:
                 NUIGATRE_LIBRARY names another or tools/targets.py made one
     package     `npm pack` makes a package of web/, and the files in it run: needs npm; versions are those of the Rust crate
     one file    the page as one file (web/one-file.py), opened from a disk in chromium and firefox-esr
+    keys        the page in chromium, by real keys: the picture is one stop of the Tab key, arrows go through it, and Enter picks
+                an import. After the window is resized it is said whether the picture is wider than its room
     chromium    the page, used as a person would (web/test/driver.mjs): light and dark at 320, 1000 and 2000 pixels, and N
                 damaged files
     firefox     the same in firefox-esr
 
 What is not there is said, with the package of Debian that has it, and is no fault, unless --only names the part. With --quick
-the first seven are run. With --pictures a picture of each width, light and dark, goes to the folder. The status is 1 where something is not as wanted.
+the first eight are run. With --pictures a picture of each width, light and dark, goes to the folder. The status is 1 where something is not as wanted.
 """
 import argparse
 import contextlib
@@ -36,6 +40,7 @@ import subprocess
 import sys
 import tempfile
 import threading
+import time
 
 import browsers
 
@@ -147,6 +152,17 @@ def heap(_):
         return run([program, "300", "1"]).strip()
 
 
+def memory(_):
+    """The memory of calls beside that of native ones."""
+    words = [need("node"), WEB / "test" / "memory.mjs"]
+    with tempfile.TemporaryDirectory() as folder:
+        sources = WEB / "test" / "native_peak.c", os.path.join(packed(folder), "libnuigatre.a")
+        program = os.path.join(folder, "native_peak")
+        run([need("cc"), "-std=gnu11", "-Wall", "-Wextra", "-Werror", "-O2", "-I", TOP / "include", *sources, "-o", program])
+        with of_these_sources():
+            return run([*words, program]).strip()
+
+
 def node(_):
     program = need("node")
     if not (WEB / "nuigatre.wasm").is_file():
@@ -200,7 +216,7 @@ def package(_):
         run([program, "pack", "--silent", "--pack-destination", folder, WEB])
         [made] = pathlib.Path(folder).glob("*.tgz")
         run(["tar", "xf", made, "-C", folder])
-        lacking = [it for it in ("LICENSE", "README.md", "nuigatre.d.mts") if not (pathlib.Path(folder) / "package" / it).is_file()]
+        lacking = [it for it in ("LICENSE", "README.md", "calls.d.mts", "nuigatre.d.mts") if not (pathlib.Path(folder) / "package" / it).is_file()]
         if lacking:
             raise Wrong("the package lacks " + ", ".join(lacking))
         said = run([need("node"), pathlib.Path(folder) / "package" / "why.mjs", *sorted((TOP / "web" / "example").iterdir())])
@@ -234,6 +250,82 @@ def one_file(_):
             raise Wrong(f"{kind.name}: {numbers} {faults}")
         said.append(kind.name)
     return "opened from a disk in " + " and ".join(said)
+
+
+# what has the focus: in which part it is, which box it is, and whether it is one of those that pick an import
+FOCUS = """((it) => ({picture: Boolean(it.closest("#picture")), key: it.dataset?.key ?? null, isEnd: it.matches(".node.import"),
+    isLit: it.classList.contains("lit"), isControl: it.matches("a, button, input, select, summary, .scrolled, .node.import"),
+    name: it.tagName + " " + it.id, isBody: it === document.body}))(document.activeElement)"""
+TEXT = 'document.querySelector("#%s")?.textContent'
+
+
+def stops(browser):
+    """What has the focus, from one Tab key to the next, until the page ends."""
+    found = []
+    while len(found) < 200:
+        browser.press("Tab")
+        now = browser.ask(FOCUS)
+        if now["isBody"]:
+            return found
+        found.append(now)
+    raise Wrong("the Tab key does not come to the end of the page")
+
+
+def settled(browser):
+    time.sleep(0.3)
+    browsers.waited(browser, 'document.body.dataset.ready === "yes"')
+
+
+def tabbed(browser):
+    """Goes through the page by the Tab key, and through the picture by others."""
+    found = stops(browser)
+    idle = [it["name"] for it in found if not it["isControl"]]
+    if idle or sum(it["picture"] for it in found) != 1:
+        raise Wrong(f"of {len(found)} stops {sum(it['picture'] for it in found)} are in the picture, and these do nothing: {idle}")
+    while not browser.ask(FOCUS)["picture"]:
+        browser.press("Tab")
+    first = browser.ask(FOCUS)
+    browser.press("ArrowDown")
+    second = browser.ask(FOCUS)
+    if not (first["isEnd"] and second["isEnd"] and second["isLit"] and first["key"] != second["key"]):
+        raise Wrong(f"an arrow goes from {first} to {second}")
+    browser.press("Enter")
+    settled(browser)
+    if browser.ask(TEXT % "title") != "my:notes/store@1.2.0" or browser.ask(FOCUS)["key"] != second["key"]:
+        raise Wrong(f"Enter picks {browser.ask(TEXT % 'title')}, and the focus is {browser.ask(FOCUS)}")
+    browser.press("Tab")
+    browser.press("Tab", shift=True)
+    if browser.ask(FOCUS)["key"] != second["key"]:
+        raise Wrong(f"the Tab key comes back to {browser.ask(FOCUS)}, and not to {second}")
+    for key in "End", "Home":
+        browser.press(key)
+    if browser.ask(FOCUS)["key"] != first["key"]:
+        raise Wrong(f"Home goes to {browser.ask(FOCUS)}")
+    return len(found)
+
+
+def keys(_):
+    """The page by real keys, and in a window that is resized."""
+    page, kind = Page(), browsers.Chromium
+    with tempfile.TemporaryDirectory(ignore_cleanup_errors=True) as folder:
+        browser = kind(need(*kind.programs), folder)
+        try:
+            browser.resize(1000, 1700)
+            browser.open(f"http://127.0.0.1:{page.server.server_port}/index.html?example&seconds={SECONDS}")
+            browsers.waited(browser, f'({TEXT % "numbers"} ?? "").length > 0 && document.body.dataset.ready === "yes"')
+            count = tabbed(browser)
+            for width, is_wider in (2000, False), (360, True), (1000, False), (320, True), (2000, False):
+                browser.resize(width, 1700)
+                time.sleep(0.5)
+                said = browser.ask(TEXT % "more")
+                if ("wider than its room" in said) != is_wider:
+                    raise Wrong(f"at {width} pixels it is said: {said}")
+        except browsers.Failed as why:
+            raise Wrong(f"{kind.name}: {why}") from why
+        finally:
+            browser.close()
+            page.server.shutdown()
+    return f"{count} stops of the Tab key, one of them in the picture"
 
 
 class Page:
@@ -355,14 +447,14 @@ def firefox_words(folder, address, width, picture, scheme):
 
 
 PARTS = {
-    "calls": calls, "files": files, "module": module, "heap": heap, "node": node, "wctrim": wctrim, "python": python,
-    "package": package, "one file": one_file,
+    "calls": calls, "files": files, "module": module, "heap": heap, "memory": memory, "node": node, "wctrim": wctrim, "python": python,
+    "package": package, "one file": one_file, "keys": keys,
     "chromium": lambda arguments: browser(chromium_words, arguments), "firefox": lambda arguments: browser(firefox_words, arguments),
 }
 
 
 # those that take less than a minute of a processor's time together
-QUICK = "calls", "files", "module", "heap", "node", "wctrim", "python"
+QUICK = "calls", "files", "module", "heap", "memory", "node", "wctrim", "python"
 
 
 def main():

@@ -1,19 +1,19 @@
 // What the page shows of a component. It is made of the library's answers alone: what a module imports, exports and calls its
-// functions (`scan`), which chains lead to imports (`why`, `paths`), what a component requires (`plannedWorld`), what is left
-// (`trim`). Here files get their roles and names, and what is shown is put together.
+// functions (`scan`), what a component requires (`plannedWorld`), what is left (`trim`); with worlds, which interfaces it
+// imports and why (component.mjs), and without them which chains lead to imports (`why`, `paths`). Here files get their roles
+// and names, and what is shown is put together.
+import { Boxes, counted, itemTexts, joined, MOST } from "./boxes.mjs";
+import { componentBoxes, componentInterfaces, componentSentence, throughOf } from "./component.mjs";
+import { faultsOf, hintOf } from "./hints.mjs";
 import { BadArgument, Fault, OutOfMemory } from "./nuigatre.mjs";
-import { faultsOf, hintOf, placeOf } from "./hints.mjs";
-import { readable, shortImport, shortName } from "./picture.mjs";
-
-/** How much is shown, so that no module makes the page slow. */
-export const MOST = { interfaces: 400, functions: 200, uses: 2000, ends: 250, exports: 300, renames: 500, worlds: 50 };
+import { shortImport } from "./picture.mjs";
+import { placeText } from "./places.mjs";
 
 /** The name under which adapters import what the main module exports. */
 const MAIN_MODULE = "__main_module__";
 
 /** A list cut to its first, and how many are left out. */
 const cut = (list, most) => ({ list: list.slice(0, most), more: Math.max(0, list.length - most) });
-const counted = (count, one) => `${count.toLocaleString("en")} ${one}${count === 1 ? "" : "s"}`;
 const isFunction = (it) => it.kind === "func";
 
 /** An adapter's name is that of its file up to the first dot, unless it is given. */
@@ -22,6 +22,7 @@ export const nameOf = (file) => file.replace(/^.*\//, "").replace(/\..*$/, "");
 /** A dropped file: a module with what the library lists of it, or the fault for which it is refused; or worlds as a text. */
 export function readFile(library, name, bytes) {
   const isWasm = [0, 0x61, 0x73, 0x6d].every((it, n) => bytes[n] === it);
+  // what is listed of the text may be wrong where that is no UTF-8: the library gets its bytes, and refuses them
   if (!isWasm) return { name, bytes, text: new TextDecoder().decode(bytes) };
   try {
     const { imports, exports, function_names } = library.scan(bytes);
@@ -43,10 +44,11 @@ function importsByModule(file) {
 /** The names of adapters, beside this main module: as is given; or that of the file, if the main module imports of it; or else
  *  one of which the main module imports nothing but what the adapter exports. */
 function adapterNames(asked, adapters, names) {
-  const taken = new Set(adapters.map((it) => names[it.name] ?? nameOf(it.name)));
+  const isNamed = (file) => Object.hasOwn(names, file.name), ownName = (file) => (isNamed(file) ? names[file.name] : nameOf(file.name));
+  const taken = new Set(adapters.map(ownName));
   return adapters.map((file) => {
-    const own = names[file.name] ?? nameOf(file.name);
-    if (file.name in names || asked.has(own)) return own;
+    const own = ownName(file);
+    if (isNamed(file) || asked.has(own)) return own;
     const has = new Set(file.exports.filter(isFunction).map((it) => it.name));
     const found = [...asked].find(([module, list]) => !taken.has(module) && [...list].every((it) => has.has(it)));
     if (!found) return own;
@@ -108,18 +110,47 @@ function plannedWorld(library, component) {
 function worldOf(library, main, adapters, worlds, chosen) {
   const found = worldsIn(worlds.text), names = found.map((it) => it.name);
   const bySize = found.map((_, n) => n).sort((a, b) => found[b].size - found[a].size || a - b).slice(0, MOST.worlds);
-  const parts = adapters.map(({ name, file }) => ({ name, wasm: file.bytes, exports: [] }));
+  const parts = adapters.map(({ name, file }) => ({ name, wasm: file.bytes, exports: [] })), given = { worlds: worlds.bytes, main: main.bytes };
   const tried = Number.isInteger(chosen) ? [chosen] : bySize.length ? bySize : [0];
   let fault = null;
   for (const world of tried) {
     try {
-      return { ...plannedWorld(library, { worlds: worlds.text, world, main: main.bytes, adapters: parts }), world, names };
+      const { made, keys } = plannedWorld(library, { ...given, world, adapters: parts });
+      return { made, component: { ...given, world, adapters: parts.map((it, n) => ({ ...it, exports: keys[n] })) }, world, names };
     } catch (why) {
       if (!(why instanceof Fault)) throw why;
       fault ??= Object.assign(why, { world });
     }
   }
   throw Object.assign(fault, { worlds: names });
+}
+
+/** Which interfaces a component imports, and the paths to them; of a key that was asked about last the paths are kept. null if
+ *  that needs more memory than there is. */
+function answerOf(library, whole) {
+  let key = null, last = null;
+  const pathsOf = (asked) => {
+    if (asked !== key) [last, key] = [library.componentPaths(whole.component, asked), asked];
+    return last;
+  };
+  try {
+    return { imports: library.componentImports(whole.component), all: library.componentPaths(whole.component, "all"), pathsOf };
+  } catch (why) {
+    if (!(why instanceof OutOfMemory)) throw why;
+    return null;
+  }
+}
+
+/** The fault of worlds that are there without a program; null if there is none. */
+function faultOfWorlds(library, { bytes }) {
+  try {
+    library.world({ worlds: bytes, world: 0, main: new Uint8Array(0) });
+  } catch (why) {
+    if (!(why instanceof Fault)) throw why;
+    // the program is looked at after the worlds
+    return faultsOf(why.call, why.number)[0]?.[1] === "DEDUPE" ? null : why;
+  }
+  return null;
 }
 
 /** What is required of an adapter: what the main module imports, in its order; and, with worlds, what else its trimmed form
@@ -159,11 +190,19 @@ function innerModules(record, adapters) {
   return inner;
 }
 
+/** Whether a key asks about a module: it is the module's name or its package, each with its version or without. */
+export function asksFor(key, module) {
+  const [, name, version] = /^(.*?)(@[^@/]*)?$/s.exec(module), end = name.indexOf("/"), package_ = end < 0 ? null : name.slice(0, end);
+  const names = [module, name, ...(package_ === null ? [] : [package_, `${package_}${version ?? ""}`])];
+  return key === "all" || names.includes(key);
+}
+
 /** Whether the component has to import this: it is a function, and of no other core module. */
 const isOuter = (inner) => (it) => isFunction(it) && !inner.has(it.module);
 
-/** Each interface of imports, with its functions, and by which exports of adapters or of the main module it comes. */
-function interfacesOf({ main, asked, adapters, parts, inner }) {
+/** Each interface of imports, with its functions, and by which exports of adapters or of the main module it comes, as far as
+ *  modules say it: which are imported for their types alone is known of the component with all that is required. */
+function interfacesOf({ main, asked, adapters, parts, inner, types }) {
   const all = new Map();
   const entry = (key) => all.get(key) ?? all.set(key, { key, functions: new Map(), calls: new Set(), own: new Set(), ticked: new Set(), isOfMain: false }).get(key);
   for (const it of main.imports.filter(isOuter(inner))) {
@@ -180,8 +219,10 @@ function interfacesOf({ main, asked, adapters, parts, inner }) {
       for (const export_ of by ?? []) found[calls.has(export_) ? "calls" : isRequired.has(export_) ? "own" : "ticked"].add(export_);
     });
   });
-  const isReached = (it) => [...it.functions.values()].some(Boolean);
-  return [...all.values()].sort((a, b) => isReached(b) - isReached(a) || (a.key < b.key ? -1 : 1));
+  for (const key of types) entry(key);
+  const kindOf = (it) => ([...it.functions.values()].some(Boolean) ? "used" : types.includes(it.key) ? "types" : null);
+  const entries = [...all.values()].map((it) => ({ ...it, kind: kindOf(it) })), rank = (it) => ["used", "types", null].indexOf(it.kind);
+  return entries.sort((a, b) => rank(a) - rank(b) || (a.key < b.key ? -1 : 1));
 }
 
 /** The shortest path through the main module to each of its imports; and why there is none, if it can't be followed. */
@@ -209,8 +250,13 @@ function fileOfFault(why, { main, adapters, worlds }) {
 /** All that is computed of the files, before it is filtered. */
 export function compute(library, files, state = {}) {
   const { main, adapters, worlds, isAdapter } = rolesOf(files, state), switched = state.switched ?? {};
-  const faults = files.filter((it) => it.refused).map((it) => it.refused);
-  if (!main) return { files, main: null, adapters: [], worlds, faults };
+  const faults = files.filter((it) => it.refused).map((it) => it.refused), texts = files.filter((it) => it.text !== undefined && it !== worlds);
+  faults.push(...texts.map((it) => ({ file: it.name, message: `it is no module, and the worlds are those of ${worlds.name}`, hint: "Take one of the two away." })));
+  if (!main) {
+    const why = worlds && faultOfWorlds(library, worlds);
+    if (why) faults.push(Object.assign(why, { file: worlds.name }));
+    return { files, main: null, adapters: [], worlds, faults };
+  }
   const attempt = (file, call) => {
     try {
       return call();
@@ -235,29 +281,11 @@ export function compute(library, files, state = {}) {
     return made && found.used.join("\n") === required.join("\n") ? { ...found, trimmed: made } : found;
   }) ?? none);
   const inner = innerModules(record, adapters), { paths, unfollowed } = mainPaths(library, main);
-  const found = { files, main, isAdapter, asked, adapters, worlds, faults, renamed, whole, record, parts, inner, paths, unfollowed };
-  return { ...found, interfaces: interfacesOf(found) };
-}
-
-/** The boxes of a picture: each is after the one to its left, and there once. */
-class Boxes {
-  #boxes = new Map();
-
-  /** Adds a box, unless it is there, and returns its id. */
-  add(id, left, label, kind, title = label) {
-    if (!this.#boxes.has(id)) this.#boxes.set(id, { id, left, label, kind, title });
-    return id;
-  }
-
-  get all() {
-    return [...this.#boxes.values()];
-  }
-}
-
-/** A function of a module as a box has it, and in full. */
-function itemTexts(space, index, name) {
-  const number = `${space} ${index}`;
-  return name ? { label: shortName(name), title: `${number}, ${readable(name)}` } : { label: number, title: number };
+  const known = whole && attempt(null, () => answerOf(library, whole)), types = known?.imports.filter((it) => it.kind === "types").map((it) => it.interface) ?? [];
+  // the library's answers are about the component as it is: with other exports it is asked about its modules
+  const answer = parts.every((it) => it.used.length === it.required.length && it.used.every((name, n) => name === it.required[n])) ? known : null;
+  const found = { files, main, isAdapter, asked, adapters, worlds, faults, renamed, whole, record, parts, inner, paths, unfollowed, types, answer };
+  return { ...found, interfaces: answer ? componentInterfaces(found, answer.imports, answer.all) : interfacesOf(found) };
 }
 
 const STARTS = {
@@ -266,15 +294,25 @@ const STARTS = {
   fills: (it) => ["item", `${it.space} ${it.index}`, `fills ${it.space} ${it.index}, through which it may be called`],
 };
 
+/** A path without its middle, if it has more steps than are drawn. */
+function middleCut(steps) {
+  const half = MOST.steps / 2, more = steps.length - MOST.steps;
+  return more > 0 ? [...steps.slice(0, half), { cut: more }, ...steps.slice(half + more)] : steps;
+}
+
 /** Boxes of the path through the main module to one of its imports: the id of the last one. */
 function addMainPath(boxes, { main, paths }, { module, name }) {
   let left = boxes.add("main", null, main.name, "main"), id = "main";
   const steps = paths.get(JSON.stringify([module, name])) ?? [];
   // the item after an export or a table is that itself, and the last one is the import
-  for (const step of steps.slice(0, -1).filter((_, n) => n !== 1 || steps[0].kind === "start")) {
+  for (const step of middleCut(steps.slice(0, -1).filter((_, n) => n !== 1 || steps[0].kind === "start"))) {
+    if (step.cut) {
+      left = boxes.add(`${id}\ncut`, left, `… ${counted(step.cut, "item")}`, "item", `${counted(step.cut, "item")} of ${main.name} that are not drawn`);
+      continue;
+    }
     const isItem = step.kind === "item";
     const { label, title } = isItem ? itemTexts(step.space, step.index, step.name) : { label: STARTS[step.kind](step)[1], title: `${main.name} ${STARTS[step.kind](step)[2]}` };
-    id += `\n${isItem ? `${step.space} ${step.index}` : `${step.kind} ${label}`}`;
+    id += `\n${isItem ? `${step.space} ${step.index}` : JSON.stringify([step.kind, label])}`;
     left = boxes.add(id, left, label, isItem ? "item" : STARTS[step.kind](step)[0], isItem ? `${title} of ${main.name}` : title);
   }
   return left;
@@ -284,13 +322,18 @@ function addMainPath(boxes, { main, paths }, { module, name }) {
 function addChain(boxes, found, n, at) {
   const { main, asked, adapters, parts } = found, { chains, required } = parts[n], { name: own, file } = adapters[n];
   const steps = [at];
-  while (chains.finders[steps[0]] !== steps[0]) steps.unshift(chains.finders[steps[0]]);
+  while (chains.finders[steps.at(-1)] !== steps.at(-1)) steps.push(chains.finders[steps.at(-1)]);
+  steps.reverse();
   const name = chains.exports[steps[0]], isCalled = asked.get(own)?.has(name) ?? false;
   const root = isCalled ? addMainPath(boxes, found, { module: own, name }) : required.includes(name) ? boxes.add("component", null, "the component", "component") : boxes.add("you", null, "you ticked", "component");
   const by = isCalled ? `${main.name} imports ${name} of ${own}` : required.includes(name) ? `the component needs ${name} of ${own}` : `you ticked ${name} of ${own}`;
-  let left = boxes.add(`${n} ${name}`, root, name, "export", by);
+  let left = boxes.add(`${n} export ${name}`, root, name, "export", by);
   // the first item is the export's own, and the last one the import
-  for (const step of steps.slice(1, -1)) {
+  for (const step of middleCut(steps.slice(1, -1))) {
+    if (step.cut) {
+      left = boxes.add(`${n} cut ${at}`, left, `… ${counted(step.cut, "item")}`, "item", `${counted(step.cut, "item")} of ${own} that are not drawn`);
+      continue;
+    }
     const { space, index } = chains.items[step], { label, title } = itemTexts(space, index, space === "func" ? file.functionNames.get(index) : undefined);
     left = boxes.add(`${n} ${step}`, left, label, "item", `${title} of ${own}`);
   }
@@ -303,36 +346,34 @@ function boxesOf(found, wanted, isOfOne) {
   let ends = 0;
   const end = (id, it, leftOf) => {
     if (++ends > MOST.ends) return;
-    boxes.add(id, leftOf(), shortImport(isOfOne ? null : it.module, it.name), "import", `${it.module} ${it.name}`);
+    boxes.add(id, leftOf(), shortImport(isOfOne ? null : it.module, it.name), "import", `${it.module} ${it.name}`, false, it.module);
   };
-  for (const it of main.imports.filter((it) => isOuter(inner)(it) && wanted(it))) end(`main ${it.module} ${it.name}`, it, () => addMainPath(boxes, found, it));
+  for (const it of main.imports.filter((it) => isOuter(inner)(it) && wanted(it))) end(JSON.stringify([it.module, it.name]), it, () => addMainPath(boxes, found, it));
   adapters.forEach(({ file }, n) => parts[n].chains?.imports.forEach((at, number) => {
     const it = file.imports[number];
     if (at !== null && it && isOuter(inner)(it) && wanted(it)) end(`${n} import ${number}`, it, () => addChain(boxes, found, n, at));
   }));
-  return { boxes: boxes.all, more: Math.max(0, ends - MOST.ends) };
+  return { boxes: boxes.all, more: Math.max(0, ends - MOST.ends), cuts: [] };
 }
 
-/** A list as a sentence has it, of at most six names. */
-const joined = (names) => {
-  const shown = names.length > 6 ? [...names.slice(0, 5), `${names.length - 5} more`] : names;
-  return shown.length < 2 ? shown.join("") : `${shown.slice(0, -1).join(", ")} and ${shown.at(-1)}`;
-};
-
-/** Why an interface is imported, and when it goes. */
+/** Why an interface is imported, and when it goes, as far as modules say it. */
 export function sentence(main, it) {
   const [calls, own, ticked] = [it.calls, it.own, it.ticked].map((set) => [...set]), count = calls.length + own.length + ticked.length;
-  if (![...it.functions.values()].some(Boolean)) return "It is not imported: no export that is used reaches it, and trimming removes it.";
+  if (it.kind === null) return "No function of it is imported: no export that is used reaches one.";
+  if (it.kind === "types") return "It is imported for its types alone, as long as all is used that the component needs; what you took away or ticked may change that.";
   if (it.isOfMain) return `${main.name} imports it itself${count ? `, and ${joined([...calls, ...own, ...ticked])} of an adapter ${count > 1 ? "reach" : "reaches"} it too` : ". It goes when no code there calls it"}.`;
   const parts = [calls.length && `${main.name} calls ${joined(calls)}`, own.length && `the component needs ${joined(own)}`, ticked.length && `you ticked ${joined(ticked)}`].filter(Boolean);
   return `It is imported because ${parts.join(", and ")}. It goes when ${count > 1 ? "none of these is" : "that is not"} used.`;
 }
 
+/** Where each path to what was asked for could be cut. */
+const cutSentence = (cuts) => (cuts.length ? ` Each path goes through ${joined(cuts)}, marked *: without ${cuts.length > 1 ? "a call of one of these" : "that"} it goes.` : "");
+
 /** A fault as it is shown: what it means, in which file and where, what to do, and the library's own text. */
 export function faultView(why) {
-  const { means, hint } = hintOf(why), place = placeOf(why.place ?? null), file = why.file ? `${why.file}: ` : "";
-  const missing = why.missing ? `export ${JSON.stringify(why.missing)}` : "";
-  return { title: `${file}${means || why.message}`, text: why.message, where: [place, missing].filter(Boolean).join(", "), hint, number: why.number ?? null };
+  const { means, hint } = hintOf(why), place = why.place?.kind === "json-path" ? why.place.path || "the whole" : placeText(why.place ?? null);
+  const file = why.file ? `${why.file}: ` : "", missing = why.missing ? `export ${JSON.stringify(why.missing)}` : "", text = why.text ?? (means ? why.message : "");
+  return { title: `${file}${means || why.message}`, text, where: [place, missing].filter(Boolean).join(", "), hint: hint || (why.hint ?? ""), number: why.number ?? null };
 }
 
 /** Whether a name may be an adapter's: it is of no package, and nothing that the binary format of components fixes. */
@@ -367,6 +408,12 @@ export function notesOf({ main, isAdapter, asked, adapters, worlds, whole, parts
   return notes;
 }
 
+/** What to do next where there is no program. */
+function noteWithoutMain({ worlds, faults }) {
+  if (!worlds || faults.some((it) => it.file === worlds.name)) return [];
+  return [{ text: `Add your program too: ${worlds.name} has worlds, and no module is there.`, offer: null, also: "" }];
+}
+
 /** What can be saved, of all that was computed. */
 export function downloadsOf({ main, adapters, parts, renamed, record }) {
   if (!main) return [];
@@ -376,10 +423,10 @@ export function downloadsOf({ main, adapters, parts, renamed, record }) {
   return list;
 }
 
-function filesView({ files, main, adapters }) {
+function filesView({ files, main, adapters, faults }) {
   return files.map((it) => {
     const adapter = adapters.find((other) => other.file === it);
-    return { name: it.name, size: it.bytes.length, role: it === main ? "main" : adapter ? "adapter" : it.refused ? "refused" : "worlds", as: adapter?.name ?? null };
+    return { name: it.name, size: it.bytes.length, role: it === main ? "main" : adapter ? "adapter" : it.refused || faults.some((why) => why.file === it.name) ? "refused" : "worlds", as: adapter?.name ?? null };
   });
 }
 
@@ -388,25 +435,53 @@ function switchesOf({ adapters, parts }) {
   return adapters.map(({ name }, n) => ({ adapter: name, ...listed(name, parts[n], parts[n].required), others: listed(name, parts[n], parts[n].others) }));
 }
 
+/** The interfaces that a key asks about, and the paths to them; null if there are none. */
+function pickedOf(found, key) {
+  const { answer, interfaces } = found, own = interfaces.filter((it) => it.key === key);
+  // trimming removed it: the world may not have it at all
+  if (!answer || own[0]?.kind === null) {
+    const list = own.length ? own : interfaces.filter((it) => asksFor(key, it.key)), keys = new Set(list.map((it) => it.key));
+    return list.length ? { list, paths: answer ? { boxes: [], more: 0, cuts: [] } : boxesOf(found, (it) => keys.has(it.module), list.length === 1) } : null;
+  }
+  try {
+    const paths = answer.pathsOf(key), keys = new Set(paths.ways.map((it) => it.interface)), list = interfaces.filter((it) => keys.has(it.key));
+    return { list: list.length ? list : interfaces.filter((it) => asksFor(key, it.key)), paths: componentBoxes(found, paths, list.length === 1) };
+  } catch (why) {
+    if (!(why instanceof Fault || why instanceof BadArgument)) throw why;
+    const list = interfaces.filter((it) => asksFor(key, it.key));
+    return list.length ? { list, paths: { boxes: [], more: 0, cuts: [] } } : null;
+  }
+}
+
 /** What the page draws: of what was computed what a search finds, and the picture of what is picked. */
 export function view(found, { find = "", picked = null } = {}) {
-  const { main, adapters, parts, record, renamed, whole } = found, text = find.trim().toLowerCase();
-  const shown = { files: filesView(found), faults: found.faults.map(faultView), main: main?.name ?? null, notes: main ? notesOf(found) : [] };
+  const { main, adapters, parts, record, renamed, whole, answer } = found, text = find.trim().toLowerCase();
+  const shown = { files: filesView(found), faults: found.faults.map(faultView), main: main?.name ?? null, notes: main ? notesOf(found) : noteWithoutMain(found) };
   Object.assign(shown, { worlds: whole?.names ?? found.faults.find((it) => it.worlds)?.worlds ?? [], world: whole?.world ?? found.faults.find((it) => it.worlds)?.world ?? null });
   if (!main) return shown;
   const matches = (it) => !text || it.key.toLowerCase().includes(text) || [...it.functions.keys()].some((name) => name.toLowerCase().includes(text));
+  const through = (it) => (answer ? throughOf(main, it) : [...(it.isOfMain ? [main.name] : []), ...it.calls, ...it.own, ...it.ticked]);
+  const says = (it) => (answer ? componentSentence(main, it) : sentence(main, it));
   const entries = found.interfaces.map((it) => ({ ...it, count: [...it.functions.values()].filter(Boolean).length }));
-  const stays = entries.filter((it) => it.count > 0), one = entries.find((it) => it.key === picked) ?? null;
-  const listed = cut(entries.filter(matches), MOST.interfaces), boxes = boxesOf(found, one ? (it) => it.module === one.key : () => true, one !== null);
-  const sum = (list) => list.reduce((all, it) => all + it, 0);
+  const stays = entries.filter((it) => it.kind !== null), one = picked === null ? null : pickedOf({ ...found, interfaces: entries }, picked);
+  const listed = cut(entries.filter(matches), MOST.interfaces), all = () => (answer ? componentBoxes(found, answer.all, false) : boxesOf(found, () => true, false));
+  const sum = (list) => list.reduce((total, it) => total + it, 0), paths = one ? one.paths : all();
+  const functions = one ? one.list.flatMap((it) => [...it.functions].map(([name, isImported]) => ({ name: one.list.length > 1 ? `${it.key} ${name}` : name, isImported }))) : [];
   return {
     ...shown,
-    interfaces: listed.list.map(({ key, functions, count, calls, own, ticked, isOfMain }) => ({ key, count, all: functions.size, isOpen: !whole && mayBeAdapter(key), through: [...(isOfMain ? [main.name] : []), ...calls, ...own, ...ticked].slice(0, 4), others: Math.max(0, calls.size + own.size + ticked.size + isOfMain - 4) })),
+    // what is asked about types has the worlds' answer alone
+    hasTypes: answer !== null,
+    interfaces: listed.list.map((it) => ({ key: it.key, kind: it.kind, count: it.count, all: it.functions.size, isOpen: !whole && mayBeAdapter(it.key), through: through(it).slice(0, 4), others: Math.max(0, through(it).length - 4) })),
     moreInterfaces: listed.more,
     numbers: { interfaces: stays.length, of: entries.length, functions: sum(stays.map((it) => it.count)), renamed: renamed?.renames.length ?? null, lowerings: record?.plan.length ?? null, before: sum(adapters.map((it) => it.file.bytes.length)), after: sum(parts.map((it) => it.trimmed?.length ?? 0)) },
     switches: switchesOf(found),
-    picked: one && { key: one.key, says: sentence(main, one), functions: cut([...one.functions].map(([name, isImported]) => ({ name, isImported })), MOST.functions) },
-    picture: boxes,
+    picked: one && {
+      key: one.list.length === 1 ? one.list[0].key : picked,
+      says: (one.list.length === 1 ? says(one.list[0]) : one.list.length ? `These are ${counted(one.list.length, "interface")}.` : "It is in the world, and not imported.") + cutSentence(paths.cuts),
+      list: one.list.map((it) => ({ key: it.key, says: says(it) })),
+      functions: cut(functions, MOST.functions),
+    },
+    picture: paths,
     renames: cut(renamed?.renames ?? [], MOST.renames),
     plan: record && cut(record.plan.map((it) => ({ ...it, module: it.module.kind === "main" ? "main" : it.module.name })), MOST.uses),
   };

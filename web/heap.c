@@ -40,17 +40,18 @@ static struct free_block *lists[CLASSES];
 static size_t top, end, used;
 static size_t limit = MOST;
 
-/* The class of the smallest blocks that have room for so many bytes beside their head. Sizes are counted in sixteens: from 2
- * to 7 each is a class, and then 8, 10, 12, 14, 16, 20, 24, 28, 32, .. */
+/* The class of the smallest blocks that have room for so many bytes. Sizes are counted in sixteens: from 1 to 7 each is a
+ * class, and then 8, 10, 12, 14, 16, 20, 24, 28, 32, ..: so a size that is a power of two has a class of its own. */
 static unsigned class_of(size_t size) {
     /* a block that is given back has room for the next one's address */
-    size_t count = size ? (size + HEAD + 15) / 16 : 2;
+    size_t count = size ? (size + 15) / 16 : 1;
     unsigned shift = count < 8 ? 0 : 61 - (unsigned)__builtin_clzll(count);
     return shift * 4 + (unsigned)((count + ((size_t)1 << shift) - 1) >> shift);
 }
 
+/* How many bytes a block of a class takes, with those in front of it. */
 static size_t size_of_class(unsigned class) {
-    return class < 8 ? class * (size_t)16 : (size_t)(class % 4 + 4) << (class / 4 - 1 + 4);
+    return HEAD + (class < 8 ? class * (size_t)16 : (size_t)(class % 4 + 4) << (class / 4 - 1 + 4));
 }
 
 static unsigned *class_at(void *block) { return (unsigned *)((unsigned char *)block - HEAD); }
@@ -120,8 +121,9 @@ allocated rattle_realloc(void *block, size_t kept, size_t size, size_t align) {
     unsigned class = *class_at(block), wanted = class_of(size);
     if (wanted <= class) return allocated_of(block);
     size_t begins = (size_t)block - HEAD;
-    /* the last block grows where it is */
-    if (begins + size_of_class(class) == top && has_room(size_of_class(wanted) - size_of_class(class))) {
+    /* the last block grows where it is, but only where no free one is as large: else none would be used that grew before */
+    _Bool is_last = begins + size_of_class(class) == top;
+    if (is_last && !lists[wanted] && has_room(size_of_class(wanted) - size_of_class(class))) {
         top = begins + size_of_class(wanted);
         *class_at(block) = wanted;
         return allocated_of(block);

@@ -1,4 +1,4 @@
-// What a fault means, what to do about it, and where it is, in words. The numbers of faults are those of calls.mjs.
+// What a fault means, and what to do about it, in words. The numbers of faults are those of calls.mjs.
 import { FAULTS } from "./calls.mjs";
 
 /** The faults that carry another one, with the enum of that. */
@@ -73,7 +73,7 @@ export const HINTS = {
     NOT_A_BOOL: ["Something in the worlds has to be true or false.", WORLDS],
   },
   json: {
-    NOT_JSON: ["The file of worlds is not JSON.", "Of a folder of WIT text wasm-tools component wit --json FOLDER prints it. A module has to end in WebAssembly's binary format."],
+    NOT_JSON: ["It is neither a WebAssembly module nor JSON.", "Give worlds as wasm-tools component wit --json FOLDER prints them, of a folder of WIT text; and a module in WebAssembly's binary format, and not as text."],
     REPEATED_MEMBER: ["An object in the worlds has two members of one name.", WORLDS],
     WRONG: ["The JSON is not that of worlds.", WORLDS],
   },
@@ -135,7 +135,7 @@ export const HINTS = {
     OUTPUT: ["The plan can't be written.", ""],
   },
   message: {
-    NOT_TEXT: ["A name or the worlds are not Unicode.", WORLDS],
+    NOT_TEXT: ["It is neither a WebAssembly module nor a text in UTF-8.", "Give a module as a compiler makes it, or worlds as wasm-tools component wit --json prints them."],
     JSON: ["The worlds can't be read.", WORLDS],
     UNKNOWN_WORLD: ["There is no such world.", "Choose another world."],
     LENGTHS: ["The modules have other lengths than was said.", ""],
@@ -175,41 +175,4 @@ export function faultsOf(call, number) {
 export function hintOf({ call, number }) {
   const [means, hint] = faultsOf(call, number).map(([of, name]) => HINTS[of][name]).at(-1) ?? ["", ""];
   return { means, hint };
-}
-
-/** The sections by their ids. */
-const SECTIONS = ["custom", "type", "import", "function", "table", "memory", "global", "export", "start", "element", "code", "data", "data count"];
-const section = (id) => (SECTIONS[id] ? `the ${SECTIONS[id]} section` : `the section of the number ${id}`);
-const valType = (it) => (typeof it === "string" ? it : `(ref ${it.nullable ? "null " : ""}${it.index})`);
-const funcType = ({ params, results }) => `(${params.map(valType).join(", ")}) → (${results.map(valType).join(", ")})`;
-const quoted = (it) => JSON.stringify(it);
-
-const PLACES = {
-  import: (it) => `import ${quoted(it.module)} ${quoted(it.name)}`,
-  export: (it) => `export ${quoted(it.name)}`,
-  "missing-export": (it) => `missing export ${quoted(it.name)}`,
-  "missing-function": (it) => `missing function ${quoted(it.name)} of ${quoted(it.module)}`,
-  bytes: (it) => `byte ${it.offset}${it.section === null ? "" : `, in ${section(it.section)}`}`,
-  section: (it) => section(it.id),
-  body: (it) => `${it.operator === null ? "" : `instruction ${it.operator} of `}the body of function ${it.function}`,
-  "page-sizes": (it) => `pages of ${it.own} bytes, and of ${it.main} bytes in the main module`,
-  module: () => "",
-  function: (it) => `function ${quoted(it.name)}${it.interface === null ? "" : ` of ${quoted(it.interface)}`}`,
-  world: (it) => `worlds[${it.index}]`,
-  interface: (it) => `interfaces[${it.index}]`,
-  type: (it) => `types[${it.index}]`,
-  package: (it) => `packages[${it.index}]`,
-  key: (it) => `export ${quoted(it.key)} of the world`,
-  worlds: (it) => `worlds: ${it.worlds.join(", ")}`,
-  imports: (it) => `key ${quoted(it.key)} of ${it.imports.length ? `imports ${it.imports.map(quoted).join(", ")}` : "no imports"}`,
-  "json-byte": (it) => `byte ${it.byte}`,
-  "json-path": (it) => it.path.replace(/^resolve\.?/, "") || "the whole",
-};
-
-/** Where a fault is, in words; what is not known here is as the library says it. */
-export function placeOf(place) {
-  if (!place) return "";
-  const { kind, ...members } = place;
-  const words = PLACES[kind] ? PLACES[kind](members) : `${kind} ${JSON.stringify(members)}`;
-  return place.types ? `${words}: wanted ${funcType(place.types.wanted)}, found ${funcType(place.types.found)}` : words;
 }

@@ -1,10 +1,11 @@
-/** What bytes are passed as. */
-export type Bytes = Uint8Array | ArrayBuffer;
+/** What bytes are passed as. Anything else is a TypeError. */
+export type Bytes = Uint8Array | ArrayBuffer | ArrayBufferView;
 
 /** An error of this module. */
 export class NuigatreError extends Error {}
 
-/** There is no result, because of a fault in what was passed. */
+/** There is no result, because of a fault in what was passed. Its message is a line of its text and its place, as
+ *  `World: Main: MissingWorldExport: missing export "is-ready"`. */
 export class Fault extends NuigatreError {
   /** The call, as `trim`. */
   call: string;
@@ -12,7 +13,8 @@ export class Fault extends NuigatreError {
   number: number;
   /** The fault's text, as `World: Main: MissingWorldExport`. */
   text: string;
-  /** What the fault is about, as the import or the byte; `kind` says what it is. null where nothing is known. */
+  /** What the fault is about, as the import or the byte; `kind` says what it is. null where nothing is known. Bytes and paths of
+   *  JSON are those of the worlds as they were passed. */
   place: Place | null;
   /** Of `trim` and `why` where an export of the adapter is missing: its name; else null. */
   missing: string | null;
@@ -24,7 +26,7 @@ export interface Place {
   [member: string]: unknown;
 }
 
-/** The call has no result for such arguments: no name, or one that is not Unicode. */
+/** The call has no result for such arguments: no name, or one that is not Unicode; a number that 32 bits don't have. */
 export class BadArgument extends NuigatreError {
   call: string;
 }
@@ -121,8 +123,9 @@ export interface Adapter {
 
 /** A component: its worlds and its modules. */
 export interface Component {
-  /** The resolved worlds as JSON: what `wasm-tools component wit --json` prints, as a text, its bytes or an object. */
-  worlds: string | Uint8Array | object;
+  /** The resolved worlds as JSON: what `wasm-tools component wit --json` prints, as a text, its bytes or an object. It is one JSON
+   *  value, which nests at most 127 deep. */
+  worlds: string | Bytes | object;
   /** The world, by its index or its name. */
   world: number | string;
   main: Bytes;
@@ -247,6 +250,6 @@ export class Nuigatre {
   /** Validates the main module of a component, or the adapter of a name for the functions that are required of it, and
    *  returns what it imports and exports. */
   validatedModule(component: Component, adapter?: string | null, required?: Iterable<RequiredFunction>): ModuleRecord;
-  /** The text of a fault of a call on bytes by its number; null if there is none. */
+  /** The text of a fault of a call on bytes by its number; null if there is none. Of another call it throws BadArgument. */
   faultText(call: "dedupe" | "trim" | "why" | "scan" | "paths", number: number): string | null;
 }

@@ -1,7 +1,9 @@
 // The calls of nuigatre.wasm, in browsers and in node: bytes in, bytes and objects out. Their types are in nuigatre.d.mts.
 import { ABI, CALLS, FAULTS, NUMBERS, STATUSES } from "./calls.mjs";
+import { lineOf } from "./places.mjs";
 
-const encoder = new TextEncoder(), decoder = new TextDecoder();
+// a name may begin with U+FEFF, which a decoder leaves out unless it is told not to
+const encoder = new TextEncoder(), decoder = new TextDecoder("utf-8", { fatal: true, ignoreBOM: true });
 const ANSWER_LENGTH = 32;
 /** What is first offered to an answer: the library says where it is too little, and is called again. */
 const ROOM = 1 << 16;
@@ -27,7 +29,42 @@ export class OutOfMemory extends NuigatreError {}
 /** The call was stopped in its middle, by a trap. What it had in memory is gone; the next call begins anew. */
 export class Stopped extends NuigatreError {}
 
-const bytesOf = (it) => (typeof it === "string" ? encoder.encode(it) : it instanceof Uint8Array ? it : new Uint8Array(it));
+const kindOf = (it) => (it === null ? "null" : typeof it === "object" ? (it.constructor?.name ?? "an object") : typeof it);
+const isBuffer = (it) => /^\[object (?:Shared)?ArrayBuffer\]$/.test(Object.prototype.toString.call(it));
+const isBytes = (it) => ArrayBuffer.isView(it) || isBuffer(it);
+
+/** The bytes of a module. Whatever else a Uint8Array can be made of would be other bytes. */
+function bytesOf(it) {
+  if (it instanceof Uint8Array) return it;
+  if (ArrayBuffer.isView(it)) return new Uint8Array(it.buffer, it.byteOffset, it.byteLength);
+  if (isBuffer(it)) return new Uint8Array(it);
+  throw new TypeError(`a module is a Uint8Array or an ArrayBuffer, and not ${kindOf(it)}`);
+}
+
+/** A list; a text is a list of its characters, which nobody wants. */
+function listOf(it) {
+  if (typeof it === "string" || isBytes(it) || typeof it?.[Symbol.iterator] !== "function") throw new TypeError(`a list is wanted, and not ${kindOf(it)}`);
+  return [...it];
+}
+
+/** A text as UTF-8. One with half of a surrogate pair has no UTF-8: encoded all the same it would be another text. */
+function utf8(call, text) {
+  if (typeof text !== "string") throw new TypeError(`a name is a string, and not ${kindOf(text)}`);
+  if (/\p{Surrogate}/u.test(text)) throw new BadArgument(`${call}: a text is not Unicode`, { call });
+  return encoder.encode(text);
+}
+
+const namesOf = (call, it) => listOf(it).map((name) => utf8(call, name));
+
+/** JSON of a value, whose texts are Unicode. */
+function jsonOf(call, value) {
+  const text = JSON.stringify(value, (key, it) => {
+    for (const part of [key, it]) if (typeof part === "string") utf8(call, part);
+    return it;
+  });
+  if (text === undefined) throw new TypeError(`${kindOf(value)} is no JSON`);
+  return encoder.encode(text);
+}
 
 /** The memory of one call. Pointers are BigInts, also where addresses have 32 bits. */
 class Frame {
@@ -54,14 +91,14 @@ class Frame {
     return new DataView(this.exports.memory.buffer);
   }
 
-  slice(it) {
-    const bytes = bytesOf(it), at = this.room(bytes.length);
+  slice(bytes) {
+    const at = this.room(bytes.length);
     this.bytes.set(bytes, at);
     return [BigInt(at), BigInt(bytes.length)];
   }
 
   slices(list) {
-    const pairs = Array.from(list, (it) => this.slice(it)), at = this.room(16 * pairs.length), numbers = this.numbers;
+    const pairs = list.map((it) => this.slice(it)), at = this.room(16 * pairs.length), numbers = this.numbers;
     pairs.flat().forEach((number, n) => numbers.setBigUint64(at + 8 * n, number, true));
     return [BigInt(at), BigInt(pairs.length)];
   }
@@ -105,18 +142,35 @@ class Reader {
 }
 
 /** What a message begins with: the worlds come next. */
-const HEAD = '{"resolve":';
+const HEAD = encoder.encode('{"resolve":'), COMMA = encoder.encode(",");
+const NONE = new Uint8Array(0);
+/** The number of the fault of a message that is not JSON. */
+const NOT_JSON = FAULTS.message.JSON + 256 * FAULTS.json.NOT_JSON;
+/** How a path begins that leads into the worlds of a message, by itself or in the text of a fault. */
+const IN_WORLDS = /^(Json: )?resolve(?:\.|: |$|(?=\[))/;
 
-/** A component as the calls on messages take it: the message, and the bytes of all modules. */
-function messageOf({ worlds, world, main, adapters = [], ...options }) {
-  const text = typeof worlds === "string" ? worlds : worlds instanceof Uint8Array ? decoder.decode(worlds) : JSON.stringify(worlds);
-  const modules = [main, ...adapters.map((it) => it.wasm)].map(bytesOf);
-  const parts = adapters.map(({ wasm, exports = [], ...it }, n) => ({ exports, ...it, length: modules[n + 1].length }));
-  const whole = new Uint8Array(modules.reduce((sum, it) => sum + it.length, 0));
-  modules.reduce((at, it) => (whole.set(it, at), at + it.length), 0);
-  // the text goes in as it is: JSON.parse would lose members that are there twice, which is a fault
-  const rest = JSON.stringify({ ...options, world, length: modules[0].length, adapters: parts });
-  return { message: `${HEAD}${text},${rest.slice(1)}`, modules: whole };
+function joined(parts) {
+  const whole = new Uint8Array(parts.reduce((sum, it) => sum + it.length, 0));
+  parts.reduce((at, it) => (whole.set(it, at), at + it.length), 0);
+  return whole;
+}
+
+/** The text of worlds. One that is passed stays as it is: JSON.parse would lose members that are there twice, which is a fault. */
+function worldsOf(call, it) {
+  if (isBytes(it)) return bytesOf(it);
+  if (typeof it === "string") return utf8(call, it);
+  if (typeof it !== "object" || it === null) throw new TypeError(`worlds are a text, bytes or an object, and not ${kindOf(it)}`);
+  return jsonOf(call, it);
+}
+
+/** A component as the calls on messages take it: the text of its worlds, the rest of the message, and the bytes of all modules. */
+function partsOf(call, { worlds, world, main, adapters = [], exports = null, resolve, ...options }) {
+  if (resolve !== undefined) throw new TypeError("the worlds of a component are its member worlds, and not resolve");
+  const parts = listOf(adapters).map(({ wasm, exports: keys = [], ...it }) => ({ wasm: bytesOf(wasm), it: { ...it, exports: listOf(keys) } }));
+  const modules = [bytesOf(main), ...parts.map((it) => it.wasm)];
+  const listed = parts.map(({ wasm, it }) => ({ ...it, length: wasm.length }));
+  const rest = { ...options, exports: exports && listOf(exports), world, length: modules[0].length, adapters: listed };
+  return { text: worldsOf(call, worlds), rest: jsonOf(call, rest).subarray(1), modules: joined(modules) };
 }
 
 const TYPES = { i32: 0x7f, i64: 0x7e, f32: 0x7d, f64: 0x7c, v128: 0x7b, funcref: 0x70, externref: 0x6f };
@@ -124,10 +178,13 @@ const leb128 = (it) => (it < 128 ? [it] : [(it & 127) | 128, ...leb128(it >>> 7)
 const vector = (list) => [...leb128(list.length), ...list.flat()];
 
 /** Functions that are required of an adapter, with their types, as the binary format has them. */
-function functionsOf(list) {
-  const types = (names) => vector(names.map((it) => TYPES[it] ?? 0));
-  return Uint8Array.from(vector(Array.from(list, ({ name, params, results }) => [...vector([...encoder.encode(name)]), 0x60, ...types(params), ...types(results)])));
+function functionsOf(call, list) {
+  const types = (names) => vector(listOf(names).map((it) => (Object.hasOwn(TYPES, it) ? TYPES[it] : 0)));
+  return Uint8Array.from(vector(listOf(list).map(({ name, params, results }) => [...vector([...utf8(call, name)]), 0x60, ...types(params), ...types(results)])));
 }
+
+/** Whether 32 bits have a number: more of it would be left out. */
+const isU32 = (it) => Number.isInteger(it) && it >= 0 && it < 2 ** 32;
 
 const parsed = (bytes) => JSON.parse(decoder.decode(bytes));
 
@@ -219,15 +276,27 @@ export class Nuigatre {
 
   #fault(name, given, { fault: number, bytes, position }) {
     const isOnBytes = name in NUMBERS, split = isOnBytes ? 0 : position;
-    const text = isOnBytes ? this.faultText(name, number) : decoder.decode(bytes.subarray(0, split));
+    let text = isOnBytes ? this.faultText(name, number) : decoder.decode(bytes.subarray(0, split));
     const place = bytes.length > split ? parsed(bytes.subarray(split)) : null;
-    // a byte of the message is one of the worlds, which are its first member
-    if (place?.kind === "json-byte") place.byte -= HEAD.length;
+    // a byte or a path of the message is one of the worlds, which are its first member
+    if (place?.kind === "json-byte") place.byte -= given.before ?? 0;
+    if (place?.kind === "json-path") [text, place.path] = [text.replace(IN_WORLDS, (_, front = "") => front), place.path.replace(IN_WORLDS, "")];
     // of an export that is missing the answer has the position among the names that are passed
     const names = given.required ?? given.exports;
     const isMissing = isOnBytes && names !== undefined && number === FAULTS.gc.MISSING_EXPORT;
-    const missing = isMissing ? names[position] : null;
-    return new Fault(isMissing ? `${text} \`${missing}\`` : text, { call: name, number, text, place, missing });
+    const missing = isMissing ? decoder.decode(names[position]) : null;
+    return new Fault(lineOf(text, place, missing), { call: name, number, text, place, missing });
+  }
+
+  /** The message of a component, and the bytes of all of its modules. The text of the worlds has to be one JSON value, so that
+   *  nothing of it becomes another member of the message: the library is asked, with the text as a message, and says where
+   *  this stops being JSON. So there is no second grammar here, and the byte is that of the text. */
+  #message(name, component) {
+    const { text, rest, modules } = partsOf(name, component);
+    const answer = this.#once("world", { seed0: this.#seed[0], seed1: this.#seed[1], message: text, modules: NONE }, ROOM);
+    if (answer.status === STATUSES.FAULT && answer.fault === NOT_JSON) throw this.#fault(name, {}, answer);
+    if (answer.status === STATUSES.MEMORY) throw new OutOfMemory("out of memory", { call: name });
+    return { message: joined([HEAD, text, COMMA, rest]), modules, before: HEAD.length };
   }
 
   dedupe(given) {
@@ -239,13 +308,14 @@ export class Nuigatre {
   }
 
   trim(adapter, names, { realloc = null, pageSizeLog2 = 16 } = {}) {
-    const wasm = bytesOf(adapter), required = [...names], has_realloc = realloc !== null;
-    const given = { wasm, required, has_realloc, realloc: realloc ?? "", page_size_log2: pageSizeLog2 };
+    const wasm = bytesOf(adapter), required = namesOf("trim", names);
+    if (!isU32(pageSizeLog2)) throw new BadArgument(`trim: ${String(pageSizeLog2)} is no whole number of 32 bits`, { call: "trim" });
+    const given = { wasm, required, has_realloc: realloc !== null, realloc: utf8("trim", realloc ?? ""), page_size_log2: pageSizeLog2 };
     return this.#call("trim", given, wasm.length + ROOM).bytes;
   }
 
   why(adapter, names) {
-    return parsed(this.#call("why", { wasm: bytesOf(adapter), required: [...names] }).bytes);
+    return parsed(this.#call("why", { wasm: bytesOf(adapter), required: namesOf("why", names) }).bytes);
   }
 
   scan(module) {
@@ -254,29 +324,31 @@ export class Nuigatre {
   }
 
   paths(module, { exports = [], imports = [] } = {}) {
-    return parsed(this.#call("paths", { wasm: bytesOf(module), exports: [...exports], imports: [...imports] }).bytes).ways;
+    const given = { wasm: bytesOf(module), exports: namesOf("paths", exports), imports: namesOf("paths", imports) };
+    return parsed(this.#call("paths", given).bytes).ways;
   }
 
   world(component) {
-    const given = messageOf(component);
+    const given = this.#message("world", component);
     return this.#modules(this.#call("world", given, given.modules.length + 4 * ROOM));
   }
 
   plan(component) {
-    return parsed(this.#call("plan", messageOf(component), ROOM).bytes);
+    return parsed(this.#call("plan", this.#message("plan", component), ROOM).bytes);
   }
 
   plannedWorld(component) {
-    const given = messageOf(component);
+    const given = this.#message("planned_world", component);
     return this.#modules(this.#call("planned_world", given, given.modules.length + 4 * ROOM));
   }
 
   componentPaths(component, key) {
-    return parsed(this.#call("component_paths", { ...messageOf(component), key }).bytes);
+    const given = { ...this.#message("component_paths", component), key: utf8("component_paths", key) };
+    return parsed(this.#call("component_paths", given).bytes);
   }
 
   componentImports(component) {
-    return parsed(this.#call("component_imports", messageOf(component)).bytes).imports;
+    return parsed(this.#call("component_imports", this.#message("component_imports", component)).bytes).imports;
   }
 
   /** The record and the modules of an answer: the main module comes first, and then the adapters in the record's order. */
@@ -289,15 +361,19 @@ export class Nuigatre {
   }
 
   validate(component, adapter = null) {
-    this.#call("validate", { ...messageOf(component), has_adapter: adapter !== null, adapter: adapter ?? "" });
+    const given = { has_adapter: adapter !== null, adapter: utf8("validate", adapter ?? "") };
+    this.#call("validate", { ...this.#message("validate", component), ...given });
   }
 
   validatedModule(component, adapter = null, required = []) {
-    const given = { ...messageOf(component), has_adapter: adapter !== null, adapter: adapter ?? "", required: functionsOf(required) };
-    return parsed(this.#call("validated_module", given).bytes);
+    const name = "validated_module", given = { has_adapter: adapter !== null, adapter: utf8(name, adapter ?? "") };
+    const message = this.#message(name, component);
+    return parsed(this.#call("validated_module", { ...message, ...given, required: functionsOf(name, required) }).bytes);
   }
 
   faultText(call, number) {
+    if (!Object.hasOwn(NUMBERS, call)) throw new BadArgument(`${String(call)} is none of ${Object.keys(NUMBERS).join(", ")}`, { call: "fault_text" });
+    if (!isU32(number)) throw new BadArgument(`${String(number)} is no whole number of 32 bits`, { call: "fault_text" });
     const answer = this.#once("fault_text", { call: NUMBERS[call], number }, ROOM);
     if (answer.status === STATUSES.MEMORY) throw new OutOfMemory("out of memory", { call: "fault_text" });
     return answer.status === STATUSES.DONE ? decoder.decode(answer.bytes) : null;

@@ -132,21 +132,29 @@ function pick(key) {
 }
 
 function interfaceButton(it) {
-  const isGone = it.count === 0, through = it.through.join(", ") + (it.others ? ` and ${it.others} more` : "");
-  const inside = [made("span", { class: "key mono", text: isGone ? it.key : it.key.replace(/^[^/]*\//, "") }), made("span", { class: "count", text: isGone ? "" : `${it.count} of ${it.all}` })];
-  if (!isGone) inside.push(made("span", { class: "through", text: `through ${through}` }));
-  const name = isGone ? `${it.key}, not imported` : `${it.key}, ${it.count} of ${it.all} ${plural(it.all, "function")}, through ${through}`;
+  const isGone = it.kind === null, isTypes = it.kind === "types", through = it.through.join(", ") + (it.others ? ` and ${it.others} more` : "");
+  const inside = [made("span", { class: "key mono", text: isGone || isTypes ? it.key : it.key.replace(/^[^/]*\//, "") }), made("span", { class: "count", text: isGone || isTypes ? "" : `${it.count} of ${it.all}` })];
+  if (!isGone && !isTypes) inside.push(made("span", { class: "through", text: `through ${through}` }));
+  const name = isGone ? `${it.key}, no function imported` : isTypes ? `${it.key}, for its types alone` : `${it.key}, ${it.count} of ${it.all} ${plural(it.all, "function")}, through ${through}`;
   return made("button", { type: "button", class: isGone ? "gone" : null, "data-key": `interface ${it.key}`, "aria-pressed": String(state.picked === it.key), "aria-label": name, children: inside, on: { click: () => pick(it.key) } });
 }
 
-function listOf(interfaces, more) {
-  const lines = [];
-  let head = null;
-  for (const it of interfaces) {
-    const group = it.isOpen ? "Of no package: an adapter’s?" : it.count === 0 ? "Not imported: nothing that is used reaches them" : it.key.includes("/") ? it.key.replace(/\/.*/, "") : "Of the world itself";
-    if (group !== head) lines.push(made("h3", { text: (head = group) }));
-    lines.push(interfaceButton(it));
+function groupOf(it, hasTypes) {
+  if (it.isOpen) return "Of no package: an adapter’s?";
+  if (it.kind === "types") return "Imported for their types alone";
+  if (it.kind === null) return hasTypes ? "Not imported: nothing that is used reaches them" : "No function of them is used: they may be imported for types";
+  return it.key.includes("/") ? it.key.replace(/\/.*/, "") : "Of the world itself";
+}
+
+function listOf(interfaces, more, hasTypes) {
+  const groups = new Map(), lines = [];
+  // those of a package are together; what is imported comes first, and then what is so for its types, and what is not
+  const rank = (it) => (it.kind === null ? 2 : it.kind === "types" ? 1 : 0);
+  for (const it of [...interfaces].sort((a, b) => rank(a) - rank(b))) {
+    const group = groupOf(it, hasTypes);
+    (groups.get(group) ?? groups.set(group, []).get(group)).push(it);
   }
+  for (const [head, list] of groups) lines.push(made("h3", { text: head }), ...list.map(interfaceButton));
   if (more) lines.push(made("p", { class: "quiet", text: `${more} more: search for them.` }));
   return lines.length ? lines : [made("p", { class: "quiet", text: state.find ? "No module has an import like that." : "No module has an import." })];
 }
@@ -215,15 +223,29 @@ function showNotes(notes) {
   $("notes").replaceChildren(...notes.map((it) => made("li", { children: [made("span", { text: `${it.text} ${it.also} ` }), ...(it.offer ? [offer()] : [])] })));
 }
 
+/** The boxes that are shown, and how wide their room was when they were drawn. */
+let drawn = { boxes: [], more: 0 }, drawnWidth = 0;
+
+/** Draws the picture in the room that there is; whether it is wider. */
+function drawPicture() {
+  const { boxes, more } = drawn, room = $("picture");
+  drawnWidth = room.offsetWidth;
+  room.replaceChildren(...(boxes.length ? [picture(boxes, (it) => change({ picked: it.key }), room.clientWidth || Infinity)] : []));
+  const isWider = room.scrollWidth > room.clientWidth + 1;
+  $("more").textContent = `${more ? `${more} more paths are not drawn. ` : ""}${isWider ? "The picture is wider than its room: scroll it to the imports, or read the paths as text." : ""}`;
+  return isWider;
+}
+
+new ResizeObserver(() => {
+  if ($("picture").offsetWidth !== drawnWidth && $("picture").offsetWidth) keepingFocus(drawPicture);
+}).observe($("picture"));
+
 function showPaths({ picked, picture: { boxes, more } }) {
-  $("title").textContent = picked ? picked.key : "All imports, each by its shortest path";
+  $("title").textContent = picked ? picked.key : "All imports, each with its path";
   const says = picked ? picked.says : "";
   if ($("says").textContent !== says) $("says").textContent = says;
-  const draw = () => picture(boxes, (it) => change({ picked: it.title.replace(/ .*/s, "") }), $("picture").clientWidth || Infinity);
-  $("picture").replaceChildren(...(boxes.length ? [draw()] : []));
-  const isWider = $("picture").scrollWidth > $("picture").clientWidth + 1;
-  $("more").textContent = `${more ? `${more} more paths are not drawn. ` : ""}${isWider ? "The picture is wider than its room: scroll it to the imports, or read the paths as text." : ""}`;
-  const ends = forest(boxes).all.filter((it) => it.kind === "import");
+  drawn = { boxes, more };
+  const isWider = drawPicture(), ends = forest(boxes).all.filter((it) => it.kind === "import");
   $("paths").replaceChildren(...ends.map((it) => made("li", { text: pathOf(it) })));
   $("paths").parentElement.hidden = !boxes.length;
   const key = picked?.key ?? null;
@@ -257,7 +279,7 @@ function show(shown) {
   for (const id of ["used", "planned", "renamed", "kept"]) $(id).hidden = true;
   if (!shown.main) return showDownloads([]);
   $("proved").textContent = shown.isProved ? "by code with a machine-checked proof" : "by a build without its proof";
-  $("list").replaceChildren(...listOf(shown.interfaces, shown.moreInterfaces));
+  $("list").replaceChildren(...listOf(shown.interfaces, shown.moreInterfaces, shown.hasTypes));
   $("numbers").replaceChildren(...numberEntries(shown.numbers));
   $("uses").replaceChildren(...shown.switches.map(switchesOf));
   $("used").hidden = !shown.switches.length;

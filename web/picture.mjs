@@ -20,7 +20,7 @@ export function readable(name) {
   }
   if (parts.length > 1 && /^h[0-9a-f]{16}$/.test(parts.at(-1))) parts.pop();
   if (!parts.length) return name;
-  const whole = (it) => it.replace(/^_(?=\$)/, "").replace(/\$(\w+)\$/g, (sign, of) => SIGNS[of] ?? sign).replace(/\.\./g, "::");
+  const whole = (it) => it.replace(/^_(?=\$)/, "").replace(/\$(\w+)\$/g, (sign, of) => (Object.hasOwn(SIGNS, of) ? SIGNS[of] : sign)).replace(/\.\./g, "::");
   return parts.map(whole).join("::");
 }
 
@@ -79,46 +79,60 @@ function placeRows(roots) {
   return rows;
 }
 
+/** What is before the label of a box through which each path goes. */
+const mark = (it) => (it.isMark ? "* " : "");
+
 /** The path to a box as a text. */
 export function pathOf(it) {
   const labels = [];
-  for (let at = it; at; at = at.left) labels.unshift(at === it ? at.title : at.label);
-  return labels.join(" → ");
+  for (let at = it; at; at = at.left) labels.push(mark(at) + (at === it ? at.title : at.label));
+  return labels.reverse().join(" → ");
 }
+
+/** The text in a box. */
+const textOf = (it) => short(mark(it) + it.label);
 
 function draw(it, boxes, edges) {
   if (it.left) {
     const from = it.left.x + it.left.width, middle = it.x - GAP / 2;
     it.edge = element("path", { d: `M${from} ${it.left.y}C${middle} ${it.left.y} ${middle} ${it.y} ${it.x} ${it.y}` }, edges);
   }
-  it.box = element("g", { class: `node ${it.kind}` }, boxes);
+  it.box = element("g", { class: `node ${it.kind}${it.isMark ? " mark" : ""}` }, boxes);
   element("title", {}, it.box, it.title);
   element("rect", { x: it.x, y: it.y - HEIGHT / 2, width: it.width, height: HEIGHT, rx: it.kind === "item" ? 4 : 10 }, it.box);
-  element("text", { x: it.x + 8, y: it.y + 4 }, it.box, short(it.label));
+  element("text", { x: it.x + 8, y: it.y + 4 }, it.box, textOf(it));
 }
 
-/** Lights the path to a box while it is pointed at or focused, and picks an import by a click or a key. */
-function listen(svg, it, ends, pick) {
-  const light = (on) => {
-    svg.classList.toggle("pointed", on);
-    for (let at = it; at; at = at.left) {
-      at.box.classList.toggle("lit", on);
-      at.edge?.classList.toggle("lit", on);
+/** Lights the path to a box while it is pointed at or focused, and picks an import by a click or a key. The listeners are of what
+ *  is around the boxes: of each box with a listener of its focus a browser makes a stop of the Tab key. */
+function listen(frame, all, ends, pick) {
+  const byBox = new Map(all.map((it) => [it.box, it])), boxOf = (event) => byBox.get(event.target.closest?.(".node")) ?? null;
+  let lit = null;
+  const light = (to) => {
+    if (to === lit) return;
+    for (const [it, on] of [[lit, false], [to, true]]) {
+      for (let at = it; at; at = at.left) {
+        at.box.classList.toggle("lit", on);
+        at.edge?.classList.toggle("lit", on);
+      }
     }
+    frame.firstChild.classList.toggle("pointed", to !== null);
+    lit = to;
   };
-  for (const name of ["pointerenter", "focus"]) it.box.addEventListener(name, () => light(true));
-  for (const name of ["pointerleave", "blur"]) it.box.addEventListener(name, () => light(false));
-  if (it.kind !== "import") return;
-  const set = { tabindex: it === ends[0] ? "0" : "-1", role: "button", "aria-label": pathOf(it), "data-key": `node ${it.id}` };
-  for (const [name, value] of Object.entries(set)) it.box.setAttribute(name, value);
+  for (const name of ["pointerover", "focusin"]) frame.addEventListener(name, (event) => light(boxOf(event)));
+  for (const name of ["pointerleave", "focusout"]) frame.addEventListener(name, () => light(null));
   // one box is a stop of the Tab key: that which had the focus last
-  it.box.addEventListener("focus", () => {
-    for (const other of ends) other.box.setAttribute("tabindex", other === it ? "0" : "-1");
+  frame.addEventListener("focusin", (event) => {
+    const it = boxOf(event);
+    if (it?.kind === "import") for (const other of ends) other.box.setAttribute("tabindex", other === it ? "0" : "-1");
   });
-  it.box.addEventListener("click", () => pick(it));
-  it.box.addEventListener("keydown", (event) => {
-    const at = ends.indexOf(it), to = { ArrowDown: at + 1, ArrowUp: at - 1, Home: 0, End: ends.length - 1 }[event.key];
-    if (to === undefined && event.key !== "Enter" && event.key !== " ") return;
+  frame.addEventListener("click", (event) => {
+    const it = boxOf(event);
+    if (it?.kind === "import") pick(it);
+  });
+  frame.addEventListener("keydown", (event) => {
+    const it = boxOf(event), at = ends.indexOf(it), to = { ArrowDown: at + 1, ArrowUp: at - 1, Home: 0, End: ends.length - 1 }[event.key];
+    if (at < 0 || (to === undefined && event.key !== "Enter" && event.key !== " ")) return;
     event.preventDefault();
     if (to === undefined) pick(it);
     else ends[to]?.box.focus();
@@ -131,16 +145,20 @@ export function picture(boxes, pick, room = Infinity) {
   let width = 0;
   for (const it of all) {
     it.x = it.left ? it.left.x + it.left.width + GAP : 4;
-    it.width = short(it.label).length * CHARACTER + 16;
+    it.width = textOf(it).length * CHARACTER + 16;
     width = Math.max(width, it.x + it.width + 8);
   }
   const scale = Math.max(SMALLEST, Math.min(1, room / width));
   const svg = element("svg", { viewBox: `0 0 ${width} ${height}`, width: width * scale, height: height * scale, role: "group", "aria-label": "Paths from the main module to imports" });
   const edges = element("g", { class: "edges", "aria-hidden": "true" }, svg), nodes = element("g", {}, svg);
   const ends = all.filter((it) => it.kind === "import").sort((a, b) => a.y - b.y);
-  for (const it of all) {
-    draw(it, nodes, edges);
-    listen(svg, it, ends, pick);
-  }
-  return svg;
+  for (const it of all) draw(it, nodes, edges);
+  ends.forEach((it, n) => {
+    const set = { tabindex: n ? "-1" : "0", role: "button", "aria-label": pathOf(it), "data-key": `node ${it.id}` };
+    for (const [name, value] of Object.entries(set)) it.box.setAttribute(name, value);
+  });
+  const frame = document.createElement("div");
+  frame.append(svg);
+  listen(frame, all, ends, pick);
+  return frame;
 }

@@ -2,7 +2,8 @@
  *
  * Blocks of random sizes are asked for, made larger and given back. Each has to be aligned to 16, to lie in the memory, to
  * keep its bytes, and to share none with another; a growth that is refused leaves the block as it was. Once all are given
- * back, the next begins where the first did. The status is 1 where something is otherwise. */
+ * back, the next begins where the first did. Lists that grow, one after another or in turns, take at most twice the memory of
+ * what there is at once. The status is 1 where something is otherwise. */
 #include <stdint.h>
 #include <stdio.h>
 #include <stdlib.h>
@@ -100,7 +101,7 @@ static void round_of_steps(void) {
 
 static void classes(void) {
     size_t before = 0;
-    for (unsigned class = 2; class < 64; class++) {
+    for (unsigned class = 1; class < 64; class++) {
         size_t size = size_of_class(class);
         if (size <= before) wrong("classes are not in order");
         if (class_of(size - HEAD) != class || class_of(size - HEAD + 1) != class + 1) wrong("a size is of another class");
@@ -114,10 +115,70 @@ static void limits(void) {
     /* addresses are above 4 GB here, so nuigatre_limit has no use */
     limit = (size_t)region + 10 * 65536;
     void *small = nuigatre_alloc(4 * 65536);
-    if (!small || nuigatre_alloc(5 * 65536) || pages_now > 10) wrong("the limit is not kept");
+    if (!small || nuigatre_alloc(6 * 65536) || pages_now > 10) wrong("the limit is not kept");
     if (rattle_realloc(small, 1, (size_t)-1, 16).ok || rattle_alloc((size_t)-1, 16).ok) wrong("a size beyond all memory");
     nuigatre_free(small);
     limit = (size_t)-1;
+}
+
+/* A list grows, as its owner asks. */
+static void grow(struct block *it, size_t size) {
+    allocated answer = it->bytes ? rattle_realloc(it->bytes, it->size, size, 16) : rattle_alloc(size, 16);
+    if (!answer.ok) wrong("a list does not grow");
+    it->bytes = answer.block;
+    it->size = size;
+}
+
+static void drop(struct block *it) {
+    rattle_dealloc(it->bytes);
+    it->bytes = 0;
+    it->size = 0;
+}
+
+/* Lists double up to `size`, as those of the library do, `together` of them in turns, and go in `rounds`; a small block of each
+ * round stays, so that what comes next is after it. */
+static void growth(int rounds, int together, size_t size) {
+    size_t live = 0, most = 0;
+    struct block kept[BLOCKS] = {{0}};
+    pages_now = 1, pages_most = 1000;
+    if (rounds > BLOCKS || together > BLOCKS) wrong("there are not so many blocks");
+    unsigned char *first = nuigatre_alloc(1);
+    for (int at = 0; at < rounds; at++) {
+        for (size_t now = 16; now <= size; now *= 2) {
+            for (int list = 0; list < together; list++) {
+                live += now - blocks[list].size;
+                grow(&blocks[list], now);
+                if (live > most) most = live;
+            }
+        }
+        grow(&kept[at], 24);
+        live += 24;
+        for (int list = 0; list < together; list++) {
+            live -= blocks[list].size;
+            drop(&blocks[list]);
+        }
+    }
+    /* the bytes in front of blocks are of no list */
+    size_t taken = top - (size_t)first;
+    if (taken > 2 * most + 16384) {
+        printf("%d rounds of %d lists of %zu bytes take %zu bytes, where there are %zu at once\n", rounds, together, size, taken, most);
+        exit(1);
+    }
+    for (int at = 0; at < rounds; at++) drop(&kept[at]);
+    nuigatre_free(first);
+}
+
+static void growths(void) {
+    growth(1, 1, 1 << 20);
+    growth(200, 1, 1 << 10);
+    growth(200, 1, 1 << 16);
+    growth(100, 1, 1 << 22);
+    growth(50, 1, 3 << 20);
+    growth(1, 2, 1 << 20);
+    growth(100, 2, 1 << 16);
+    growth(100, 3, 1 << 18);
+    growth(20, 10, 1 << 16);
+    growth(20, 100, 1 << 12);
 }
 
 static void products(void) {
@@ -137,7 +198,8 @@ int main(int count, char **words) {
     classes();
     products();
     limits();
+    growths();
     for (long at = 0; at < cases; at++) round_of_steps();
-    printf("%ld rounds of 2000 steps, and 100000 products: all as wanted\n", cases);
+    printf("%ld rounds of 2000 steps, 10 of lists that grow, and 100000 products: all as wanted\n", cases);
     return 0;
 }

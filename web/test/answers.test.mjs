@@ -2,9 +2,10 @@
 import assert from "node:assert/strict";
 import { readFileSync } from "node:fs";
 import test from "node:test";
-import { compute, downloadsOf, faultView, MOST, readFile, rolesOf, view, worldsIn } from "../answers.mjs";
+import { asksFor, compute, downloadsOf, faultView, readFile, rolesOf, view, worldsIn } from "../answers.mjs";
+import { MOST } from "../boxes.mjs";
 import { FAULTS } from "../calls.mjs";
-import { faultsOf, HINTS, hintOf, placeOf } from "../hints.mjs";
+import { faultsOf, HINTS, hintOf } from "../hints.mjs";
 import { Nuigatre } from "../nuigatre.mjs";
 import { damaged, numbers } from "./damage.mjs";
 import { forest, pathOf, readable, shortName } from "../picture.mjs";
@@ -37,8 +38,8 @@ test("with worlds there are exact sizes and a plan, and an adapter is found for 
   assert.deepEqual([found.world, found.worlds], [2, ["guest", "old-notes", "app"]]);
   assert.deepEqual([found.numbers.before, found.numbers.after, found.numbers.lowerings], [512, 317, 4]);
   assert.deepEqual(found.switches[0].list.map((it) => it.name), ["length_of", "cabi_import_realloc", "is-ready"]);
-  assert.equal(found.picked.says, "main.wasm imports it itself, and length_of of an adapter reaches it too.");
-  assert.ok(paths(found).includes("main.wasm → print → length_of → my:notes/store@1.2.0 summarize"));
+  assert.match(found.picked.says, /^main\.wasm imports it itself, in print, and length_of of an adapter reaches it too\./);
+  assert.ok(paths(found).includes("main.wasm → * print → length_of → my:notes/store@1.2.0 summarize"));
   assert.deepEqual(found.plan.list.map((it) => it.slot), [0, 1, 2, 3]);
   assert.deepEqual(worldsIn("{"), []);
 });
@@ -108,8 +109,39 @@ test("faults say what they mean, in which file and where, and what to do, and le
   const lacking = shown([files()[0], files()[2]]).faults[0];
   assert.deepEqual([lacking.title.split(":")[0], lacking.where], ["main.wasm", 'import "old-notes" "length_of"']);
   assert.equal(faultView(Object.assign(new Error("x"), { place: null })).where, "");
-  const types = { wanted: { params: ["i32"], results: [] }, found: { params: [], results: ["i64", { nullable: true, index: 3 }] } };
-  assert.equal(placeOf({ kind: "export", adapter: null, name: "f", types }), 'export "f": wanted (i32) → (), found () → (i64, (ref null 3))');
+  const json = shown([...files().slice(0, 2), file("notes.json", Buffer.from('{"worlds":5}'))]).faults[0];
+  assert.deepEqual([json.text, json.where], ["Json: worlds: not a list", "worlds"]);
+});
+
+test("files that are no module have their fault, also where there is no program", () => {
+  const text = (name, content) => file(name, Buffer.from(content)), [, , worlds] = files();
+  for (const [given, title] of [
+    [text("empty.wasm", ""), "empty.wasm: It is neither a WebAssembly module nor JSON."],
+    [text("x.wit", "package a:b; world x {}"), "x.wit: It is neither a WebAssembly module nor JSON."],
+    [file("noise", Uint8Array.of(0xff, 0xfe, 1)), "noise: It is neither a WebAssembly module nor a text in UTF-8."],
+    [text("x.json", '{"worlds":[]}'), "x.json: The worlds lack a member."],
+    [text("mark.json", "\ufeff{}"), "mark.json: It is neither a WebAssembly module nor JSON."],
+  ]) {
+    const found = shown([given]);
+    assert.deepEqual([found.faults.map((it) => it.title), found.notes, found.files[0].role], [[title], [], "refused"]);
+    assert.ok(found.faults[0].hint && found.faults[0].text);
+    // beside a program too
+    assert.equal(shown([files()[0], given]).faults.at(-1).title, title);
+  }
+  const alone = shown([worlds]);
+  assert.deepEqual([alone.faults, alone.notes.map((it) => it.text), alone.files[0].role], [[], ["Add your program too: notes.json has worlds, and no module is there."], "worlds"]);
+  const two = shown([worlds, text("other.json", "{}")]);
+  assert.deepEqual(two.faults.map((it) => [it.title, it.hint]), [["other.json: it is no module, and the worlds are those of notes.json", "Take one of the two away."]]);
+  assert.equal(two.notes.length, 1);
+});
+
+test("a key asks about a module by its name or its package, with its version or without", () => {
+  const asked = (key) => ["wasi:io/error@0.2.6", "wasi:io/error", "wasi:io/error@0.3.0-rc.1", "env", "a:b"].filter((it) => asksFor(key, it));
+  assert.deepEqual(asked("wasi:io/error"), ["wasi:io/error@0.2.6", "wasi:io/error", "wasi:io/error@0.3.0-rc.1"]);
+  assert.deepEqual(asked("wasi:io/error@0.2.6"), ["wasi:io/error@0.2.6"]);
+  assert.deepEqual(asked("wasi:io@0.2.6"), ["wasi:io/error@0.2.6"]);
+  assert.deepEqual(asked("wasi:io").length, 3);
+  assert.deepEqual(["env", "a:b", "a", "", "wasi:i"].map((it) => asked(it).length), [1, 1, 0, 0, 0]);
 });
 
 test("each fault has what it means and what to do", () => {
@@ -121,7 +153,6 @@ test("each fault has what it means and what to do", () => {
   assert.deepEqual(faultsOf("component_paths", number).length, 4);
   assert.deepEqual(faultsOf("component_paths", FAULTS.component.WAYS + 256 * FAULTS.gc.TOO_LARGE), [["component", "WAYS"], ["gc", "TOO_LARGE"]]);
   assert.deepEqual(faultsOf("component_paths", FAULTS.component.UNKNOWN_IMPORT), [["component", "UNKNOWN_IMPORT"]]);
-  assert.equal(placeOf({ kind: "imports", key: "a", imports: ["b:c/d"] }), 'key "a" of imports "b:c/d"');
   assert.equal(hintOf({ call: "scan", number: read.COMPONENT }).means, HINTS.read.COMPONENT[0]);
   assert.deepEqual(hintOf({ call: "scan", number: 99999 }), { means: "", hint: "" });
 });

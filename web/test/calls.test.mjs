@@ -135,7 +135,6 @@ test("a component says why it imports what it does", () => {
   assert.deepEqual([unknown.call, unknown.number, unknown.text], ["component_paths", 16, "UnknownImport `my:notes/other`"]);
   assert.deepEqual([unknown.place.kind, unknown.place.key], ["imports", "my:notes/other"]);
   assert.ok(unknown.place.imports.includes("my:notes/store@1.2.0"));
-  assert.equal(thrown(() => library.componentPaths(notes(), "\ud800")).text, "UnknownImport `\ufffd`");
 });
 
 test("a component's world and plan are those of the examples", () => {
@@ -181,6 +180,7 @@ test("a fault has its number, its text and its place", () => {
   assert.ok(missing instanceof Fault);
   assert.equal(missing.text, "World: Main: MissingWorldExport");
   assert.deepEqual([missing.place.kind, missing.place.name], ["missing-export", "is-ready"]);
+  assert.equal(missing.message, 'World: Main: MissingWorldExport: missing export "is-ready"');
   const cut = thrown(() => library.trim(adapter.subarray(0, 100), ["size_of"]));
   assert.deepEqual([cut.call, cut.text, cut.number, cut.place.kind], ["trim", "Read: Truncated", 1 + 256 * 3, "bytes"]);
   const name = thrown(() => library.why(adapter, ["size_of", "other"]));
@@ -191,6 +191,11 @@ test("a fault has its number, its text and its place", () => {
   assert.equal(twice.text, "Json: repeated member");
   const wrong = thrown(() => library.world(notes({ worlds: '{"worlds":!}' })));
   assert.deepEqual([wrong.text, wrong.place], ["Json: not JSON", { kind: "json-byte", byte: 10 }]);
+  assert.deepEqual([twice.place.path, twice.message, wrong.message], ["worlds", "Json: worlds: repeated member", "Json: not JSON at byte 10"]);
+  const lacking = thrown(() => library.world(notes({ worlds: "{}" })));
+  assert.deepEqual([lacking.text, lacking.place.path, lacking.message], ["Json: worlds: missing", "worlds", "Json: worlds: missing"]);
+  assert.equal(thrown(() => library.world(notes({ worlds: "5" }))).message, "Json: not an object");
+  assert.equal(thrown(() => library.world(notes({ world: 1.5 }))).message, "Json: world: not an index");
 });
 
 test("damaged modules and messages end each call, and change no later one", () => {

@@ -1,5 +1,6 @@
 // Uses the page as a person would, and sends what was seen to the server of checks/web.py. It runs in the page itself.
 import { fileOf, newWorker } from "../files.mjs";
+import { throughTable } from "./components.mjs";
 import { damaged, numbers } from "./damage.mjs";
 
 const $ = (id) => document.getElementById(id);
@@ -37,7 +38,7 @@ const label = (name) => [...document.querySelectorAll("#uses label")].find((it) 
 /** Gives the focus to something; of a window that has none a browser sends no events. */
 function focus(it) {
   it.focus();
-  if (!document.hasFocus()) document.activeElement.dispatchEvent(new FocusEvent("focus"));
+  if (!document.hasFocus()) document.activeElement.dispatchEvent(new FocusEvent("focusin", { bubbles: true }));
 }
 
 /** Presses a key on what has the focus. */
@@ -45,8 +46,8 @@ function press(key) {
   const before = document.activeElement;
   before.dispatchEvent(new KeyboardEvent("keydown", { key, bubbles: true, cancelable: true }));
   if (document.activeElement !== before && !document.hasFocus()) {
-    before.dispatchEvent(new FocusEvent("blur"));
-    document.activeElement.dispatchEvent(new FocusEvent("focus"));
+    before.dispatchEvent(new FocusEvent("focusout", { bubbles: true }));
+    document.activeElement.dispatchEvent(new FocusEvent("focusin", { bubbles: true }));
   }
 }
 
@@ -97,7 +98,7 @@ async function picked() {
   check("a sentence says why it is imported", text("says").startsWith("main.wasm imports it itself"));
   check("its functions are listed", text("functions-title").endsWith("4 of 4 imported"));
   const path = [...$("paths").children].map((it) => it.textContent).find((it) => it.includes("summarize"));
-  check("a path leads through the program to the import", path === "main.wasm → print → length_of → my:notes/store@1.2.0 summarize");
+  check("a path leads through the program to the import", path === "main.wasm → * print → length_of → my:notes/store@1.2.0 summarize");
   const nodes = [...document.querySelectorAll("#picture .node.import")];
   check("one box of the picture is a stop of the Tab key", nodes.filter((it) => it.getAttribute("tabindex") === "0").length === 1);
   focus(nodes.find((it) => it.getAttribute("tabindex") === "0"));
@@ -178,6 +179,28 @@ async function begun() {
   check("a program alone asks for its adapter", text("notes").startsWith("Add the adapter old-notes too"));
 }
 
+/** An interface that is imported for its types alone, and a function that is called through a table. */
+async function typed() {
+  await cleared();
+  await drop(["app.wasm", throughTable().main], ["wasi.json", await fileOf("wasi-command.json")]);
+  const heads = [...document.querySelectorAll("#list h3")].map((it) => it.textContent);
+  check(`an interface for its types is imported: ${heads}`, heads.join() === "wasi:filesystem,Imported for their types alone" && text("numbers").includes("interfaces imported, of 2"));
+  button("wasi:clocks/wall-clock@0.2.6, for its types alone").click();
+  await settled();
+  check("and it is said which import needs one", text("says").includes("[method]descriptor.stat of wasi:filesystem/types@0.2.6 needs its type datetime"));
+  button("wasi:filesystem/types@0.2.6").click();
+  await settled();
+  check("where to cut is marked", document.querySelectorAll("#picture .node.mark").length === 2 && text("says").includes("Each path goes through table 0 and func 3"));
+  check("and who calls through a table is said", [...document.querySelectorAll("#picture .node text")].some((it) => it.textContent === "called by func 1"));
+  await cleared();
+  await drop(["x.wit", new TextEncoder().encode("package a:b; world x {}")]);
+  check("a file that is no module is a fault", text("faults").includes("x.wit: It is neither a WebAssembly module nor JSON.") && text("files").includes("refused"));
+  await drop(["x.wit", await fileOf("wasi-command.json")]);
+  check("and worlds alone ask for a program", $("fault").hidden && text("notes").startsWith("Add your program too"));
+  await cleared();
+  await drop(["app.wasm", await bytesOf("main.wasm")]);
+}
+
 async function faults() {
   await drop(["adapter.wasm", (await bytesOf("adapter.wasm")).slice(0, 100)]);
   check("a damaged module is a fault, with what it means", !$("fault").hidden && text("faults").includes("adapter.wasm: The module ends inside an item."));
@@ -189,7 +212,7 @@ async function faults() {
   document.querySelector('[aria-label="Take app.wasm away"]').click();
   await settled();
   await drop(["notes.json", new TextEncoder().encode('{"worlds":')]);
-  check("worlds that are no JSON are a fault with its place", /not JSON/.test(text("faults")) && /byte/.test(text("faults")));
+  check("worlds that are no JSON are a fault with its place", /not JSON/.test(text("faults")) && /byte 10/.test(text("faults")));
   check("paths are shown all the same", document.querySelectorAll("#picture .node.import").length >= 4);
   const remove = document.querySelector('[aria-label="Take notes.json away"]');
   remove.focus();
@@ -332,6 +355,7 @@ try {
     await switched();
     await saved();
     await begun();
+    await typed();
     await faults();
     await renamed();
     await stopped();
