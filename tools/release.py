@@ -1,6 +1,6 @@
 #!/usr/bin/env python3
 """Makes a release in dist: for each target an archive of the static and the shared library, for x86-64 with the programs, and
-the Rust crate's package.
+the packages for Rust, Python and npm. tools/try-release.py tries all of it then, where there is no network.
 
     tools/release.py VERSION                                  of what is proved
     tools/release.py --unproved [--from FOLDER] VERSION       the same of what is compiled without its proof, to try this script
@@ -8,30 +8,36 @@ the Rust crate's package.
 VERSION is that of rust/nuigatre/Cargo.toml. The static libraries are those that tools/archives.py takes, and have to be the
 same, byte by byte, as those that it put into the crate. The programs are those that `./wctrim --build`, `./wcplan --build`
 and `./wcwhy --build` made. With --unproved the libraries are FOLDER/TARGET/libnuigatre.a, or rust/unproved/libnuigatre.a for
-x86-64 alone, and the programs are those that the scripts of their names keep, if they are there; the names have `-unproved`.
-Without it each library and each program has to say that the kit's prover compiled it. None may be older than its sources.
-Nothing else is made anew but the shared libraries.
+x86-64 alone, and the programs are those that the scripts of their names keep, if they are there; the names of archives have
+`-unproved`. Without it each library and each program has to say that the kit's prover compiled it. None may be older than its
+sources. Nothing else is made anew but the shared libraries.
 
 dist/nuigatre-VERSION-TARGET-linux.tar.gz has, in a folder of its name:
 
     bin/                 the programs, of x86-64
     lib/                 libnuigatre.a, libnuigatre.so with its heap over malloc, and pkgconfig/nuigatre.pc
     include/             nuigatre.h, and nuigatre_heap.c for programs over the static library
-    share/               the license; with the programs their man pages, and completions for bash
+    share/               the license, the pages and the examples; with the programs their man pages, and completions for bash
     BUILT                the version, the commit, the kit, a checksum of the sources, whether all is proved, and the compiler
     SHA256SUMS           of each file
 
-dist/nuigatre-VERSION.crate is what `cargo package` makes; dist/SHA256SUMS has all. Then each archive is unpacked in an empty
-folder and tried there: programs run, and a C program is linked with each library, as a stranger would; for aarch64 it runs in
-qemu. The package is unpacked too, and its tests are run, over the archive's library by NUIGATRE_LIB_DIR; and where it has
-libraries itself, its example over these, without any variable. The status is 1 where something is missing or differs. It
-needs cargo, cc, strip, pkg-config and man, and for aarch64 the packages of Debian that tools/targets.py needs.
+Beside the archives are
+    nuigatre-VERSION.crate               what `cargo package` makes
+    nuigatre-VERSION.tar.gz              the source distribution for Python, with the libraries of the Rust crate
+    nuigatre-VERSION-py3-none-..whl      a wheel for each target, with the shared library of its archive
+    nuigatre-VERSION.tgz                 the package for node, as `npm pack` makes it
+    nuigatre.html                        the page that says why a component imports what it imports, as one file
+    README.md, CHANGELOG.md, LICENSE, SHA256SUMS
+
+The status is 1 where something is missing or differs. It needs cargo, npm, cc, strip, pkg-config and man; Python with
+setuptools, wheel, pip and venv; and for aarch64 the packages of Debian that tools/targets.py needs.
 """
 import argparse
 import os
 import pathlib
 import platform
 import shutil
+import subprocess
 import sys
 import tarfile
 import tempfile
@@ -47,6 +53,8 @@ from archives import ARCHIVE, fail, fresh, made, put, put_text, run, sums
 
 DIST = TOP / "dist"
 PROGRAMS = "wctrim", "wcplan", "wcwhy"
+# the pages, and what is beside them
+PAGES = "README.md", "CHANGELOG.md", "LICENSE", "docs/*.md", "docs/pictures/*", "crates/*/README.md", "crates/*/MODEL.md", "examples/**/*"
 # what a shared library of the archive exports
 EXPORTS = "{ global: %s; local: *; };\n"
 
@@ -100,7 +108,9 @@ def fill(folder, target, library, asked):
     put_text(pkgconfig.text("..", "../../include"), folder, "lib/pkgconfig/nuigatre.pc")
     for name in "nuigatre.h", "nuigatre_heap.c":
         put(TOP / "include" / name, folder, "include", name)
-    put(TOP / "LICENSE", folder, "share/doc/nuigatre/LICENSE")
+    for path in (path for pattern in PAGES for path in TOP.glob(pattern)):
+        if path.is_file() and "out" not in path.relative_to(TOP).parts:
+            put(path, folder, "share/doc/nuigatre", path.relative_to(TOP))
     compiler = run(targets.TARGETS[target][2], "--version").splitlines()[0]
     put_text(archives.built_of(not asked.unproved) + compiler + "\n", folder, "BUILT")
     files = [path for path in folder.rglob("*") if path.is_file() and not path.is_symlink()]
@@ -131,82 +141,57 @@ def package(asked):
         shutil.rmtree(goal)
 
 
-def unpacked(archive, empty):
-    """The folder of an archive that is unpacked in an empty one."""
-    with tarfile.open(archive) as file:
-        file.extractall(empty, filter="data")
-    return next(pathlib.Path(empty).iterdir())
+def python():
+    """A Python that makes wheels."""
+    for it in sys.executable, "/usr/bin/python3":
+        if os.path.exists(it) and not subprocess.run([it, "-c", "import setuptools, wheel, pip, ensurepip"], capture_output=True, check=False).returncode:
+            return it
+    return fail("no Python makes wheels: apt-get install python3-pip python3-setuptools python3-venv python3-wheel")
 
 
-def compare(archive, folder, name):
-    if pathlib.Path(folder, name).read_bytes() != (TOP / "examples/trimmed.wasm").read_bytes():
-        fail(f"{archive.name}: {name} is another module than examples/trimmed.wasm")
+def source_distribution():
+    """The source distribution for Python. It is made of copies, since setuptools writes beside what it reads."""
+    with tempfile.TemporaryDirectory() as room:
+        own = pathlib.Path(room, "python")
+        shutil.copytree(TOP / "python", own, ignore=shutil.ignore_patterns("*.so", "*.egg-info", "__pycache__", "build", "tests"))
+        for name in "rust", "include":
+            os.symlink(TOP / name, pathlib.Path(room, name))
+        run(python(), "setup.py", "-q", "sdist", "--dist-dir", DIST, cwd=own)
+        return DIST / f"nuigatre-{pkgconfig.member('version')}.tar.gz"
 
 
-ASKED = "--realloc", "cabi_realloc", "size_of"
-
-
-def try_programs(archive, folder, empty, own):
-    """Runs the programs of an archive, and shows their man pages."""
-    for path in sorted(folder.glob("bin/*")):
-        if path.name != "wctrim":  # whose arguments are commands alone
-            run(path, "--version", cwd=empty, env=own)
-        run("man", "--warnings", "-l", folder / f"share/man/man1/{path.name}.1", cwd=empty, env={**own, "MANPAGER": "cat"})
-    if (folder / "bin/wctrim").exists():
-        run(folder / "bin/wctrim", "trim", "adapter.wasm", "by-program.wasm", *ASKED, cwd=empty, env=own)
-        compare(archive, empty, "by-program.wasm")
-
-
-def tried(archive, target):
-    """Unpacks an archive in an empty folder, and uses what is in it; the sizes of the programs that were linked."""
-    compiler, runner = targets.TARGETS[target][2], targets.TARGETS[target][3] if platform.machine() != target else []
-    sizes = []
-    with tempfile.TemporaryDirectory() as empty:
-        folder = unpacked(archive, empty)
-        run("sha256sum", "--check", "--quiet", "SHA256SUMS", cwd=folder)
-        shutil.copyfile(TOP / "examples/adapter.wasm", pathlib.Path(empty, "adapter.wasm"))
-        for name in "trim.c", "files.h":
-            shutil.copyfile(TOP / "examples/c" / name, pathlib.Path(empty, name))
-        own = {"PATH": os.environ["PATH"], "PKG_CONFIG_PATH": str(folder / "lib/pkgconfig")}
-        try_programs(archive, folder, empty, own)
-        flags = [run("pkg-config", flag, "nuigatre", cwd=empty, env=own).split() for flag in ("--cflags", "--libs")]
-        heap = run("pkg-config", "--variable=heap", "nuigatre", cwd=empty, env=own).strip()
-        static = [word if word != "-lnuigatre" else "-l:" + ARCHIVE for word in flags[1]]
-        for name, linked in ("static", [heap, *static]), ("shared", [*flags[1], f"-Wl,-rpath,{folder / 'lib'}"]):
-            run(compiler, "-O2", "-s", *flags[0], "trim.c", *linked, "-o", name, cwd=empty, env=own)
-            run(*runner, "./" + name, "adapter.wasm", f"{name}.wasm", *ASKED, cwd=empty, env=own)
-            compare(archive, empty, f"{name}.wasm")
-            sizes.append((name, pathlib.Path(empty, name).stat().st_size))
-    return sizes
-
-
-def try_package(crate, archive):
-    """Runs the tests of the package in an empty folder, over the library of the archive, and its example over its own."""
-    with tempfile.TemporaryDirectory() as one, tempfile.TemporaryDirectory() as other:
-        folder, library = unpacked(crate, one), unpacked(archive, other) / "lib"
-        own = {name: value for name, value in os.environ.items() if name not in ("NUIGATRE_LIB_DIR", "DOCS_RS", "CARGO_TARGET_DIR")}
-        ran = run("cargo", "test", "--offline", cwd=folder, env={**own, "NUIGATRE_LIB_DIR": str(library)})
-        passed = sum(int(line.split()[3]) for line in ran.splitlines() if line.startswith("test result: ok."))
-        print(f"{crate.name}: {passed} tests passed in an empty folder")
-        if (folder / "lib").is_dir():
-            trim = [TOP / "examples/adapter.wasm", "by-example.wasm", *ASKED]
-            run("cargo", "run", "--offline", "--quiet", "--example", "trim", "--", *trim, cwd=folder, env=own)
-            compare(crate, folder, "by-example.wasm")
-            print(f"{crate.name}: its example runs over its own library")
+def wheel(target, sources, library):
+    """A wheel with this library, made of the source distribution."""
+    with tempfile.TemporaryDirectory() as room:
+        with tarfile.open(sources) as file:
+            file.extractall(room, filter="data")
+        flags = ["--no-index", "--no-build-isolation", "--no-deps", "--wheel-dir", room]
+        run(python(), "-m", "pip", "wheel", *flags, *pathlib.Path(room).iterdir(), env={**os.environ, "NUIGATRE_LIBRARY": str(library)})
+        [found] = pathlib.Path(room).glob("*.whl")
+        if f"manylinux_2_17_{target}" not in found.name:
+            fail(f"{found.name}: the library needs more than glibc 2.17")
+        return put(found, DIST, found.name)
 
 
 def make(asked, version):
-    """Makes the archives and the package; each archive with its target."""
+    """Makes all files of the release."""
     label = "-unproved" if asked.unproved else ""
-    found = {}
+    crate, sources = package(asked), source_distribution()
+    yield from (crate, sources)
     for target, library in libraries(asked).items():
         name = f"nuigatre-{version}{label}-{target}-linux"
         with tempfile.TemporaryDirectory() as room:
             folder = pathlib.Path(room, name)
             fill(folder, target, library, asked)
-            found[target] = DIST / (name + ".tar.gz")
-            packed(folder, found[target])
-    return found
+            packed(folder, DIST / (name + ".tar.gz"))
+            yield DIST / (name + ".tar.gz")
+            yield wheel(target, sources, folder / "lib/libnuigatre.so")
+    run("npm", "pack", "--silent", "--offline", "--pack-destination", DIST, TOP / "web")
+    yield DIST / f"nuigatre-{version}.tgz"
+    run(TOP / "web/one-file.py", DIST / "nuigatre.html")
+    yield DIST / "nuigatre.html"
+    for name in "README.md", "CHANGELOG.md", "LICENSE":
+        yield put(TOP / name, DIST, name)
 
 
 def main():
@@ -216,8 +201,8 @@ def main():
     parser.add_argument("version", metavar="VERSION")
     asked = parser.parse_args()
     if asked.folder and not asked.unproved:
-        parser.error("--from comes with --unproved")
-    need("cargo cargo", "cc gcc", "strip binutils", "pkg-config pkgconf", "man man-db")
+        parser.error("--from needs --unproved")
+    need("cargo cargo", "cc gcc", "strip binutils", "npm npm", "pkg-config pkgconf", "man man-db")
     known = pkgconfig.member("version")
     if asked.version != known:
         fail(f"rust/nuigatre/Cargo.toml has the version {known}, and not {asked.version}")
@@ -225,16 +210,11 @@ def main():
         fail("the libraries in rust/nuigatre/lib are not of these sources: tools/archives.py puts them there")
     shutil.rmtree(DIST, ignore_errors=True)
     DIST.mkdir()
-    found = make(asked, known)
-    crate = package(asked)
-    paths = [*found.values(), crate]
+    paths = list(make(asked, known))
     put_text(sums(DIST, paths), DIST, "SHA256SUMS")
     for path in paths:
-        print(f"{path.relative_to(TOP)}: {path.stat().st_size} bytes")
-    for target, archive in found.items():
-        for linked, size in tried(archive, target):
-            print(f"{target}: examples/c/trim.c with the {linked} library: {size} bytes")
-    try_package(crate, found[platform.machine()])
+        print(f"{path.relative_to(TOP)}: {path.stat().st_size} bytes", flush=True)
+    sys.exit(subprocess.run([TOP / "tools/try-release.py"], check=False).returncode)
 
 
 if __name__ == "__main__":

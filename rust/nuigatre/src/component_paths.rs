@@ -8,6 +8,8 @@ use crate::read::{Read, Unread, list, member, of_name, optional_member};
 use crate::world_error::world_error;
 
 /// Of which kind the imports of an interface are, by what has to go for the component not to import it.
+///
+/// [`ComponentWorld::new`](crate::ComponentWorld::new) has an example.
 #[derive(Clone, Copy, Debug, PartialEq, Eq, Hash)]
 #[non_exhaustive]
 pub enum ImportedKind {
@@ -29,6 +31,8 @@ const KINDS: [(&str, ImportedKind); 4] = [
 ];
 
 /// An interface of which a component imports something.
+///
+/// [`ComponentWorld::new`](crate::ComponentWorld::new) has an example.
 #[derive(Clone, Debug, PartialEq, Eq, Hash)]
 #[non_exhaustive]
 pub struct ImportedPart {
@@ -41,6 +45,8 @@ pub struct ImportedPart {
 }
 
 /// A module that imports something of an interface.
+///
+/// [`ComponentWorld::new`](crate::ComponentWorld::new) has an example.
 #[derive(Clone, Debug, PartialEq, Eq, Hash)]
 #[non_exhaustive]
 pub struct ImportingModule {

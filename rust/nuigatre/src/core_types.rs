@@ -6,6 +6,8 @@ use crate::read::{Read, Unread, member, of_name, optional_member, show};
 use std::fmt::{self, Display, Formatter};
 
 /// A value type.
+///
+/// [`scan`](fn@crate::scan) has an example.
 #[derive(Clone, Copy, Debug, PartialEq, Eq, Hash)]
 #[allow(missing_docs)]
 #[non_exhaustive]
@@ -23,6 +25,8 @@ pub enum ValType {
 }
 
 /// A function type. Its text is as `(i32, i64) -> i32`, with several results, or none, in parentheses too.
+///
+/// [`scan`](fn@crate::scan) has an example.
 #[derive(Clone, Debug, PartialEq, Eq, Hash)]
 pub struct FuncType {
     /// The types of the parameters.
@@ -32,6 +36,8 @@ pub struct FuncType {
 }
 
 /// A memory type. `initial` and `maximum` count pages.
+///
+/// [`scan`](fn@crate::scan) has an example.
 #[derive(Clone, Copy, Debug, PartialEq, Eq, Hash)]
 #[non_exhaustive]
 pub struct MemoryType {
@@ -48,6 +54,8 @@ pub struct MemoryType {
 }
 
 /// A table type. `initial` and `maximum` count elements.
+///
+/// [`scan`](fn@crate::scan) has an example.
 #[derive(Clone, Copy, Debug, PartialEq, Eq, Hash)]
 #[non_exhaustive]
 pub struct TableType {
@@ -62,6 +70,8 @@ pub struct TableType {
 }
 
 /// A global type.
+///
+/// [`scan`](fn@crate::scan) has an example.
 #[derive(Clone, Copy, Debug, PartialEq, Eq, Hash)]
 #[non_exhaustive]
 pub struct GlobalType {
@@ -72,6 +82,8 @@ pub struct GlobalType {
 }
 
 /// The kind of an export. Its text is `func`, `table`, `memory` or `global`.
+///
+/// [`scan`](fn@crate::scan) has an example.
 #[derive(Clone, Copy, Debug, PartialEq, Eq, Hash)]
 #[allow(missing_docs)]
 #[non_exhaustive]
@@ -83,6 +95,8 @@ pub enum ExportKind {
 }
 
 /// The type of a core parameter or result of a function. These are all: another one is a new version of this crate.
+///
+/// [`scan`](fn@crate::scan) has an example.
 #[derive(Clone, Copy, Debug, PartialEq, Eq, Hash)]
 #[allow(missing_docs)]
 pub enum WasmType {
@@ -96,6 +110,8 @@ pub enum WasmType {
 }
 
 /// The core function type of a function.
+///
+/// [`scan`](fn@crate::scan) has an example.
 #[derive(Clone, Debug, PartialEq, Eq, Hash)]
 #[non_exhaustive]
 pub struct WasmSignature {

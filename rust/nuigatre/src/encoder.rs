@@ -12,6 +12,8 @@ use std::borrow::Cow;
 use std::fmt::{self, Display, Formatter};
 
 /// The main module, or the adapter of this name. Its text is as `main` or `adapter old`.
+///
+/// [`ComponentWorld::new`](crate::ComponentWorld::new) has an example.
 #[derive(Clone, Debug, PartialEq, Eq, Hash)]
 pub enum MainOrAdapter {
     /// The main module.
@@ -21,6 +23,8 @@ pub enum MainOrAdapter {
 }
 
 /// An export of a module, as a library gets it.
+///
+/// [`ComponentWorld::new`](crate::ComponentWorld::new) has an example.
 #[derive(Clone, Debug, PartialEq, Eq, Hash)]
 pub struct Item {
     /// The name by which the library imports it.
@@ -34,6 +38,8 @@ pub struct Item {
 }
 
 /// The instance that a library gets under a module's name.
+///
+/// [`ComponentWorld::new`](crate::ComponentWorld::new) has an example.
 #[derive(Clone, Debug, PartialEq, Eq, Hash)]
 pub enum Instance {
     /// All exports of a module.
@@ -43,6 +49,8 @@ pub enum Instance {
 }
 
 /// How a library is instantiated.
+///
+/// [`ComponentWorld::new`](crate::ComponentWorld::new) has an example.
 #[derive(Clone, Debug, Default, PartialEq, Eq, Hash)]
 pub struct LibraryInfo {
     /// The instances that it gets, by the names of the modules that it imports from.
@@ -52,6 +60,8 @@ pub struct LibraryInfo {
 }
 
 /// An adapter or a library.
+///
+/// [`ComponentWorld::new`](crate::ComponentWorld::new) has an example.
 #[derive(Clone, Debug)]
 #[non_exhaustive]
 pub struct Adapter<'a> {
@@ -79,6 +89,8 @@ impl<'a> Adapter<'a> {
 }
 
 /// The canonical options of functions of a name where they are lowered.
+///
+/// [`ComponentWorld::new`](crate::ComponentWorld::new) has an example.
 #[derive(Clone, Copy, Debug, PartialEq, Eq)]
 #[non_exhaustive]
 pub struct ImportOptions<'a> {
@@ -97,6 +109,8 @@ impl<'a> ImportOptions<'a> {
 }
 
 /// Which world a component is encoded for.
+///
+/// [`ComponentWorld::new`](crate::ComponentWorld::new) has an example.
 #[derive(Clone, Copy, Debug, PartialEq, Eq, Hash)]
 #[non_exhaustive]
 pub enum World<'a> {
@@ -126,6 +140,8 @@ impl<'a> From<&'a String> for World<'a> {
 }
 
 /// The parts from which a component is encoded: worlds, a main module, and adapters and libraries beside it.
+///
+/// [`ComponentWorld::new`](crate::ComponentWorld::new) has an example.
 #[derive(Clone, Debug)]
 #[non_exhaustive]
 pub struct ComponentEncoder<'a> {

@@ -13,6 +13,8 @@ use crate::world::ComponentWorld;
 
 /// The canonical options that the functions which a component's modules export need where they are lifted, as
 /// [`ComponentWorld::export_options`] finds them.
+///
+/// [`ComponentWorld::new`](crate::ComponentWorld::new) has an example.
 #[derive(Clone, Debug, PartialEq, Eq)]
 pub struct ExportOptions {
     /// In the order of interfaces and names.

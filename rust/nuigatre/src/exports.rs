@@ -9,6 +9,8 @@ use crate::read::{Read, Unread, map, member};
 use std::iter::FusedIterator;
 
 /// The meaning of an export of a core module, by its name. These are all: another one is a new version of this crate.
+///
+/// [`ComponentWorld::new`](crate::ComponentWorld::new) has an example.
 #[derive(Clone, Debug, PartialEq, Eq, Hash)]
 #[allow(missing_docs)]
 pub enum Export {
@@ -92,6 +94,8 @@ impl Role<'_> {
 }
 
 /// The exports of a core module, by their names, in order. Of what is looked up, the first is found.
+///
+/// [`ComponentWorld::new`](crate::ComponentWorld::new) has an example.
 #[derive(Clone, Debug, Default)]
 pub struct ExportMap {
     names: OrderedMap<String, Export>,
@@ -268,6 +272,8 @@ impl ExportMap {
 }
 
 /// The exports of an [`ExportMap`] with their names, in order.
+///
+/// [`ComponentWorld::new`](crate::ComponentWorld::new) has an example.
 #[derive(Clone, Debug)]
 #[must_use = "iterators do nothing unless they are gone through"]
 pub struct Exports<'a> {

@@ -91,6 +91,8 @@ numbered! {
 }
 
 /// Why the imports of a module could not be renamed.
+///
+/// [`Error`](crate::Error) has an example.
 #[derive(Clone, Copy, Debug, PartialEq, Eq, Hash)]
 #[non_exhaustive]
 pub enum DedupeFault {
@@ -101,6 +103,8 @@ pub enum DedupeFault {
 }
 
 /// Why an adapter could not be trimmed. Of several causes the first in this order is named.
+///
+/// [`Error`](crate::Error) has an example.
 #[derive(Clone, Debug, PartialEq, Eq, Hash)]
 #[non_exhaustive]
 pub enum GcFault {
@@ -129,12 +133,18 @@ pub enum GcFault {
 }
 
 /// Why the imports of a module could not be renamed, and where.
+///
+/// [`Error`](crate::Error) has an example.
 pub type DedupeError = Refused<DedupeFault>;
 
 /// Why bytes are no module, and where.
+///
+/// [`Error`](crate::Error) has an example.
 pub type ReadError = Refused<ReadFault>;
 
 /// Why an adapter could not be trimmed, and where.
+///
+/// [`Error`](crate::Error) has an example.
 pub type TrimError = Refused<GcFault>;
 
 /// The error of a fault of renaming that the archive answered.

@@ -74,6 +74,8 @@ fn run_on(
 const PER_BYTE: usize = 4;
 
 /// A space of indices that the items of a module have.
+///
+/// [`gc::why`](crate::gc::why) has an example.
 #[derive(Clone, Copy, Debug, PartialEq, Eq, Hash)]
 #[non_exhaustive]
 pub enum Space {
@@ -102,6 +104,8 @@ impl Display for Space {
 }
 
 /// An item of an adapter. Its text is as `func 3`.
+///
+/// [`gc::why`](crate::gc::why) has an example.
 #[derive(Clone, Copy, Debug, PartialEq, Eq, Hash)]
 #[non_exhaustive]
 pub struct ItemIndex {
@@ -119,6 +123,8 @@ impl Display for ItemIndex {
 
 /// The shortest chain from a required export of an adapter to an import. Of several the first, by the order of the
 /// required names, and then by the order in which each item names others.
+///
+/// [`gc::why`](crate::gc::why) has an example.
 #[derive(Clone, Debug, PartialEq, Eq, Hash)]
 #[non_exhaustive]
 pub struct Chain {
@@ -130,6 +136,8 @@ pub struct Chain {
 
 /// The chains to all imports of an adapter that its required exports reach, as a tree, which is linear in the adapter;
 /// one chain at a time is taken from it.
+///
+/// [`gc::why`](crate::gc::why) has an example.
 #[derive(Clone, Debug, PartialEq, Eq)]
 pub struct Chains {
     items: Vec<ItemIndex>,

@@ -6,15 +6,21 @@ use crate::read::{Read, Unread, member, of_name, show};
 use std::fmt::{self, Display, Formatter};
 
 /// The index of an interface among those of the resolved worlds. Its text is as `interface 3`.
+///
+/// [`ComponentWorld::new`](crate::ComponentWorld::new) has an example.
 #[derive(Clone, Copy, Debug, PartialEq, Eq, PartialOrd, Ord, Hash)]
 pub struct InterfaceId(pub u32);
 
 /// The index of a type among those of the resolved worlds. Its text is as `type 3`.
+///
+/// [`ComponentWorld::new`](crate::ComponentWorld::new) has an example.
 #[derive(Clone, Copy, Debug, PartialEq, Eq, PartialOrd, Ord, Hash)]
 pub struct TypeId(pub u32);
 
 /// The key of an item of a world: a plain name, or an interface by its id. Its text is that of the JSON, `interface-3` of an
 /// interface.
+///
+/// [`ComponentWorld::new`](crate::ComponentWorld::new) has an example.
 #[derive(Clone, Debug, PartialEq, Eq, PartialOrd, Ord, Hash)]
 pub enum WorldKey {
     /// A plain name.
@@ -25,6 +31,8 @@ pub enum WorldKey {
 
 /// How a guest imports or exports a function as a core function. Its text is as `guest-import-async`. These are all: another
 /// one is a new version of this crate.
+///
+/// [`ComponentWorld::new`](crate::ComponentWorld::new) has an example.
 #[derive(Clone, Copy, Debug, PartialEq, Eq, PartialOrd, Ord, Hash)]
 pub enum AbiVariant {
     /// A synchronous import.
@@ -40,6 +48,8 @@ pub enum AbiVariant {
 }
 
 /// The encoding of a core module's texts. Its text is `utf8`, `utf16` or `compact-utf16`.
+///
+/// [`ComponentWorld::new`](crate::ComponentWorld::new) has an example.
 #[derive(Clone, Copy, Debug, PartialEq, Eq, Hash)]
 #[allow(missing_docs)]
 pub enum StringEncoding {

@@ -12,6 +12,8 @@ use crate::resolved::Resolved;
 use crate::wit_types::Type;
 
 /// The future or stream type that a built-in is for.
+///
+/// [`ComponentWorld::new`](crate::ComponentWorld::new) has an example.
 #[derive(Clone, Debug, PartialEq, Eq, Hash)]
 pub enum PayloadType {
     /// A future or stream type, and the name of a function that has it in a parameter or in its result.
@@ -28,6 +30,8 @@ pub enum PayloadType {
 }
 
 /// The future or stream that a built-in is for, and the function by which the built-in's name picks it.
+///
+/// [`ComponentWorld::new`](crate::ComponentWorld::new) has an example.
 #[derive(Clone, Debug, PartialEq, Eq, Hash)]
 #[non_exhaustive]
 pub struct PayloadInfo {
@@ -57,6 +61,8 @@ impl PayloadInfo {
 
 /// The meaning of an import of a core module, by its name. Fields are in the order of `wit-component`'s; the function
 /// of `ExportedTaskReturn` is there by its name. These are all: another one is a new version of this crate.
+///
+/// [`ComponentWorld::new`](crate::ComponentWorld::new) has an example.
 #[derive(Clone, Debug, PartialEq, Eq, Hash)]
 #[allow(missing_docs)]
 pub enum Import {
@@ -334,6 +340,8 @@ impl Read for Import {
 }
 
 /// The imports from a module: a module of the component, all of it, or single imports by their names.
+///
+/// [`ComponentWorld::new`](crate::ComponentWorld::new) has an example.
 #[derive(Clone, Debug, PartialEq, Eq)]
 pub enum ImportInstance {
     /// All of a module.
@@ -355,6 +363,8 @@ impl Read for ImportInstance {
 }
 
 /// The imports of a core module, by the names of the modules that they are imported from.
+///
+/// [`ComponentWorld::new`](crate::ComponentWorld::new) has an example.
 #[derive(Clone, Debug, Default, PartialEq, Eq)]
 pub struct ImportMap {
     modules: OrderedMap<String, ImportInstance>,

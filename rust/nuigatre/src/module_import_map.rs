@@ -9,6 +9,8 @@ use crate::renames::read_renames;
 use std::borrow::Cow;
 
 /// A renamed import.
+///
+/// [The crate](crate) has an example.
 #[derive(Clone, Debug, PartialEq, Eq, Hash)]
 #[non_exhaustive]
 pub struct Rename {
@@ -21,6 +23,8 @@ pub struct Rename {
 }
 
 /// The original names of renamed imports.
+///
+/// [The crate](crate) has an example.
 #[derive(Clone, Debug)]
 pub struct ModuleImportMap {
     renames: Vec<Rename>,

@@ -10,6 +10,8 @@ use std::{ops, slice, vec};
 
 /// A key by which a map with keys `K` can be asked: a key of the map, or what it is without owning it. It hashes as the
 /// key does. Other crates can't implement it.
+///
+/// [`ComponentWorld::new`](crate::ComponentWorld::new) has an example.
 pub trait Lookup<K: ?Sized>: Hash + Sealed<K> {
     /// Whether it is this key.
     fn is(&self, key: &K) -> bool;
@@ -97,6 +99,8 @@ impl Lookup<u32> for u32 {
 ///
 /// A map is asked by a borrowed key: by `"name"` where keys are texts, by `&Some("name")` or `&None` where they are
 /// texts or nothing, and by `&("name", abi)` where they are names with an [`AbiVariant`].
+///
+/// [`ComponentWorld::new`](crate::ComponentWorld::new) has an example.
 #[derive(Clone)]
 pub struct OrderedMap<K, V> {
     entries: Vec<(K, V)>,
@@ -230,6 +234,8 @@ impl<K, V, Q: Lookup<K> + ?Sized> ops::Index<&Q> for OrderedMap<K, V> {
 }
 
 /// The entries of an [`OrderedMap`] in order.
+///
+/// [`ComponentWorld::new`](crate::ComponentWorld::new) has an example.
 #[derive(Debug)]
 #[must_use = "iterators do nothing unless they are gone through"]
 pub struct Iter<'a, K, V> {

@@ -10,6 +10,8 @@ use std::vec;
 /// A set that keeps its members in order. A look-up takes as long in a long set as in a short one.
 ///
 /// A set is asked by a borrowed member, as an [`OrderedMap`] by a key.
+///
+/// [`ComponentWorld::new`](crate::ComponentWorld::new) has an example.
 #[derive(Clone)]
 pub struct OrderedSet<T> {
     members: OrderedMap<T, ()>,

@@ -4,15 +4,16 @@ use crate::binary::{Bytes, import_section, imports};
 use crate::memory::OutOfMemory;
 use crate::module_import_map::ModuleImportMap;
 use std::borrow::Cow;
+use std::ops::Range;
 use std::str;
 
 /// A main module with the original names of its imports, and what that changes of the places of its bytes.
 pub(crate) struct Original<'a> {
     pub(crate) module: Cow<'a, [u8]>,
-    /// Where the import section ends, if it was changed.
-    end: usize,
-    /// How many bytes more the section has with its renamed imports.
-    more: isize,
+    /// Where the content of the import section is, if it was changed.
+    content: Range<usize>,
+    /// How many bytes later the content begins, and ends, with the renamed imports.
+    later: (isize, isize),
 }
 
 impl<'a> Original<'a> {
@@ -27,17 +28,22 @@ impl<'a> Original<'a> {
         };
         Ok(changed.unwrap_or(Original {
             module: Cow::Borrowed(renamed),
-            end: usize::MAX,
-            more: 0,
+            content: usize::MAX..usize::MAX,
+            later: (0, 0),
         }))
     }
 
-    /// The place in the renamed module of a byte of this one.
+    /// The place in the renamed module of a byte of this one. In the import section it is the first byte of its content that
+    /// has the same place.
     pub(crate) fn renamed_offset(&self, offset: usize) -> usize {
-        if offset < self.end {
-            return offset;
-        }
-        offset.saturating_add_signed(self.more)
+        let later = if offset < self.content.start {
+            0
+        } else if offset < self.content.end {
+            self.later.0
+        } else {
+            self.later.1
+        };
+        offset.saturating_add_signed(later)
     }
 }
 
@@ -75,10 +81,15 @@ fn with_original_names(
     module.put_import_section(&content.0)?;
     let end = module.0.len();
     module.put(&renamed[found.end..])?;
+    let start = end - content.0.len();
+    let later = |renamed: usize, original: usize| renamed as isize - original as isize;
     Ok(Some(Original {
         module: Cow::Owned(module.0),
-        end,
-        more: found.end as isize - end as isize,
+        content: start..end,
+        later: (
+            later(found.end - found.content.len(), start),
+            later(found.end, end),
+        ),
     }))
 }
 
@@ -125,5 +136,27 @@ mod tests {
         for length in 0..renamed.len() {
             Original::of(&renamed[..length], map.as_ref()).expect("memory");
         }
+    }
+
+    /// The size of the import section has one byte, and with the renamed import two.
+    #[test]
+    fn longer_sizes() {
+        let long = "a".repeat(109);
+        let import = |name: &str| [b"\x01a", &[name.len() as u8][..], name.as_bytes(), b"\0\0"].concat();
+        let module = |size: &[u8], second: &str| {
+            let imports = [import(&long), import("f"), import(second)].concat();
+            [b"\0asm\x01\0\0\0\x02", size, b"\x03", &imports[..], b"\x08\x01\0"].concat()
+        };
+        let (original, renamed) = (module(&[0x7f], "f"), module(&[0x84, 1], "f [v2]"));
+        let rename = Rename {
+            module: "a".to_owned(),
+            original: "f".to_owned(),
+            name: "f [v2]".to_owned(),
+        };
+        let map = ModuleImportMap::of(vec![rename]).ok();
+        let found = Original::of(&renamed, map.as_ref()).expect("memory");
+        assert_eq!(&*found.module, original);
+        let offsets = [8, 9, 10, 137, 139, original.len()].map(|it| found.renamed_offset(it));
+        assert_eq!(offsets, [8, 9, 11, 143, 145, renamed.len()]);
     }
 }

@@ -11,6 +11,8 @@ use std::fmt::{self, Display, Formatter};
 use std::str;
 
 /// Where a path begins. Its text is as `export run`, `start`, `fills table 0` or `fills memory 0`.
+///
+/// [`paths`](fn@crate::paths) has an example.
 #[derive(Clone, Debug, PartialEq, Eq, Hash)]
 pub enum PathRoot {
     /// At the export of this name.
@@ -35,6 +37,8 @@ impl Display for PathRoot {
 }
 
 /// An item on a path. Its text is that of its kind.
+///
+/// [`paths`](fn@crate::paths) has an example.
 #[derive(Clone, Debug, PartialEq, Eq, Hash)]
 #[non_exhaustive]
 pub struct PathItem {
@@ -52,6 +56,8 @@ impl Display for PathItem {
 }
 
 /// A kind of item on a path: of an index space, or a segment. Its text is as `func 3 write_all`, `elem 0` or `data 0`.
+///
+/// [`paths`](fn@crate::paths) has an example.
 #[derive(Clone, Debug, PartialEq, Eq, Hash)]
 pub enum PathItemKind {
     /// An item of an index space.
@@ -83,6 +89,8 @@ impl Display for PathItemKind {
 
 /// The shortest path to an import. Of several the first, by the order of the exports, and then by the order in which each
 /// item names others.
+///
+/// [`paths`](fn@crate::paths) has an example.
 #[derive(Clone, Debug, PartialEq, Eq, Hash)]
 #[non_exhaustive]
 pub struct ImportPath {

@@ -9,6 +9,8 @@ use std::fmt::{self, Debug, Display, Formatter};
 
 /// The place of a fault. Its text is as `import "env" "log", wanted (i32) -> (), found () -> (), in adapter "old"`. It
 /// is the source of the error that has it, so what prints a chain of sources prints it.
+///
+/// [`Error`](crate::Error) has an example.
 #[derive(Clone, Debug, PartialEq, Eq, Hash)]
 #[non_exhaustive]
 pub struct Place {
@@ -23,6 +25,8 @@ pub struct Place {
 
 /// The place of a fault, by its names or its number. An import or an export of a module is there as it is; what a
 /// module lacks is missing.
+///
+/// [`Error`](crate::Error) has an example.
 #[derive(Clone, Debug, PartialEq, Eq, Hash)]
 #[non_exhaustive]
 pub enum Subject {
@@ -113,6 +117,8 @@ pub enum Subject {
 }
 
 /// Two core types that differ. The text is as `wanted (i32) -> (), found () -> i64`.
+///
+/// [`Error`](crate::Error) has an example.
 #[derive(Clone, Debug, PartialEq, Eq, Hash)]
 #[non_exhaustive]
 pub struct TypeDifference {

@@ -19,6 +19,8 @@ const PER_BYTE: usize = 2;
 
 /// A use of a function that core modules import, with what it needs. Its text is the line that the program `wcplan`
 /// prints.
+///
+/// [`ComponentWorld::new`](crate::ComponentWorld::new) has an example.
 #[derive(Clone, Debug, PartialEq, Eq, Hash)]
 #[non_exhaustive]
 pub struct Use {
@@ -39,6 +41,8 @@ pub struct Use {
 
 /// The functions that the core modules of a component import, each once, with what it needs: those of the main module, and
 /// then those of each adapter.
+///
+/// [`ComponentWorld::new`](crate::ComponentWorld::new) has an example.
 #[derive(Clone, Debug)]
 pub struct Plan {
     uses: Vec<Use>,
@@ -140,6 +144,8 @@ impl Plan {
 }
 
 /// An import that has a use.
+///
+/// [`ComponentWorld::new`](crate::ComponentWorld::new) has an example.
 #[derive(Clone, Copy, Debug, PartialEq, Eq)]
 #[non_exhaustive]
 pub struct UsedImport<'a> {

@@ -7,6 +7,8 @@ use std::ops::{BitAnd, BitAndAssign, BitOr, BitOrAssign, Sub, SubAssign};
 
 /// Which canonical options a lowered function needs: a set, with the operators of sets. Its text has their names, as
 /// `MEMORY | ASYNC`.
+///
+/// [`ComponentWorld::new`](crate::ComponentWorld::new) has an example.
 #[derive(Clone, Copy, Default, PartialEq, Eq, PartialOrd, Ord, Hash)]
 pub struct RequiredOptions(u32);
 

@@ -68,6 +68,8 @@ impl Resolved {
 }
 
 /// The worlds that a component is encoded for one of.
+///
+/// [`Resolved`](crate::Resolved) has an example.
 #[derive(Clone, Copy, Debug)]
 #[non_exhaustive]
 pub enum Worlds<'a> {

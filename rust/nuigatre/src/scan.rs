@@ -11,6 +11,8 @@ use crate::read::{Read, Unread, map, member};
 use std::str;
 
 /// The type of an item of a module.
+///
+/// [`scan`](fn@crate::scan) has an example.
 #[derive(Clone, Debug, PartialEq, Eq, Hash)]
 pub enum ItemType {
     /// That of a function.
@@ -24,6 +26,8 @@ pub enum ItemType {
 }
 
 /// An import of a module.
+///
+/// [`scan`](fn@crate::scan) has an example.
 #[derive(Clone, Debug, PartialEq, Eq, Hash)]
 #[non_exhaustive]
 pub struct ScannedImport {
@@ -36,6 +40,8 @@ pub struct ScannedImport {
 }
 
 /// An export of a module.
+///
+/// [`scan`](fn@crate::scan) has an example.
 #[derive(Clone, Debug, PartialEq, Eq, Hash)]
 #[non_exhaustive]
 pub struct ScannedExport {
@@ -48,6 +54,8 @@ pub struct ScannedExport {
 }
 
 /// The imports and exports of a module, as [`scan`] lists them.
+///
+/// [`scan`](fn@crate::scan) has an example.
 #[derive(Clone, Debug, PartialEq, Eq)]
 #[non_exhaustive]
 pub struct Scan {

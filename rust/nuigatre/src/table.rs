@@ -12,6 +12,8 @@ use crate::world::{ComponentWorld, Lowering, ValidatedModule};
 use std::fmt::{self, Display, Formatter};
 
 /// The function that a slot of a shim's table is filled with once there is a memory.
+///
+/// [`ComponentWorld::new`](crate::ComponentWorld::new) has an example.
 #[derive(Clone, Copy, Debug, PartialEq, Eq, Hash)]
 #[non_exhaustive]
 pub enum Filler<'a> {
@@ -71,6 +73,8 @@ impl Filler<'_> {
 
 /// A function of a shim. Its text is a name for it, as `wit-component` has them: `adapt-MODULE-NAME` and
 /// `indirect-MODULE-NAME` by the first import that it stands in for, `task-return-FUNCTION`, `dtor-EXPORT`, and the like.
+///
+/// [`ComponentWorld::new`](crate::ComponentWorld::new) has an example.
 #[derive(Clone, Debug, PartialEq, Eq, Hash)]
 #[non_exhaustive]
 pub struct Slot<'a> {
@@ -113,6 +117,8 @@ impl Display for Slot<'_> {
 }
 
 /// The slots of a shim's table, in the order in which a component of `wit-component` has them.
+///
+/// [`ComponentWorld::new`](crate::ComponentWorld::new) has an example.
 #[derive(Clone, Debug)]
 pub struct Table<'a> {
     slots: Vec<Slot<'a>>,

@@ -156,34 +156,30 @@ fn error_of(error: Error, main: &Original<'_>) -> Error {
 
 fn error_of_module(error: WorldError, main: &Original<'_>) -> Result<Error, OutOfMemory> {
     let (fault, place) = error.into_parts();
-    let place = place.map(|place| Place {
-        adapter: None,
-        ..place
-    });
+    // what is passed, and what a byte is of, is the main module with the original names
+    let place = place.map(|place| renamed_place(place, main));
     Ok(match fault {
         WorldFault::Main(fault) | WorldFault::Adapter(_, fault) => {
             Error::Validate(Refused::new(fault, place)?)
         }
-        // the bytes that are renamed are those with the original names
-        WorldFault::Dedupe(fault) => {
-            let place = place.map(|place| renamed_place(place, main));
-            Error::Dedupe(Refused::new(fault, place)?)
-        }
+        WorldFault::Dedupe(fault) => Error::Dedupe(Refused::new(fault, place)?),
         fault => Error::World(Refused::new(fault, place)?),
     })
 }
 
-/// A place in the renamed module of one in that with the original names.
+/// A place in the renamed module, under no name of an adapter, of one in that with the original names.
 fn renamed_place(place: Place, main: &Original<'_>) -> Place {
-    match place.subject {
-        Subject::Bytes { offset, section } => Place {
-            subject: Subject::Bytes {
-                offset: main.renamed_offset(offset),
-                section,
-            },
-            ..place
+    let subject = match place.subject {
+        Subject::Bytes { offset, section } => Subject::Bytes {
+            offset: main.renamed_offset(offset),
+            section,
         },
-        _ => place,
+        subject => subject,
+    };
+    Place {
+        subject,
+        adapter: None,
+        ..place
     }
 }
 

@@ -12,6 +12,8 @@ use std::fmt::{self, Display, Formatter, Write};
 
 /// An import of a core module that comes from the world: a function, the drop of a resource, or a built-in for a future or a
 /// stream of an imported function.
+///
+/// [`ComponentWorld::ways`](crate::ComponentWorld::ways) has an example.
 #[derive(Clone, Copy, Debug, PartialEq, Eq, Hash)]
 #[non_exhaustive]
 pub struct WorldImport<'a> {
@@ -28,6 +30,8 @@ pub struct WorldImport<'a> {
 }
 
 /// A step of the path to an import. Its text is the line that the program `wcplan` prints.
+///
+/// [`ComponentWorld::ways`](crate::ComponentWorld::ways) has an example.
 #[derive(Clone, Debug, PartialEq, Eq, Hash)]
 #[non_exhaustive]
 pub enum WayStep {
@@ -61,6 +65,8 @@ pub enum WayStep {
 
 /// Why a component imports what it does, as [`ComponentWorld::ways`] finds it. It is linear in the modules; the path to one
 /// import at a time is taken from it.
+///
+/// [`ComponentWorld::ways`](crate::ComponentWorld::ways) has an example.
 #[derive(Clone, Debug)]
 pub struct Ways<'a> {
     world: &'a ComponentWorld,

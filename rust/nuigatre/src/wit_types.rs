@@ -7,6 +7,8 @@ use std::fmt::{self, Display, Formatter};
 
 /// A type of the resolved worlds. Its text is as `u32`, or as `type 3` of one that they define. These are all: another one is
 /// a new version of this crate.
+///
+/// [`ComponentWorld::new`](crate::ComponentWorld::new) has an example.
 #[derive(Clone, Copy, Debug, PartialEq, Eq, Hash)]
 #[allow(missing_docs)]
 pub enum Type {

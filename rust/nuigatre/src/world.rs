@@ -20,6 +20,8 @@ use crate::world_error::world_error;
 use std::str;
 
 /// The imports and exports of a core module.
+///
+/// [`ComponentWorld::new`](crate::ComponentWorld::new) has an example.
 #[derive(Clone, Debug, Default, PartialEq, Eq)]
 #[non_exhaustive]
 pub struct ValidatedModule {
@@ -30,6 +32,8 @@ pub struct ValidatedModule {
 }
 
 /// An adapter or a library, as a component has it.
+///
+/// [`ComponentWorld::new`](crate::ComponentWorld::new) has an example.
 #[derive(Clone, Debug, PartialEq, Eq)]
 #[non_exhaustive]
 pub struct WorldAdapter {
@@ -42,6 +46,8 @@ pub struct WorldAdapter {
 }
 
 /// How an import of a core module is met. These are all: another one is a new version of this crate.
+///
+/// [`ComponentWorld::new`](crate::ComponentWorld::new) has an example.
 #[derive(Clone, Debug, PartialEq, Eq)]
 pub enum Lowering {
     /// The function is lowered before the core module is instantiated.
@@ -61,6 +67,8 @@ pub enum Lowering {
 }
 
 /// The imports of core modules from an interface, or of the functions and types that the world itself imports.
+///
+/// [`ComponentWorld::new`](crate::ComponentWorld::new) has an example.
 #[derive(Clone, Debug, PartialEq, Eq)]
 #[non_exhaustive]
 pub struct ImportedInterface {
@@ -75,6 +83,8 @@ pub struct ImportedInterface {
 }
 
 /// All that a component encoder has to know of modules before it encodes them.
+///
+/// [`ComponentWorld::new`](crate::ComponentWorld::new) has an example.
 #[derive(Clone, Debug, PartialEq, Eq)]
 #[non_exhaustive]
 pub struct ComponentWorld {

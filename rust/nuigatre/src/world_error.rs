@@ -12,6 +12,8 @@ use std::fmt::{self, Display, Formatter};
 
 /// Why a component has no world, and where. Its text has all names that the fault carries, with escapes for what is not
 /// printed, and the path to what is wrong in the JSON of the worlds.
+///
+/// [`Error`](crate::Error) has an example.
 pub type WorldError = Refused<WorldFault>;
 
 /// The number of the encoder's fault that no world is at the index.
@@ -23,6 +25,8 @@ const NOT_JSON: u32 = 1;
 /// Why a component has no world. Of several causes the first in this order is named, and of several keys the first, those
 /// of the main module before those of adapters; but a key that is given twice after all that are unknown or of several
 /// exports.
+///
+/// [`Error`](crate::Error) has an example.
 #[derive(Clone, Debug, PartialEq, Eq, Hash)]
 #[non_exhaustive]
 pub enum WorldFault {
@@ -71,6 +75,8 @@ pub enum WorldFault {
 }
 
 /// A mistake in JSON.
+///
+/// [`Error`](crate::Error) has an example.
 #[derive(Clone, Debug, PartialEq, Eq, Hash)]
 #[non_exhaustive]
 pub enum JsonFault {
@@ -183,6 +189,8 @@ numbered! {
 }
 
 /// Why a core module is refused.
+///
+/// [`Error`](crate::Error) has an example.
 #[derive(Clone, Debug, PartialEq, Eq, Hash)]
 #[non_exhaustive]
 pub enum ValidateFault {
@@ -253,6 +261,8 @@ pub enum ValidateFault {
 pub struct AdapterModuleDidNotExport(pub String);
 
 /// Why a core module is refused by itself, and where.
+///
+/// [`Error`](crate::Error) has an example.
 pub type ValidateError = Refused<ValidateFault>;
 
 /// The beginning of a message, before the worlds.

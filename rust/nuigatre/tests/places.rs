@@ -324,6 +324,28 @@ fn a_text_that_is_no_module() {
     assert_eq!(place, "byte 0");
 }
 
+/// A main module whose start function has a parameter: a byte is of the module as it is passed, also where its repeated
+/// imports are renamed.
+#[test]
+fn bytes_of_renamed_modules() {
+    let main = b"\0asm\x01\0\0\0\x01\x05\x01\x60\x01\x7f\0\x02\x0d\x02\x01a\x01f\0\0\x01a\x01f\0\0\x08\x01\0";
+    let (error, place) = mistake(main, &[]);
+    assert_eq!(error.to_string(), "World: Main: Read: BadStart");
+    assert_eq!(place, "byte 32, in the start section");
+    let encoder = ComponentEncoder::new(WORLDS, "w", b"");
+    let place_of = |bytes: &[u8], map: Option<&ModuleImportMap>| {
+        let error = validate_module(&encoder, bytes, map).expect_err("a parameter");
+        error.place().map(ToString::to_string).unwrap_or_default()
+    };
+    assert_eq!(place_of(main, None), "byte 32, in the start section");
+    let (renamed, map) = ModuleImportMap::new((&main[..]).into()).expect("a module");
+    assert_eq!(renamed.len(), main.len() + 5);
+    assert_eq!(
+        place_of(&renamed, map.as_ref()),
+        "byte 37, in the start section"
+    );
+}
+
 /// A module that is cut in its import section, whose content begins with the byte 16.
 #[test]
 fn cut_modules() {

@@ -60,13 +60,10 @@ fn quoted(line: &str) -> Vec<&str> {
 }
 
 fn check_original_names(row: &Row) {
-    let (imports, bytes): (Vec<_>, Vec<_>) = row
-        .input
-        .iter()
-        .cloned()
-        .partition(|line| line.starts_with("import"));
-    let (_, map) = ModuleImportMap::new(Cow::Owned(bytes_of(&bytes))).expect("a module");
-    for (import, wanted) in imports.iter().zip(&row.answer) {
+    let wasm = bytes_of(&row.arguments);
+    let (_, map) = ModuleImportMap::new(Cow::Owned(wasm)).expect("a module");
+    for wanted in &row.answer {
+        let import = wanted.split(" was ").next().expect("an import");
         let [module, name] = quoted(import)[..] else {
             panic!("{}: {import}", row.name)
         };

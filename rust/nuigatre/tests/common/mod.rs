@@ -1,5 +1,5 @@
-//! The rows of `crates/wc_tests/data` (docs/ROWS.md): calls with their input and the answer that is wanted. They are not
-//! part of the package: a test that reads them runs in the repository alone.
+//! The rows of `tests/rows` and `crates/wc_tests/data` (docs/ROWS.md): calls with their input and the answer that is wanted.
+//! They are not part of the package: a test that reads them runs in the repository alone.
 
 use std::collections::HashMap;
 use std::fs;
@@ -14,18 +14,23 @@ pub struct Row {
     pub answer: Vec<String>,
 }
 
+/// The folders of rows, each of which may have a file.
+const FOLDERS: [&str; 2] = ["../../tests/rows", "../../crates/wc_tests/data"];
+
 /// The rows of a file.
 pub fn rows_of(file: &str) -> Vec<Row> {
-    let path = Path::new(env!("CARGO_MANIFEST_DIR"))
-        .join("../../crates/wc_tests/data")
-        .join(file);
-    let text = fs::read_to_string(path)
-        .expect("this test needs the repository: crates/wc_tests/data is not there");
-    let mut fixtures = HashMap::new();
     let mut rows = Vec::new();
-    for paragraph in text.split("\n\n") {
-        read_paragraph(paragraph, &mut fixtures, &mut rows);
+    for folder in FOLDERS {
+        let path = Path::new(env!("CARGO_MANIFEST_DIR")).join(folder);
+        let mut fixtures = HashMap::new();
+        for paragraph in fs::read_to_string(path.join(file))
+            .unwrap_or_default()
+            .split("\n\n")
+        {
+            read_paragraph(paragraph, &mut fixtures, &mut rows);
+        }
     }
+    assert!(!rows.is_empty(), "this test needs the repository: {file}");
     rows
 }
 

@@ -17,42 +17,21 @@ use std::error::Error;
 /// The type that an import is about, as `ComponentWorld::add_live_imports` finds it there.
 pub fn type_of(import: &Import) -> Option<TypeId> {
     match import {
-        Import::ImportedResourceDrop(.., ty)
-        | Import::ExportedResourceDrop(_, ty)
-        | Import::ExportedResourceNew(_, ty)
-        | Import::ExportedResourceRep(_, ty) => Some(*ty),
-
-        Import::StreamNew(info)
-        | Import::StreamRead { info, async_: _ }
-        | Import::StreamWrite { info, async_: _ }
-        | Import::StreamForward(info)
-        | Import::StreamCancelRead { info, async_: _ }
-        | Import::StreamCancelWrite { info, async_: _ }
-        | Import::StreamDropReadable(info)
-        | Import::StreamDropWritable(info)
-        | Import::FutureNew(info)
-        | Import::FutureRead { info, async_: _ }
-        | Import::FutureWrite { info, async_: _ }
-        | Import::FutureForward(info)
-        | Import::FutureCancelRead { info, async_: _ }
-        | Import::FutureCancelWrite { info, async_: _ }
-        | Import::FutureDropReadable(info)
-        | Import::FutureDropWritable(info) => match info.ty {
-            PayloadType::Type { id, .. } => Some(id),
-            PayloadType::UnitFuture | PayloadType::UnitStream => None,
-        },
-
         Import::WorldFunc(_, _, _)
         | Import::InterfaceFunc(_, _, _, _)
-        | Import::ExportedTaskReturn(..)
         | Import::AdapterExport { .. }
         | Import::MainModuleMemory(_)
         | Import::MainModuleExport { .. }
         | Import::Item(_)
+        | Import::ExportedTaskReturn(..)
+        | Import::ExportedTaskCancel
         | Import::ContextGet { .. }
         | Import::ContextSet { .. }
         | Import::TlsBaseGet { .. }
         | Import::TlsBaseSet { .. }
+        | Import::ErrorContextNew { .. }
+        | Import::ErrorContextDebugMessage { .. }
+        | Import::ErrorContextDrop
         | Import::BackpressureInc
         | Import::BackpressureDec
         | Import::WaitableSetNew
@@ -62,10 +41,6 @@ pub fn type_of(import: &Import) -> Option<TypeId> {
         | Import::WaitableJoin
         | Import::SubtaskDrop
         | Import::SubtaskCancel { .. }
-        | Import::ErrorContextNew { .. }
-        | Import::ErrorContextDebugMessage { .. }
-        | Import::ErrorContextDrop
-        | Import::ExportedTaskCancel
         | Import::ThreadIndex
         | Import::ThreadNewIndirect
         | Import::ThreadResumeLater
@@ -75,6 +50,31 @@ pub fn type_of(import: &Import) -> Option<TypeId> {
         | Import::ThreadYieldThenResume
         | Import::ThreadSuspendThenPromote
         | Import::ThreadYieldThenPromote => None,
+        Import::ImportedResourceDrop(_, _, ty)
+        | Import::ExportedResourceDrop(_, ty)
+        | Import::ExportedResourceNew(_, ty)
+        | Import::ExportedResourceRep(_, ty) => Some(*ty),
+
+        // what has no flag, and then what is synchronous or asynchronous
+        Import::StreamNew(info)
+        | Import::StreamForward(info)
+        | Import::StreamDropReadable(info)
+        | Import::StreamDropWritable(info)
+        | Import::FutureNew(info)
+        | Import::FutureForward(info)
+        | Import::FutureDropReadable(info)
+        | Import::FutureDropWritable(info)
+        | Import::StreamRead { info, async_: _ }
+        | Import::StreamCancelRead { info, async_: _ }
+        | Import::StreamWrite { info, async_: _ }
+        | Import::StreamCancelWrite { info, async_: _ }
+        | Import::FutureRead { info, async_: _ }
+        | Import::FutureCancelRead { info, async_: _ }
+        | Import::FutureWrite { info, async_: _ }
+        | Import::FutureCancelWrite { info, async_: _ } => match info.ty {
+            PayloadType::Type { id, .. } => Some(id),
+            PayloadType::UnitFuture | PayloadType::UnitStream => None,
+        },
     }
 }
 
@@ -327,9 +327,7 @@ pub fn trimmed(
 ) -> Result<(Vec<u8>, ValidatedModule), Box<dyn Error>> {
     let info = validate_adapter_module(parts, wasm, required_by_import, required_exports, None)?;
     let mut required: HashSet<String> = required_by_import.keys().cloned().collect();
-    for (name, _export) in info.exports.iter() {
-        required.insert(name.to_string());
-    }
+    required.extend(info.exports.iter().map(|(name, _)| name.to_owned()));
     let page_size_log2 = info
         .imports
         .imported_memory()
