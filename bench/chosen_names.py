@@ -7,11 +7,13 @@ import pathlib
 import sys
 
 TOP = pathlib.Path(__file__).resolve().parent.parent
-sys.path.append(str(TOP / "checks"))
+sys.path += [str(TOP / "checks"), str(TOP / "tests")]
 import colliding
 from adapter_shapes import body, exports, functions
 from colliding import SEED, after_number
+from described_modules import described
 from module_bytes import HEADER, function_import, name, number, section, types, vector
+from worlds import encoder_of, lines_of_bytes, program_input
 
 FOLDER = TOP / "bench" / "data" / "chosen-names"
 FILES = "in.wasm", "adapter.wasm", "out.wasm", "worlds.json", "names.rows"
@@ -157,19 +159,26 @@ case("adapter-exports", "wcplan", adapted)
 case("adapters-given", "wcplan", lambda names: plan([world()], more=each("--adapt=%s=" + IN, names)), most=ARGUMENTS)
 
 
-def row(call, fixture, script=()):
+def row(call, lines):
     """Writes a row, and gives the arguments to read it from standard input."""
-    lines = ["row r", "call " + call] + each("in %s", [*fixture, *each("do %s", script)])
-    write(ROWS, "".join(each("%s\n", lines)).encode())
+    write(ROWS, "".join(each("%s\n", ["row r", "call " + call, *each("in %s", lines)])).encode())
     return ["-"]
 
 
-def validate(fixture, script):
-    return row("validate_module required none", fixture, script)
+def module_of(script):
+    """The module of lines, an import or an export each."""
+    return described(each("do %s", script)).bytes()
 
 
-def validate_adapter(fixture, script):
-    return row("validate_adapter_module a required none", ["world w", "adapter a -", *fixture], script)
+def validate(world, script):
+    return row("validate_module required none", program_input(world, module_of(script)))
+
+
+def validate_adapter(members, script, required=()):
+    """An adapter, from which the main module imports the functions that are required."""
+    main = module_of(each("a %s func ->", required))
+    lines = program_input(["world w", "adapter a -", *members], main) + lines_of_bytes("adapter a", module_of(script))
+    return row("validate_adapter_module a required none", lines)
 
 
 def one(word, names, *more):
@@ -186,7 +195,7 @@ def several(word, packages):
     return lines + ["world w"] + ["  %s i%d: interface i%d" % (word, at, at) for at in range(len(packages))]
 
 
-case("resolve-packages", "wc_tests", lambda names: row("package_named %s:p" % names[-1], each("package %s:p", names)))
+case("resolve-packages", "wc_tests", lambda names: row("package_named %s:p" % names[-1], [json.dumps(encoder_of(each("package %s:p", names)).resolve)]))
 case("imported-ids", "wc_tests", lambda names: validate(several("import", each("%s:p", names)),
                                                         each("%s:p/face f func ->", names)), after=":p/face")
 case("imported-tracks", "wc_tests", lambda names: validate(several("import", each("%s:p@1.2.3", names)),
@@ -206,8 +215,8 @@ case("whole-exports", "wc_tests", function_exports, before="my:p/face#")
 case("adapter-imports", "wc_tests", lambda names: validate(["world w", *each("adapter %s -", names)],
                                                            each("%s f func ->", names)))
 case("adapter-functions", "wc_tests", lambda names: validate_adapter(
-    [], each("export %s func ->", names) + each("requires %s ->", names)))
+    [], each("export %s func ->", names), names))
 case("library-items", "wc_tests", lambda names: validate_adapter(
     ["  library", "  argument env = items", *each("  item %s: func f of main", names)], each("env %s func ->", names)))
-case("component-world", "wc_tests", lambda names: row("component_world live", one("import", names),
-                                                      each("my:p/face %s func ->", names)), "text function")
+case("component-world", "wc_tests", lambda names: row("component_world slot-1", program_input(
+    one("import", names), module_of(each("my:p/face %s func ->", names)))), "text function")

@@ -7,7 +7,7 @@ PROGRAM is crates/wc_tests/out/wc_tests unless another is named: `rt run` in cra
 proved. All cases are run unless some are named. For each a line says the fastest of N runs (5, unless another number is
 given) of a row that only builds the encoder, and how much longer those take that also validate the main module, and
 that make the component's world: the last is the time of `ComponentWorld::new` and `PlainOptions::new`. It says of adapters
-besides how long `trim` takes of all of them, without the reading of the row. Times are of the processor, user's and
+besides how long the search for what is live takes in all of them, without the reading of the row. Times are of the processor, user's and
 system's. The rows are written into bench/data.
 
 A case has 2,000 interfaces of 50 functions, which are all imported or all exported, and a main module that imports some of
@@ -21,10 +21,11 @@ import subprocess
 import sys
 
 TOP = pathlib.Path(__file__).resolve().parent.parent
-sys.path.append(str(TOP / "checks"))
+sys.path += [str(TOP / "checks"), str(TOP / "tests")]
 from adapter_shapes import TYPES, body, call, chain, exports, functions
-from many_interfaces import fixture
+from many_interfaces import put_row, world_lines
 from module_bytes import HEADER, function_import, section, vector
+from worlds import lines_of_bytes, program_input
 
 PROGRAM = TOP / "crates" / "wc_tests" / "out" / "wc_tests"
 FOLDER = TOP / "bench" / "data" / "component-worlds"
@@ -44,36 +45,25 @@ def main_of(imports):
 
 def importing(imports):
     """A world that imports all interfaces, and a main module that imports so many of their functions."""
-    def lines(out):
-        fixture(INTERFACES, "import", FUNCTIONS, out)
-        put_bytes("module", main_of(imports), out)
-
-    return lines
+    return lambda: program_input(world_lines(INTERFACES, "import", FUNCTIONS), main_of(imports))
 
 
-def exporting(out):
+def exporting():
     """A world that exports all interfaces, which refer to none."""
-    fixture(INTERFACES, "export", FUNCTIONS, out)
-    put_bytes("module", HEADER, out)
+    return program_input(world_lines(INTERFACES, "export", FUNCTIONS), HEADER)
 
 
-def chained(out):
+def chained():
     """A world that exports interfaces, each of which has an alias of a type of the one before: so each uses all before
     it, and the sets have two million ids together."""
-    print("fixture world", file=out)
-    print("in type t0 a in i0 = record x: u32", file=out)
-    for index in range(1, INTERFACES):
-        print("in type t%d a in i%d = alias t%d" % (index, index, index - 1), file=out)
+    lines = ["type t0 a in i0 = record x: u32"]
+    lines += ["type t%d a in i%d = alias t%d" % (index, index, index - 1) for index in range(1, INTERFACES)]
     for index in range(INTERFACES):
-        print("in interface i%d face of p%d" % (index, index), file=out)
-        print("in   type a t%d" % index, file=out)
+        lines += ["interface i%d face of p%d" % (index, index), "  type a t%d" % index]
     for index in range(INTERFACES):
-        print("in package p%d my:demo%d" % (index, index), file=out)
-        print("in   interface face i%d" % index, file=out)
-    print("in world w0 foo", file=out)
-    for index in range(INTERFACES):
-        print("in   export i%d: interface i%d" % (index, index), file=out)
-    put_bytes("module", HEADER, out)
+        lines += ["package p%d my:demo%d" % (index, index), "  interface face i%d" % index]
+    lines += ["world w0 foo", *("  export i%d: interface i%d" % (index, index) for index in range(INTERFACES))]
+    return program_input(lines, HEADER)
 
 
 def main_module():
@@ -85,21 +75,15 @@ def main_module():
     return HEADER + b"".join(parts)
 
 
-def put_bytes(word, data, out):
-    print("in %s %s" % (word, data[:8].hex()), file=out)
-    for at in range(8, len(data), 4096):
-        print("in   bytes %s" % data[at:at + 4096].hex(), file=out)
-
-
 def modules(items):
     """A main module of 20 MB and six adapters, each of so many functions of some 50 bytes, every second one dead."""
-    def lines(out):
-        print("fixture world", file=out)
-        print("in world w0 foo", file=out)
-        put_bytes("module", main_module(), out)
+    def lines():
         adapter, _ = chain(items)
-        for index in range(ADAPTERS):
-            put_bytes("adapter adapter-%d" % index, adapter, out)
+        names = ["adapter-%d" % index for index in range(ADAPTERS)]
+        made = program_input(["world w0 foo", *("adapter %s -" % name for name in names)], main_module())
+        for name in names:
+            made += lines_of_bytes("adapter " + name, adapter)
+        return made
 
     return lines
 
@@ -131,26 +115,20 @@ def run(program, source):
     return used.ru_utime + used.ru_stime
 
 
-def timed(asked, case, kind, lines, call_line):
+def timed(asked, case, kind, lines, call):
     """The fastest of some runs of a row."""
     path = FOLDER / ("%s-%s.rows" % (case, kind))
-    with open(path, "w") as out:
-        lines(out)
-        print("\nrow %s\ncall %s\nwith world" % (kind, call_line), file=out)
+    with open(path, "w", encoding="utf-8") as out:
+        put_row(kind, call, lines, out)
     return min(run(asked.program, path) for _ in range(asked.rounds))
 
 
 def trimmed(asked, case):
-    """How long `trim` takes of all adapters."""
+    """How long the search for what is live takes of all adapters."""
     adapter, wanted = chain(int(case.split("-")[1]))
-
-    def lines(out):
-        print("fixture world", file=out)
-        for at in range(0, len(adapter), 4096):
-            print("in " + adapter[at:at + 4096].hex(), file=out)
-
+    lines = [adapter[at:at + 4096].hex() for at in range(0, len(adapter), 4096)]
     read = timed(asked, case, "frames", lines, "frames")
-    return ADAPTERS * (timed(asked, case, "trim", lines, "trim " + " ".join(wanted)) - read)
+    return ADAPTERS * (timed(asked, case, "live", lines, "liveness_counted " + " ".join(wanted)) - read)
 
 
 def main():
@@ -163,13 +141,13 @@ def main():
         sys.exit("%s is not there: build it by `rt run` in %s" % (asked.program, PROGRAM.parent.parent))
     FOLDER.mkdir(parents=True, exist_ok=True)
     for case in asked.cases or CASES:
-        lines = CASES[case]
+        lines = CASES[case]()
         built = timed(asked, case, "build", lines, "encoder_build")
-        checked = timed(asked, case, "main", lines, "validate_module main required none")
+        checked = timed(asked, case, "main", lines, "validate_module required none")
         made = timed(asked, case, "world", lines, "component_world slot-1")
         text = "%-16s encoder %.3f s, main module %.3f s, world %.3f s" % (case, built, checked - built, made - built)
         if case.startswith("adapters-"):
-            text += ", trim %.3f s" % trimmed(asked, case)
+            text += ", search %.3f s" % trimmed(asked, case)
         print(text, flush=True)
 
 

@@ -3,7 +3,7 @@
 
     bench/gate-costs.py [--write] [--cores LIST] [-- ARGUMENT..]   # `rt ci --anew`, or `rt ci ARGUMENT..`
     bench/gate-costs.py [--write] --join FILE..                     # of the records of several runs
-    bench/gate-costs.py --check | --figures                         # nothing is run
+    bench/gate-costs.py --check | --figures | --fit                 # nothing is run
 
 It runs `rt ci` in this checkout and reads, twice a second, which processes it has and the processor time of each. So
 that the figures mean something the machine has to have nothing else to do; the load before the run is in the record.
@@ -11,7 +11,7 @@ that the figures mean something the machine has to have nothing else to do; the 
 processor minutes of each crate's proof and of its edits, when its proof began and ended by the clock, and what the whole
 took; then by how long a run on two and on four processors would take if each proof had one (the longest chain of crates
 that wait for each other decides that). With --write the table is put into docs/MAP.md. Of a crate that several records
-have the last counts.
+have the last counts. With --fit the numbers by which checks/budget.py expects a proof's minutes are fitted to that table.
 """
 
 import argparse
@@ -24,14 +24,15 @@ import sys
 import tempfile
 import time
 
-sys.path.append(os.path.join(os.path.dirname(os.path.dirname(os.path.abspath(__file__))), "tools"))
-from repository import TESTS, TOP, crates_below, read, used_by_crates
+for folder in ("tools", "checks"):
+    sys.path.append(os.path.join(os.path.dirname(os.path.dirname(os.path.abspath(__file__))), folder))
+from budget import function_counts, longest_chain
+from repository import COSTS_BEGIN, COSTS_END, TESTS, TOP, costs_on, crates_below, read, used_by_crates
 
 DATA = f"{TOP}/bench/data"
 TICK = os.sysconf("SC_CLK_TCK")
 # the programs, and the page of each that says what its proof takes
 PROOFS = {"wctrim": "docs/WCTRIM.md", "wcwhy": "", "wcplan": "docs/WCPLAN.md"}
-BEGIN, END = "<!-- costs: bench/gate-costs.py -->", "<!-- end of costs -->"
 
 
 def processes():
@@ -144,15 +145,6 @@ def by_the_clock(crates, processors):
     return now
 
 
-def longest_chain(crates):
-    """The crates of the longest chain of proofs that wait for each other, and its minutes."""
-    chains = {}
-    for name, waits in uses().items():
-        minutes, chain = max((chains[it] for it in waits), default=(0.0, []))
-        chains[name] = minutes + crates.get(name, {}).get("proof", 0.0) / 60, [*chain, name]
-    return max(chains.values())
-
-
 def table(runs):
     crates = {}
     for run in runs:
@@ -170,21 +162,16 @@ def table(runs):
     lines.append(f"With {other:.1f} minutes for linking, running and the rest that is {proofs + edits + other:.0f} processor minutes.")
     two, four = by_the_clock(crates, 2), by_the_clock(crates, 4)
     lines.append(f"With one processor for each proof that takes {two:.0f} minutes on two processors, and {four:.0f} on four.")
-    minutes, chain = longest_chain(crates)
-    each = ", ".join(f"`{it}` {crates.get(it, {'proof': 0.0})['proof'] / 60:.1f}" for it in chain)
-    lines.append(f"The longest chain has {minutes:.0f} minutes: {each}.")
+    minutes = {name: crates.get(name, {"proof": 0.0})["proof"] / 60 for name in uses()}
+    chain = longest_chain(minutes, used_by_crates())
+    each = ", ".join(f"`{it}` {minutes[it]:.1f}" for it in chain)
+    lines.append(f"The longest chain has {sum(minutes[it] for it in chain):.0f} minutes: {each}.")
     rows = sum(of["proof"] for name, of in crates.items() if TESTS.match(name)) / 60
     lines.append(f"The crates of the tests take {rows:.0f} minutes of the proofs, {100 * rows / max(proofs, 0.01):.0f}%.")
     for run in (it for it in runs if it["clock"]):
         whole = f"`{run['commit']}`: {run['clock'] / 60:.0f} minutes by the clock on {len(run['cores'])} processors"
         lines.append(f"Run {whole}, with a load of {run['load']:.1f} before it; {run['answer']}.")
     return "\n".join(lines)
-
-
-def costs_on(page):
-    """The minutes of each crate's proof and of its edits, in the table on a page; the last row is of all."""
-    rows = re.findall(r"^\| `?(\w+)`? \| ([\d.]+) \| ([\d.]*) \|$", page.partition(BEGIN)[2].partition(END)[0], re.M)
-    return {name: (float(proof), float(edits or 0)) for name, proof, edits in rows}
 
 
 def figures(costs):
@@ -208,6 +195,32 @@ def write_figures():
     for file, pattern, number in figures(costs_on(read("docs/MAP.md"))):
         text = re.sub(pattern, lambda it: it[1] + number + it[3], read(file))
         (TOP / file).write_text(text, encoding="utf-8")
+
+
+def fitted(points):
+    """The factors of rows of numbers by which their sums come closest to the values beside them, by least squares."""
+    size = len(points[0][0])
+    rows = [[sum(it[m] * it[n] for it, _ in points) for n in range(size)] + [sum(it[m] * value for it, value in points)] for m in range(size)]
+    for at in range(size):
+        for other in range(size):
+            if other != at:
+                times = rows[other][at] / rows[at][at]
+                rows[other] = [here - times * there for here, there in zip(rows[other], rows[at])]
+    return [row[size] / row[at] for at, row in enumerate(rows)]
+
+
+def fit():
+    """Prints what a crate, a function, and a function for each 1,000 functions below cost, by the table on docs/MAP.md."""
+    used, counts, points = used_by_crates(), function_counts(), []
+    for name, (minutes, _) in costs_on(read("docs/MAP.md")).items():
+        if name in counts:
+            below = sum(counts[it] for it in crates_below(name, used)[:-1])
+            points.append(((1, counts[name], counts[name] * below / 1000), minutes))
+    factors = fitted(points)
+    mean = sum(value for _, value in points) / len(points)
+    rest = sum((value - sum(a * b for a, b in zip(factors, row))) ** 2 for row, value in points)
+    share = 1 - rest / sum((value - mean) ** 2 for _, value in points)
+    print("CRATE, FUNCTION, BELOW = %.2f, %.4f, %.4f  # of %d crates; R2 %.2f" % (*factors, len(points), share))
 
 
 def check():
@@ -246,8 +259,12 @@ def main():
     parser.add_argument("--join", nargs="+")
     parser.add_argument("--check", action="store_true")
     parser.add_argument("--figures", action="store_true", help="write what is made of the table in docs/MAP.md, and run nothing")
+    parser.add_argument("--fit", action="store_true", help="fit the numbers of checks/budget.py to the table in docs/MAP.md, and run nothing")
     parser.add_argument("rest", nargs="*")
     given = parser.parse_args()
+    if given.fit:
+        fit()
+        return 0
     if given.figures:
         write_figures()
         return 0
@@ -273,7 +290,7 @@ def main():
         page = f"{TOP}/docs/MAP.md"
         with open(page, encoding="utf-8") as file:
             old = file.read()
-        new = re.sub(f"(?s){re.escape(BEGIN)}.*{re.escape(END)}", lambda _: f"{BEGIN}\n\n{text}\n\n{END}", old)
+        new = re.sub(f"(?s){re.escape(COSTS_BEGIN)}.*{re.escape(COSTS_END)}", lambda _: f"{COSTS_BEGIN}\n\n{text}\n\n{COSTS_END}", old)
         with open(page, "w", encoding="utf-8") as file:
             file.write(new)
         write_figures()

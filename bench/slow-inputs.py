@@ -7,8 +7,7 @@
     slow-inputs.py --check      # nothing is run
 
 The programs are those in crates/*/out unless others are named; `./wctrim --build` and its like make them, and `rt run` in
-crates/wc_tests. Messages go to the static library in FOLDER, through message.c; without --library the program of rows asks
-for their plans. Each case is a shape of worlds, modules, keys or messages of so many parts (512, or what its own factor makes
+crates/wc_tests. Messages go to the static library in FOLDER, or that of tests/rows.py, through message.c. Each case is a shape of worlds, modules, keys or messages of so many parts (512, or what its own factor makes
 of N): those of slow_cases.py, and `chosen NAME` of names that are chosen to collide (chosen_names.py). A CASE is one of the
 table's first column, or the first word of it; a program (`message` too) for all of its cases; `hostile` for those of the
 page's table; or `chosen`. All are run unless some are named.
@@ -36,11 +35,13 @@ import subprocess
 import sys
 
 TOP = pathlib.Path(__file__).resolve().parent.parent
-sys.path += [str(TOP / "bench"), str(TOP / "checks")]
+sys.path += [str(TOP / "bench"), str(TOP / "checks"), str(TOP / "tests")]
 import chosen_names
+import library
 import stored_figures
+from row_format import LeftOut
 from slow_cases import CASES, HOSTILE
-from slow_shapes import FOLDER, MESSAGE, MODULES, OUT, ROWS
+from slow_shapes import FOLDER, OUT, ROWS
 
 OUTPUTS = OUT, chosen_names.OUT
 GRIND, PEAK, MESSENGER = (str(FOLDER / file) for file in ("callgrind.out", "peak", "message"))
@@ -139,17 +140,11 @@ def costly(count):
     return ["    " + line.strip()[:150] for line in lines[:count]]
 
 
-def program_of(asked, title):
-    """Which program runs a case: a message without a library is one of rows."""
-    program = CASES[title][0]
-    return "wc_tests" if program == "message" and not asked.library else program
-
-
 def run_case(asked, title, many):
     """Runs a case of so many parts; after them, whether names are plain ones."""
-    program, words = program_of(asked, title), CASES[title][2](*many)
+    program, words = CASES[title][0], CASES[title][2](*many)
     if program == "message":
-        return Run(asked, MESSENGER, [MESSAGE, MODULES], os.devnull)
+        return Run(asked, MESSENGER, words, os.devnull)
     rows = chosen_names.ROWS if title.startswith("chosen ") else ROWS
     return Run(asked, getattr(asked, program), words, rows if words == ["-"] else os.devnull)
 
@@ -237,10 +232,14 @@ def arguments():
 
 
 def make_messenger(folder):
-    """Compiles message.c over the static library."""
+    """Compiles message.c over the static library, that of a folder where one is named."""
+    try:
+        archive = os.path.join(folder, "libnuigatre.a") if folder else str(library.archive_of(FOLDER, False, False)[0])
+    except LeftOut as why:
+        sys.exit("%s; --library names the folder of one" % why)
     include = str(TOP / "include")
     sources = [str(TOP / "bench" / "message.c"), os.path.join(include, "nuigatre_heap.c")]
-    command = ["cc", "-O2", "-I" + include, *sources, "-L" + folder, "-lnuigatre", "-o", MESSENGER]
+    command = ["cc", "-O2", "-I" + include, *sources, archive, "-o", MESSENGER]
     ran = subprocess.run(command, capture_output=True, text=True, check=False)
     if ran.returncode:
         sys.exit("%s\n%s" % (" ".join(command), ran.stderr))
@@ -255,12 +254,12 @@ def main():
     for tool in "valgrind", TIME:
         if not shutil.which(tool):
             sys.exit("%s is not there: it counts what a run takes" % tool)
-    for program in sorted({program_of(asked, title) for title in titles} & set(PROGRAMS)):
+    for program in sorted({CASES[title][0] for title in titles} & set(PROGRAMS)):
         if not os.path.exists(getattr(asked, program)):
             sys.exit("%s is not there: build it, or name another" % getattr(asked, program))
     for folder in FOLDER, chosen_names.FOLDER:
         folder.mkdir(parents=True, exist_ok=True)
-    if asked.library:
+    if any(CASES[title][0] == "message" for title in titles):
         make_messenger(asked.library)
     print(TITLES % ("case", "N", "kB 4N", "out 4N", "N", "2N", "4N", "step", "limit", "MB N", "MB 2N", "MB 4N", "step", "limit"))
     rows, past = {}, 0

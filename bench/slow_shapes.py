@@ -111,14 +111,12 @@ def row(call, lines):
 
 
 def message(document, module, **members):
-    """Writes a message and its modules, the main module and then those of adapters, for message.c; and the row that plans
-    their component, for the program of rows."""
+    """Writes a message and its modules, the main module and then those of adapters, for message.c."""
     others = b"".join(bytes.fromhex(held["bytes"]) for held in members.get("adapters", ()))
     for held in members.get("adapters", ()):
         held["length"] = len(bytes.fromhex(held.pop("bytes")))
     members = {"adapters": [], **members}
     text = json.dumps({"resolve": document, "world": "w", "length": len(module), **members}, separators=(",", ":"))
-    modules = module + others
     write(MESSAGE, text.encode())
-    write(MODULES, modules)
-    return row("plan_into 0 1", [text, *(modules[at:at + 4096].hex() for at in range(0, len(modules), 4096))])
+    write(MODULES, module + others)
+    return [MESSAGE, MODULES]

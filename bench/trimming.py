@@ -289,7 +289,7 @@ def arguments():
         if shape not in SHAPES and shape not in RENAMED and not shape.endswith(".wasm"):
             parser.error("no shape %s" % shape)
     if asked.write and (asked.shapes or asked.most is not None or not asked.instructions):
-        parser.error("--write comes with --instructions, and is of all rows")
+        parser.error("--write needs --instructions, and measures all rows")
     return asked
 
 

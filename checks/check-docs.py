@@ -184,7 +184,7 @@ def words_of_sources():
     words = set()
     sources = [path for part in ("src", "specs", "proofs", "data", "must-fail")
                for path in files("crates", "*", part, "**", "*")]
-    others = [path for part in ("edits", "examples", "checks", "bench", "web", "python") for path in files(part, "**", "*")]
+    others = [path for part in ("edits", "examples", "checks", "tests", "bench", "web", "python") for path in files(part, "**", "*")]
     others += files("rust", "*") + [path for part in ("src", "tests", "examples")
                                     for path in files("rust", "nuigatre", part, "**", "*.rs")]
     for path in [*sources, *others, *files("tools", "*"), *files("crates.txt"), *files("HANDLES"), *files("wctrim")]:
@@ -198,7 +198,7 @@ def words_of_sources():
 
 @functools.cache
 def names_in_crates():
-    return {os.path.basename(path) for path in files("crates", "**", "*")}
+    return {os.path.basename(path) for path in files("crates", "**", "*") + files("tests", "**", "*")}
 
 
 @functools.cache
@@ -207,7 +207,7 @@ def folders_of_crates():
 
 
 def is_file(document, name):
-    """Whether a path is that of a file: from the top, from the document's folder, or in a crate."""
+    """Whether a path is that of a file: from the top, from the document's folder, in a crate or in tests."""
     is_pattern = "*" in name or any(part.isupper() for part in name.split("/"))
     if name.startswith("/") or not re.search(r"\w", name) or is_pattern or name in WRITTEN or any(made in name for made in MADE):
         return True

@@ -57,7 +57,7 @@ def reader_program(is_unproved=None):
     if is_fresh(program, crates):
         return program
     if not shutil.which("rt"):
-        sys.exit(f"{sys.argv[0]}: no rt on PATH: it builds the program (README.md says where it comes from)")
+        sys.exit(f"{sys.argv[0]}: rt, which builds the program, is not on PATH: see README.md, \"Try it\"")
     make_repository(crates)
     if is_unproved:
         words = ["--top", HOME, "--head", f"{sys.argv[0]}: compiling the reader without its proof"]

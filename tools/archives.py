@@ -323,9 +323,9 @@ def main():
     parser.add_argument("targets", nargs="*", metavar="TARGET")
     asked = parser.parse_args()
     if any(it not in targets.TARGETS for it in asked.targets) or asked.targets and not asked.check:
-        parser.error("a target is one of %s, and comes with --check" % ", ".join(targets.TARGETS))
+        parser.error("TARGET is %s, and needs --check" % " or ".join(targets.TARGETS))
     if asked.unproved and not asked.out:
-        parser.error("--unproved wants --out: what is not proved is not put into the crate")
+        parser.error("--unproved needs --out: the crate gets proved libraries alone")
     for target in asked.targets or targets.TARGETS:
         need(*(f"{targets.tool(target, tool)} {targets.TARGETS[target][4]}" for tool in ("strip", "nm", "objcopy")))
     if asked.check:

@@ -11,8 +11,13 @@ COLOURS = {
 }
 INK = "#222222"
 FAINT = "#8a8a8a"
-# how wide a letter is, as a share of its size: more than most letters of the font are
-LETTER = 0.56
+# how wide the characters from the blank to `~` are in Helvetica, in thousandths of the font's size
+WIDTHS = [278, 278, 355, 556, 556, 889, 667, 191, 333, 333, 389, 584, 278, 333, 278, 278, *[556] * 10, 278, 278, 584, 584, 584, 556,
+          1015, 667, 667, 722, 722, 667, 611, 778, 722, 278, 500, 667, 556, 833, 722, 778, 667, 778, 722, 667, 611, 722, 667, 944,
+          667, 667, 611, 278, 278, 278, 469, 556, 333, 556, 556, 500, 556, 556, 278, 556, 556, 222, 222, 500, 222, 833, 556, 556,
+          556, 556, 333, 500, 278, 556, 500, 722, 500, 500, 500, 334, 260, 334, 584]
+# how much wider the letters of a font in its place may be
+WIDER = 1.12
 
 
 def number(value):
@@ -21,7 +26,8 @@ def number(value):
 
 
 def width_of(text, size):
-    return len(text) * size * LETTER
+    """How wide a text is at most; a character that is no ASCII counts as an `M`."""
+    return sum(WIDTHS[ord(it) - 32] if " " <= it <= "~" else WIDTHS[ord("M") - 32] for it in text) * size * WIDER / 1000
 
 
 class Drawing:
@@ -44,7 +50,9 @@ class Drawing:
                  x, y, size, anchor, colour, ' font-weight="bold"' if bold else "", escape(text))
 
     def label(self, x, y, width, height, text, colour="plain", size=13, **how):
-        """A box with a text in its middle."""
+        """A box with a text in its middle, which has to be narrower than the box."""
+        if width_of(text, size) > width:
+            raise SystemExit("%s: %s is wider than its box" % (self.title, text))
         self.box(x, y, width, height, colour, **how)
         self.text(x + width / 2, y + height / 2 + size * 0.35, text, size, "middle", FAINT if colour == "grey" else INK)
 

@@ -7,9 +7,11 @@ import functools
 import itertools
 import re
 
-from repository import files_of, libraries
+from repository import files_of, product_crates
 
 TOKEN = re.compile(r'"((?:[^"\\]|\\.)*)"|(\+\+)|([()])|([^\s()"]+)')
+# The definitions of texts that aren't named after their enum.
+OTHER_NAMES = {"ToolFault": "command_fault_text"}
 # What leaves a text as it is, in how it is read here.
 PLAIN = ("codes", "string_bytes", "escaped", "decimal", "word", "text_of", "option_map")
 
@@ -35,7 +37,7 @@ def names_of(crate, text):
 def definitions():
     """The definitions of texts, by crate and name."""
     found = {}
-    for crate in libraries():
+    for crate in product_crates():
         for path in files_of(crate, "specs", ".antt"):
             text = re.sub(r"^--.*\n", "", path.read_text(), flags=re.M)
             names = names_of(crate, text)
@@ -123,7 +125,7 @@ def main_texts():
     """The definition of the text of each enum, by the enum and its crate."""
     found = {}
     for (crate, name), of in definitions().items():
-        if is_fault(of.type_name) and name in (snake(of.type_name) + "_text", "wrong_text"):
+        if is_fault(of.type_name) and name in (snake(of.type_name) + "_text", "wrong_text", OTHER_NAMES.get(of.type_name)):
             found[of.type_name, crate] = of
     return found
 

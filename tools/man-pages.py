@@ -1,7 +1,8 @@
 #!/usr/bin/env python3
 """Makes the man pages of the programs, and files by which bash completes their arguments, of their pages in docs.
 
-    tools/man-pages.py            prints which files are other than they would be made; status 1 where one is
+    tools/man-pages.py            prints which files are other than they would be made, and which sections a man page names
+                                  and lacks; status 1 where one is
     tools/man-pages.py --write    writes docs/NAME.1 and docs/NAME.bash
 
 Of docs/WCTRIM.md, for example, the text up to the usage is the description, the usage the synopsis and what is completed;
@@ -37,10 +38,25 @@ def anchor_of(title):
     return re.sub(r"[^\w -]", "", title.lower()).replace(" ", "-")
 
 
-def pointed(titles):
+def shown_sections(text):
+    """The titles of sections, and of those in them, as the man page has them, by their anchors; without those of SKIPPED."""
+    shown, is_skipped = {}, False
+    for level, title in re.findall(r"(?m)^(##+) (.*)$", text):
+        is_skipped = title in SKIPPED or is_skipped and level != "##"
+        if not is_skipped:
+            shown["#" + anchor_of(title)] = TITLES.get(title, title.upper()) if level == "##" else title
+    return shown
+
+
+def pointed(shown):
     """What a link in brackets of its own says, as `([how](#a-section))`: its section, if the man page has that; else nothing."""
-    shown = {"#" + anchor_of(it): TITLES.get(it, it.upper()) for it in titles if it not in SKIPPED}
     return lambda it: f" (see {shown[it[2]]})" if it[2] in shown else ""
+
+
+def lacking(page):
+    """The sections that a man page names and lacks."""
+    titles = {title.strip('"') for title in re.findall(r"(?m)^\.S[HS] (.*)$", page)}
+    return [it for it in re.findall(r"\(see ([^)]*)\)", page) if it not in titles]
 
 
 def inline(text):
@@ -100,8 +116,7 @@ def blocks(text):
 def page_of(name):
     """The parts of a program's page: its first sentence, its usage, and its sections with their titles."""
     text = re.sub(r"(?m)^<!--.*-->\n", "", (TOP / "docs" / (name.upper() + ".md")).read_text(encoding="utf-8"))
-    titles = re.findall(r"(?m)^##+ (.*)$", text)
-    text = re.sub(r" \(" + LINK + r"\)", pointed(titles), text)
+    text = re.sub(r" \(" + LINK + r"\)", pointed(shown_sections(text)), text)
     front, *sections = re.split(r"(?m)^## ", text.partition("\n")[2])
     usage = next("\n".join(it[4:] for it in lines) for lines in blocks(front) if lines[0].startswith("    usage: "))
     said = re.match(r"`%s` (.*?)\.(?= |\n)" % name, front.strip(), re.S)[1]
@@ -190,7 +205,7 @@ def completion(name):
 def main():
     parser = argparse.ArgumentParser(description=__doc__, formatter_class=argparse.RawDescriptionHelpFormatter)
     parser.add_argument("--write", action="store_true")
-    given, other = parser.parse_args(), []
+    given, other, lacked = parser.parse_args(), [], []
     for name in PROGRAMS:
         for ending, text in (".1", man_page(name)), (".bash", completion(name)):
             path = TOP / "docs" / (name + ending)
@@ -198,9 +213,13 @@ def main():
                 other.append(path)
             if given.write:
                 path.write_text(text, encoding="utf-8")
+        other_names = lacking(man_page(name))
+        for section in other_names:
+            print(f"docs/{name}.1 names the section {section}, which it lacks")
+        lacked += other_names
     for path in other if not given.write else []:
-        print(f"docs/{path.name} is not as its page: tools/man-pages.py --write")
-    return 1 if other and not given.write else 0
+        print(f"docs/{path.name} is out of date: tools/man-pages.py --write")
+    return 1 if lacked or other and not given.write else 0
 
 
 if __name__ == "__main__":

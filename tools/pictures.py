@@ -23,7 +23,10 @@ import subprocess
 import sys
 
 from drawing import FAINT, INK, Drawing, width_of
-from repository import TOP, read, used_by_crates
+from repository import TESTS, TOP, costs_on, read, used_by_crates
+
+sys.path.append(str(TOP / "checks"))
+from budget import expected_minutes, function_counts, longest_chain
 
 FOLDER = TOP / "docs" / "pictures"
 WIDTH = 880
@@ -134,68 +137,51 @@ def instantiation():
     return made.svg()
 
 
-# The crates as rooms
-
-COLUMNS = ["components", "modules and formats", "programs", "tests"]
-ROOMS = dict(zip(COLUMNS, map(str.split, [
-    "wc_maps wc_resolve wc_adapters wc_names wc_validate wc_world wc_plan wc_why wc_tree wc_component_tree wc_import_paths wc_module_ways wc_summary wc_ways wc_component_calls",
-    "wc_texts wc_read wc_write wc_uses wc_gc wc_dedupe wc_segments wc_paths wc_spread wc_component_graph wc_encoder wc_json wc_selection wc_record wc_calls nuigatre",
-    "wc_program wc_options wctrim_command wctrim wcwhy_command wcwhy wcplan_command wcplan",
-    "wc_lines wc_rows wc_fixtures wc_name_rows wc_module_rows wc_component_rows wc_example_rows wc_tests"])))
+# The crates on their floors
 
 
 def floors():
-    """The floor of each crate: the lowest that is above those that it uses."""
+    """The crates of each floor, the lowest that is above the crates that it uses, from the lowest floor on."""
     found = {}
     for crate, used in used_by_crates().items():
         found[crate] = 1 + max((found[name] for name in used if name in found), default=0)
-    return found
+    return [[crate for crate, floor in found.items() if floor == number + 1] for number in range(max(found.values()))]
+
+
+def lines_of(crates, widths, room, gap):
+    """The crates of a floor in lines that are no wider than the picture."""
+    lines, left = [], 0
+    for crate in crates:
+        if left < widths[crate]:
+            lines.append([])
+            left = room
+        lines[-1].append(crate)
+        left -= widths[crate] + gap
+    return lines
 
 
 def crates():
-    """The crates as rooms, each on the lowest floor above those that it uses, with the minutes of its proof."""
-    floor, page = floors(), read("docs", "MAP.md")
-    minutes = {crate: float(cost) for crate, cost in re.findall(r"^\| `(\w+)` \| ([\d.]+) \|", page.split("<!--")[1], re.M)}
-    chain = re.findall(r"`(\w+)` [\d.]+", re.search(r"^The longest chain .*$", page, re.M)[0])
-    column = {crate: name for name, rooms in ROOMS.items() for crate in rooms}
-    homeless = [crate for crate in floor if crate not in column]
-    if homeless:
-        raise SystemExit("tools/pictures.py: ROOMS has no room for " + ", ".join(homeless))
-    rooms = {}
-    for crate in floor:
-        rooms.setdefault((column[crate], floor[crate]), []).append(crate)
-    top, height, gap, size, left = 40, 36, 9, 12, 34
-    highest = max(floor.values())
-    widest = {name: max([width_of(crate, size) + 18 for crate in floor if column[crate] == name]) for name in COLUMNS}
-    most = {name: max(len(found) for (which, _), found in rooms.items() if which == name) for name in COLUMNS}
-    space = (WIDTH - left - 10 - sum(widest[name] * most[name] for name in COLUMNS)) / (len(COLUMNS) - 1)
-    if space < gap:
-        size, widest = 11, {name: widest[name] * (WIDTH - left - 10 - gap * 3) / sum(widest[n] * most[n] for n in COLUMNS) for name in COLUMNS}
-        space = gap
-    made = Drawing(WIDTH, top + highest * (height + gap) + 34, "The crates on their floors, each above those that it uses")
-    begin, x = {}, left
-    for name in COLUMNS:
-        begin[name], width = x, widest[name] * most[name]
-        made.text(x + (width - 6) / 2, 22, name, 14, "middle", bold=True)
-        x += width + space
-    place = {}
-    for number in range(1, highest + 1):
-        y = top + (highest - number) * (height + gap)
-        made.text(10, y + height / 2 + 4, str(number), 12, colour=FAINT)
-        for name in COLUMNS:
-            for at, crate in enumerate(rooms.get((name, number), [])):
-                place[crate] = begin[name] + at * widest[name], y
-    ends = [(place[crate], widest[column[crate]] - 6) for crate in chain if crate in place]
-    made.line([(x + width / 2, y + height / 2) for (x, y), width in ends], "#a86a2c", 3)
-    for crate, (x, y) in place.items():
-        width, cost = widest[column[crate]] - 6, minutes.get(crate)
-        colour = "orange" if crate in chain else "blue" if column[crate] != "tests" else "grey"
-        made.box(x, y, width, height, colour, 2 if crate in chain else 1)
-        made.text(x + 6, y + (15 if cost is not None else height / 2 + 4), crate, size)
-        if cost is not None:
-            made.text(x + 6, y + 29, "%.1f min" % cost, size - 2, colour="#555555")
-    made.text(left, top + highest * (height + gap) + 18, "A crate uses only crates of lower floors. The minutes are processor time of its proof; "
-              "the orange chain is the longest one.", 12, colour=FAINT)
+    """The crates as boxes, each on the lowest floor above the crates that it uses, with the minutes of its proof: measured, or
+    else expected."""
+    used, measured = used_by_crates(), costs_on(read("docs", "MAP.md"))
+    expected = expected_minutes(function_counts(), used)
+    minutes = {crate: measured[crate][0] if crate in measured else expected[crate] for crate in used}
+    chain = longest_chain(minutes, used)
+    texts = {crate: "%s  %s%.1f" % (crate, "" if crate in measured else "about ", cost) for crate, cost in minutes.items()}
+    size, height, gap, left, top = 12, 24, 8, 34, 14
+    widths = {crate: round(width_of(text, size)) + 12 for crate, text in texts.items()}
+    rows = [(number, line) for number, found in enumerate(floors(), 1) for line in lines_of(found, widths, WIDTH - left - 10, gap)]
+    made = Drawing(WIDTH, top + len(rows) * (height + gap) + 30, "The crates on their floors, each above the crates that it uses")
+    for at, (number, line) in enumerate(reversed(rows)):
+        x, y = left, top + at * (height + gap)
+        if rows[len(rows) - at - 1 :][0] == next(it for it in rows if it[0] == number):
+            made.text(10, y + height / 2 + 4, str(number), size, colour=FAINT)
+        for crate in line:
+            colour = "orange" if crate in chain else "plain" if TESTS.match(crate) else "blue"
+            made.label(x, y, widths[crate], height, texts[crate], colour, size, border=2 if crate in chain else 1)
+            x += widths[crate] + gap
+    made.text(left, top + len(rows) * (height + gap) + 14, "A crate uses only crates of lower floors. Beside each: processor minutes of its proof. "
+              "Orange: the longest chain, %.0f minutes. White: tests." % sum(minutes[crate] for crate in chain), 12, colour=FAINT)
     return made.svg()
 
 
@@ -349,7 +335,7 @@ def main():
         if given.write and made is not None:
             path.write_text(made, encoding="utf-8")
         else:
-            print("docs/pictures/%s.svg is another one now: tools/pictures.py --write" % name)
+            print("docs/pictures/%s.svg is out of date: tools/pictures.py --write" % name)
             wrong = 1
     return wrong
 

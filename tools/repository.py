@@ -10,6 +10,8 @@ TOP = pathlib.Path(__file__).resolve().parent.parent
 KIT = "/opt/rattle"
 # the crates of the tests, whose functions promise nothing to others
 TESTS = re.compile(r"wc_(lines|fixtures|tests|\w*rows)$")
+# the marks around the table of what proofs cost, in docs/MAP.md
+COSTS_BEGIN, COSTS_END = "<!-- costs: bench/gate-costs.py -->", "<!-- end of costs -->"
 HEAD = re.compile(r'^( *)(?:pub(?:\([^)]*\))? )?((?:const |unsafe |extern "C" )*)fn (\w+)')
 IMPL = re.compile(r"^ *(?:unsafe )?impl\b")
 
@@ -190,9 +192,19 @@ def exports_of_crate(crate):
     return {word for names in exports for word in re.findall(r"\w+", names)}
 
 
-def row_files():
-    """The files of rows of the tests."""
-    return sorted((TOP / "crates" / "wc_tests" / "data").glob("*.rows"))
+# The folders of rows: those of the program of rows, and those that tests/rows.py asks of the library and the programs.
+ROW_FOLDERS = "crates/wc_tests/data", "tests/rows"
+
+
+def row_files(*folders):
+    """The files of rows of the tests, of these folders or of all."""
+    return [path for folder in folders or ROW_FOLDERS for path in sorted((TOP / folder).glob("*.rows"))]
+
+
+def costs_on(page):
+    """The minutes of each crate's proof and of its edits, in the table on a page; the last row, `all`, is their sum."""
+    rows = re.findall(r"^\| `?(\w+)`? \| ([\d.]+) \| ([\d.]*) \|$", page.partition(COSTS_BEGIN)[2].partition(COSTS_END)[0], re.M)
+    return {name: (float(proof), float(edits or 0)) for name, proof, edits in rows}
 
 
 def need(*wanted):
@@ -207,7 +219,7 @@ def put_between(page, begin, end, text):
     front, found, rest = page.partition(begin)
     old, ended, back = rest.partition(end)
     if not (found and ended):
-        sys.exit("a page has no place for a table, between the lines\n" + begin + end)
+        sys.exit("a page lacks the two lines that a table is put between:\n" + begin + end)
     return front + begin + text + end + back, old
 
 
@@ -233,11 +245,11 @@ def kit_command(what, crate, flags, top=TOP, folder_of=rlib_of):
     `folder_of` says in which folder each has its statements."""
     kit, used = kit_folder() or KIT, used_by_crates(top)
     if crate not in used:
-        sys.exit(f"crates.txt lists no crate {crate}")
+        sys.exit(f"crates.txt has no crate {crate}")
     below = crates_below(crate, used)[:-1]
     for name in below:
         if not os.path.isdir(os.path.join(folder_of(name), name + ".rlib")):
-            sys.exit(f"no statements of {name} in {folder_of(name)}: run `rt ci` first")
+            sys.exit(f"{name} is not proved in {folder_of(name)}: run `rt ci` first")
     root = next(it for it in ("src/main.rt", "src/lib.rt") if os.path.exists(os.path.join(top, "crates", crate, it)))
     words = [f"{kit}/bin/rattle", what, "--crate-name", crate, root, "--extern", f"std={kit}/rlibs/std.rlib"]
     for name in used[crate]:

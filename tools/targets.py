@@ -3,12 +3,12 @@
 
     tools/targets.py [--over FOLDER | --packed | --archive FILE | --unproved] [--jobs N] [--out FOLDER] [TARGET ..]
 
-TARGET is x86_64 or aarch64; without one it is both. FOLDER/TARGET has libnuigatre.a, libnuigatre.so and nuigatre.pc then;
-it is crates/nuigatre/out unless it is said. The library is proved over what `rt ci` proved of the crates below (in
-crates/*/out/rlib, or in the folder of --over), once for each target, and compiled for it. With --unproved it is compiled of
-the sources without their proof. With --packed it is the proved one that the Rust crate has, packed, in rust/nuigatre/lib: that
-needs no kit, and wants --out. With --archive FILE it is an archive that is there, of the one TARGET that is given. The symbols
-of what is made have the number of their form (rust/symbols.py).
+TARGET is x86_64 or aarch64; without one it is both, and with --packed this machine's. FOLDER/TARGET has libnuigatre.a,
+libnuigatre.so and nuigatre.pc then; it is crates/nuigatre/out unless it is said. The library is proved over what `rt ci`
+proved of the crates below (in crates/*/out/rlib, or in the folder of --over), once for each target, and compiled for it. With
+--unproved it is compiled of the sources without their proof. With --packed it is the proved one that the Rust crate has,
+packed, in rust/nuigatre/lib: that needs no kit, and wants --out. With --archive FILE it is an archive that is there, of the
+one TARGET that is given. The symbols of what is made have the number of their form (rust/symbols.py).
 
 The shared library has include/nuigatre_heap.c in it, and exports the functions of include/nuigatre.h alone. It is made by
 cc, or by aarch64-linux-gnu-gcc; what is made for another processor runs in qemu. examples/c/trim.c, linked with the archive
@@ -135,7 +135,7 @@ def try_out(target, folder):
         run([*runner, program, TOP / "examples" / "adapter.wasm", out, "--realloc", "cabi_realloc", "size_of"])
         with open(out, "rb") as found:
             if found.read() != (TOP / "examples" / "trimmed.wasm").read_bytes():
-                raise unproved.NotMade("%s, %s: another adapter than examples/trimmed.wasm" % (target, way))
+                raise unproved.NotMade("%s, %s: examples/c/trim.c did not write examples/trimmed.wasm" % (target, way))
         os.remove(out)
         os.remove(program)
 
@@ -172,7 +172,7 @@ class Maker:
 
 def make(arguments, folder):
     maker = Maker(arguments, folder)
-    for target in arguments.targets or TARGETS:
+    for target in arguments.targets:
         out = os.path.join(os.path.abspath(arguments.out or OUT), target)
         os.makedirs(out, exist_ok=True)
         line = maker.archive(target, os.path.join(out, "libnuigatre.a"))
@@ -196,19 +196,23 @@ def main():
     parser.add_argument("targets", nargs="*", metavar="TARGET")
     arguments = parser.parse_args()
     if any(it not in TARGETS for it in arguments.targets) or arguments.archive and len(arguments.targets) != 1:
-        parser.error("a target is one of %s; an archive is of one target" % ", ".join(TARGETS))
+        parser.error("TARGET is %s; --archive takes exactly one" % " or ".join(TARGETS))
     if arguments.packed and not arguments.out:
-        parser.error("--packed wants --out: in crates/nuigatre/out is what was made of these sources")
-    for target in arguments.targets or TARGETS:
+        parser.error("--packed needs --out: crates/nuigatre/out is for libraries made of these sources")
+    if not arguments.targets:
+        arguments.targets = [platform.machine()] if arguments.packed else list(TARGETS)
+    if arguments.targets[0] not in TARGETS:
+        sys.exit("rust/nuigatre/lib has no library for %s, but for %s" % (arguments.targets[0], " and ".join(TARGETS)))
+    for target in arguments.targets:
         need("%s %s" % (TARGETS[target][2], TARGETS[target][4]))
         if TARGETS[target][3] and platform.machine() != target:
             need("%s qemu-user" % TARGETS[target][3][0])
     if not (arguments.archive or arguments.packed):
         if kit_folder() is None:
-            sys.exit("rt is not on PATH: it compiles the library")
+            sys.exit("rt, which compiles the library, is not on PATH: --packed needs none")
         over = (lambda crate: os.path.abspath(arguments.over)) if arguments.over else rlib_of
         if not arguments.unproved and not is_proved_below(over):
-            print("a crate below %s is not proved over these sources: run `rt ci` first" % CRATE, file=sys.stderr)
+            print("a crate below %s is not proved, or was changed since: run `rt ci` first" % CRATE, file=sys.stderr)
             return 3
     try:
         with unproved.working_folder() as folder:

@@ -1,3 +1,0 @@
--- What the examples' contracts cite.
-pub mod World
-pub mod Gc

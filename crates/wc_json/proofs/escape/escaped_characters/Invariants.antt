@@ -1,7 +1,0 @@
-use Rattle.std.proofs.Common.{◌≡◌, string_bytes, take}
-use Rattle.std.specs.List.{flat_map}
-use Rattle.wc_json.specs.Escape.{escaped_char}
-use Rattle.wc_json.proofs.escape.escaped_characters.Given as goal
-
-abbrev pub invariant-loop-c : goal.invariant-loop-c
-invariant-loop-c l = string_bytes l.out ≡ flat_map escaped_char (take l.c-index l.characters)

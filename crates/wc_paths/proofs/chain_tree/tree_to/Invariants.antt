@@ -1,5 +1,0 @@
-use Rattle.wc_paths.proofs.ChainTreeLemmas.{IsTreeTo}
-use Rattle.wc_paths.proofs.chain_tree.tree_to.Given as goal
-
-abbrev pub invariant-loop-target : goal.invariant-loop-target
-invariant-loop-target l = IsTreeTo l.finder l.targets l.growth.order.items l.growth.from.items l.growth.places.items l.ends.items l.target-index

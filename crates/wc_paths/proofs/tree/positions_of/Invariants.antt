@@ -1,5 +1,0 @@
-use Rattle.wc_paths.proofs.TreeLemmas.{PlacedTo}
-use Rattle.wc_paths.proofs.tree.positions_of.Given as goal
-
-abbrev pub invariant-loop-position : goal.invariant-loop-position
-invariant-loop-position l = PlacedTo l.items l.size l.places.items l.position

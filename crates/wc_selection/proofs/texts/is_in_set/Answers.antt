@@ -1,6 +1,0 @@
-use Rattle.std.proofs.Common.{◌∙◌}
-use Rattle.wc_selection.proofs.SetLemmas.{set_in}
-use Rattle.wc_selection.proofs.texts.is_in_set.Goals as goal
-
-pub returns : goal.returns
-returns c = c.contains.ensures ∙ set_in c.args.set.now.keys c.args.text.now

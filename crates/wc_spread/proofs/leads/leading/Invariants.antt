@@ -1,6 +1,0 @@
-use Rattle.wc_spread.specs.Positions.{sets_view}
-use Rattle.wc_spread.proofs.LeadLemmas.{AreLeadsTo}
-use Rattle.wc_spread.proofs.leads.leading.Given as goal
-
-abbrev pub invariant-loop-owner : goal.invariant-loop-owner
-invariant-loop-owner g l = AreLeadsTo (g.G.Graph.names l.graph) l.sources l.owners l.owner (sets_view l.leads.items)

@@ -1,6 +1,0 @@
-use Rattle.wc_spread.specs.Positions.{sets_view}
-use Rattle.wc_spread.proofs.MarkLemmas.{AreSetLabelsTo}
-use Rattle.wc_spread.proofs.marks.set_labels.Given as goal
-
-abbrev pub invariant-loop-position : goal.invariant-loop-position
-invariant-loop-position l = AreSetLabelsTo l.sources (sets_view l.sets) l.start l.size l.position l.labels.items

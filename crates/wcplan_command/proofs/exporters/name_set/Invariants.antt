@@ -1,6 +1,0 @@
-use Rattle.std.proofs.Common.{map, take}
-use Rattle.wc_selection.specs.Texts.{HasTexts, text_of}
-use Rattle.wcplan_command.proofs.exporters.name_set.Given as goal
-
-abbrev pub invariant-loop-export : goal.invariant-loop-export
-invariant-loop-export l = HasTexts (map (λ e. e.name.now) (take l.export-index l.exports)) (map text_of l.names.keys)

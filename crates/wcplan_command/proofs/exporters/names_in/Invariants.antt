@@ -1,8 +1,0 @@
-use Rattle.std.proofs.Common.{◌≡◌, ◌++◌, map}
-use Rattle.wc_selection.specs.Texts.{text_of}
-use Rattle.wcplan_command.specs.Nearest.{names_in}
-use Rattle.wcplan_command.proofs.NearestLemmas.{names_of}
-use Rattle.wcplan_command.proofs.exporters.names_in.Given as goal
-
-abbrev pub invariant-loop-name : goal.invariant-loop-name
-invariant-loop-name l = map text_of l.names.items ++ names_of l.name-iterator ≡ names_of l.interface.functions.entries

@@ -1,5 +1,0 @@
-use Rattle.std.proofs.Common.{inl}
-use Rattle.wcplan_command.proofs.json_faults.report_json.Goals as goal
-
-pub returns-in-Some : goal.returns-in-Some
-returns-in-Some g c = (c.in-Some.text.now, inl c.in-Some.ensures.whole, c.print_text.ensures)

@@ -1,7 +1,0 @@
-use Rattle.std.proofs.Common.{◌≡◌, string_bytes}
-use Rattle.wc_json.specs.Document.{document_view}
-use Rattle.wcplan_command.specs.Listing.{listed_worlds}
-use Rattle.wcplan_command.proofs.listing.listed_worlds.Given as goal
-
-abbrev pub invariant-loop-index : goal.invariant-loop-index
-invariant-loop-index l = string_bytes l.text ≡ listed_worlds (document_view l.document) l.index

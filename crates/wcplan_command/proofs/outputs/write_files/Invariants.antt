@@ -1,6 +1,0 @@
-use Rattle.std.proofs.Common.{map}
-use Rattle.wcplan_command.specs.Program.{WritesAll, file_view}
-use Rattle.wcplan_command.proofs.outputs.write_files.Given as goal
-
-abbrev pub invariant-loop-path : goal.invariant-loop-path
-invariant-loop-path g l = WritesAll (g.F.FileStore.held l.fn.files) (g.F.FileStore.held l.files) (map file_view l.yielded)

@@ -1,6 +1,0 @@
-use Rattle.std.proofs.Common.{◌∙◌, refl}
-use Rattle.wcplan_command.proofs.WarningLemmas.{there_named}
-use Rattle.wcplan_command.proofs.warnings.is_adapter.Goals as goal
-
-pub returns : goal.returns
-returns c = c.contains_key.ensures ∙ there_named _ c.args.name.now c.args.adapters.now.entries (λ k. refl)

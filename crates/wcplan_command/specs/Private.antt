@@ -1,6 +1,0 @@
--- Words of contracts of private functions. No contract of a public function cites these, directly or through others.
-pub mod Runs
-pub mod Exporters
-pub mod SharedKeys
-pub mod AdapterFiles
-pub mod Inputs
