@@ -184,7 +184,7 @@ def figures(costs):
             before = rf"{name}\)[^\n]* proof='some " if file == "wctrim" else rf"{name}: not proved: \./{name} --build proves it, in some "
             yield file, f"({before})(\\d+)( processor minutes)", f"{minutes:.0f}"
     wctrim = sum(costs.get(it, (0.0, 0.0))[0] for it in crates_below("wctrim", used))
-    yield "README.md", r"(--build` proves it, in some )(\d+)( processor minutes)", f"{wctrim:.0f}"
+    yield "README.md", r"(--build` proves\s+it, in some )(\d+)( processor minutes)", f"{wctrim:.0f}"
     two = re.search(r"takes (\d+) minutes on two processors", read("docs/MAP.md"))
     if two:
         yield "README.md", r"(in some \[)(\d+)(\s+minutes\]\(docs/MAP.md#what-the-gate-costs\))", f"{round(int(two[1]), -1)}"

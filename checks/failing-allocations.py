@@ -49,7 +49,7 @@ WHOLE = {
     "rewrite_import_section", "write_body", "write_module", "raw_section", "append_raw_section", "dedupe",
     "dedupe_owned", "read_deduped", "dedupe_imports", "liveness_counted", "trim", "trim_for",
     "realloc_via_memory_grow", "allocate_stack_via_realloc", "component_world", "plan", "validate_module",
-    "validate_adapter_module", "resolve_build", "encoder_build", "live_types", "document",
+    "validate_adapter_module", "resolve_build", "encoder_build", "document",
 }
 
 # How a line ends that says that memory ran out, also where it is JSON, with the module of an adapter or without.
