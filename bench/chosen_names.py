@@ -195,7 +195,8 @@ def several(word, packages):
     return lines + ["world w"] + ["  %s i%d: interface i%d" % (word, at, at) for at in range(len(packages))]
 
 
-case("resolve-packages", "wc_tests", lambda names: row("package_named %s:p" % names[-1], [json.dumps(encoder_of(each("package %s:p", names)).resolve)]))
+case("resolve-packages", "wc_tests", lambda names: row(
+    "package_named", [json.dumps(encoder_of(each("package %s:p", names)).resolve), 'asked "%s:p"' % names[-1]]))
 case("imported-ids", "wc_tests", lambda names: validate(several("import", each("%s:p", names)),
                                                         each("%s:p/face f func ->", names)), after=":p/face")
 case("imported-tracks", "wc_tests", lambda names: validate(several("import", each("%s:p@1.2.3", names)),
