@@ -184,7 +184,7 @@ def figures(costs):
             before = rf"{name}\)[^\n]* proof='some " if file == "wctrim" else rf"{name}: not proved: \./{name} --build proves it, in some "
             yield file, f"({before})(\\d+)( processor minutes)", f"{minutes:.0f}"
     wctrim = sum(costs.get(it, (0.0, 0.0))[0] for it in crates_below("wctrim", used))
-    yield "README.md", r"(--build` proves\s+it, in some )(\d+)( processor minutes)", f"{wctrim:.0f}"
+    yield "README.md", r"(--build`\s+proves it, in some )(\d+)( processor minutes)", f"{wctrim:.0f}"
     two = re.search(r"takes (\d+) minutes on two processors", read("docs/MAP.md"))
     if two:
         yield "README.md", r"(in some \[)(\d+)(\s+minutes\]\(docs/MAP.md#what-the-gate-costs\))", f"{round(int(two[1]), -1)}"
@@ -220,7 +220,7 @@ def fit():
     mean = sum(value for _, value in points) / len(points)
     rest = sum((value - sum(a * b for a, b in zip(factors, row))) ** 2 for row, value in points)
     share = 1 - rest / sum((value - mean) ** 2 for _, value in points)
-    print("CRATE, FUNCTION, BELOW = %.2f, %.4f, %.4f  # of %d crates; R2 %.2f" % (*factors, len(points), share))
+    print("CRATE, FUNCTION, BELOW = %.2f, %.4f, %.4f  # of %d crates; %.0f%% of the variance" % (*factors, len(points), 100 * share))
 
 
 def check():
