@@ -3,7 +3,7 @@
 
     edits/batches.py [--sources DIR] [--over DIR] [--work DIR] [--edit NAME].. [--most N] [--jobs N] [--again] [--plan]
                      [--record] CRATE..
-    edits/batches.py --gate [--table FILE] [CRATE..]
+    edits/batches.py --gate [CRATE..]
 
 An edit changes the body of one function, and a caller sees only that function's contract. So edits of different functions
 don't hide one another, and are tried together, in a copy of the crate. In the copy every function that none of them
@@ -30,13 +30,13 @@ found (without it /tmp/edits-in-batches): what was found over the same sources i
 Printed is a line for each edit, with the first message, and the processor seconds. The status is 0 where each edit is
 refused for more than a name. --plan prints the batches alone. With --record what refused each is put into edits/refused.txt,
 under a key of the edit, of the function that it turns, and of the definitions that this function's clauses lead to in its
-crate; of an edit of which one of these changes it is not known any more.
+crate, and with a sum of all definitions that they lead to; of an edit of which one of these changes it is not known any more.
+(Older lines have no sum: what changes in the crates below does not count for them.)
 `checks/edits.py --write` makes the table of it in docs/TRIED.md.
 
 With --gate each edit is tried by itself, over the whole crate, by `rt ci CRATE` on a copy in which they are in must-fail/:
 those of all crates, or of those that are named. That decides, and takes ten times as long. It may be stopped at any time:
-what was tried over the same files on this machine isn't tried again. A line is printed for each edit; --table writes what
-refused each.
+what was tried over the same files on this machine isn't tried again. A line is printed for each edit.
 """
 
 import argparse
@@ -165,19 +165,35 @@ class Edit:
         return hashlib.sha256("\0".join([self.text, *turned, *said]).encode()).hexdigest()[:12]
 
 
+def recorded():
+    """The lines of the record: a key, what refused the edit, its name, and of a newer line the sum of definitions."""
+    return [line.split() for line in RECORD.read_text().splitlines()] if RECORD.exists() else []
+
+
+def sums_of_edits():
+    """By their names, the sum of all definitions to which each edit leads, those of the crates below too."""
+    sys.path.append(str(TOP / "checks"))
+    from clauses import House
+    house = House()
+    return {f"{crate}/{edit.name}": house.sum_of_edit(crate, edit) for crate, edit, _ in house.edits if not edit.fault}
+
+
 def known():
-    """What refused each edit that is recorded, by its key."""
-    return dict(line.split()[:2] for line in RECORD.read_text().splitlines()) if RECORD.exists() else {}
+    """What refused each edit that is recorded, by its key; of a line with a sum only where the sum is still the same."""
+    lines = recorded()
+    sums = sums_of_edits() if any(len(it) > 3 for it in lines) else {}
+    return {key: kind for key, kind, name, *then in lines if not then or then == [sums.get(name)]}
 
 
 def record(found):
     """Records what refused edits, by their keys, beside what is known; edits that there are not any more go."""
-    found, lines = {**known(), **found}, []
+    sums, old, lines = sums_of_edits(), {it[0]: it for it in recorded()}, []
     for name in used_by_crates():
         sources = Sources(texts_of(name))
-        for it, path in edits_of(name):
-            key = Edit(it, path.read_text(encoding="utf-8"), sources).key
-            lines += [f"{key} {found[key]} {name}/{it}\n"] if key in found else []
+        for it, text, _ in edits_of(name):
+            key, full = Edit(it, text, sources).key, f"{name}/{it}"
+            line = [key, found[key], full, sums[full]] if key in found else old.get(key)
+            lines += [" ".join(line) + "\n"] if line else []
     RECORD.write_text("".join(lines), encoding="utf-8")
 
 
@@ -411,7 +427,7 @@ class Tries:
             self.tell(edit, *min(told, key=lambda it: KINDS.index(it[0])), how)
 
     def unread(self, lines, edits):
-        """Of a check that the front end stopped: the edits in whose functions its errors are."""
+        """The edits in whose functions the errors are of a check that the front end stopped."""
         bad = []
         for line in lines:
             at = re.match(r"(?:\./)?(src/\S+?):(\d+):\d+: error: (.*)", line)
@@ -494,17 +510,9 @@ def batches(edits, most, texts):
     return [it["edits"] for it in made]
 
 
-def gate_line(line):
-    """A line of the table for what `rt ci` says of an edit: the crate, the edit, and what refused it or why nothing did."""
-    said = re.match(r"rt: must-fail (\w+)/(\S+)\.edit: (?:refused, as it must be(?:: )?(.*)|(NOT .*|BAD .*))$", line)
-    if not said:
-        return None
-    return f"| `{said[1]}` | `{said[2]}` | {f'**{said[4]}**' if said[4] else said[3] or 'refused'} |".replace("\\|", "|")
-
-
-def by_gate(given, chosen):
+def by_gate(chosen):
     """Tries the edits as the gate tries those of must-fail, one crate after another; whether each was refused."""
-    lines, is_well = ["| Crate | Edit | Refused at |", "|---|---|---|"], True
+    is_well = True
     with tempfile.TemporaryDirectory(prefix="edits.") as copy:
         os.makedirs(f"{copy}/.git")
         for name in ("crates.txt", "HANDLES"):
@@ -515,19 +523,16 @@ def by_gate(given, chosen):
         for crate in chosen:
             folder = f"{copy}/crates/{crate}/must-fail"
             os.mkdir(folder)
-            for _, path in edits_of(crate):
-                if "must-fail" not in path.parts:
-                    shutil.copy(path, folder)
+            for name, text, is_gate in edits_of(crate):
+                if not is_gate:
+                    pathlib.Path(folder, f"{name}.edit").write_text(text, encoding="utf-8")
             # over the statements of the crates below, which are proved first where no earlier run did
             how = {"stdin": subprocess.DEVNULL, "stdout": subprocess.PIPE, "stderr": subprocess.STDOUT}
             ran = subprocess.run(["rt", "ci", crate], cwd=copy, text=True, errors="replace", check=False, **how)
             tried = [line for line in ran.stdout.splitlines() if line.startswith("rt: must-fail ")]
             print("\n".join(tried) or f"{ran.stdout}\nno edit of {crate} was tried", flush=True)
             is_well &= ran.returncode == 0 and bool(tried) and not any(re.search(": (NOT|BAD) ", line) for line in tried)
-            lines += [line for line in map(gate_line, tried) if line]
             shutil.rmtree(folder)
-            if given.table:
-                pathlib.Path(given.table).write_text("\n".join(lines) + "\n", encoding="utf-8")
     return is_well
 
 
@@ -552,18 +557,17 @@ def main():
     parser.add_argument("--again", action="store_true")
     parser.add_argument("--plan", action="store_true")
     parser.add_argument("--record", action="store_true")
-    parser.add_argument("--table")
     parser.add_argument("--gate", action="store_true")
     parser.add_argument("crates", nargs="*")
     given = parser.parse_args()
     if given.gate:
-        sys.exit(0 if by_gate(given, chosen_crates(given)) else 1)
+        sys.exit(0 if by_gate(chosen_crates(given)) else 1)
     if not given.crates:
         parser.error("no crate is named")
     is_well = True
     for name in given.crates:
         crate = Crate(os.path.abspath(given.sources), given.over and os.path.abspath(given.over), name)
-        edits = [Edit(it, path.read_text(encoding="utf-8"), crate.parts) for it, path in edits_of(name)]
+        edits = [Edit(it, text, crate.parts) for it, text, _ in edits_of(name)]
         edits = [it for it in edits if not given.edit or it.name in given.edit]
         start, tries = spent(), Tries(crate, given)
         tries.run(edits)
