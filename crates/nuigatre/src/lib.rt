@@ -1,17 +1,19 @@
-//! The calls of `wc_calls` and of `wc_component_calls` as a static library for programs in other languages: functions of numbers
-//! and slices, each of which is one call. A slice is passed as a pointer and then a length, a slice of slices as a pointer to such pairs and
-//! then how many they are; for `alloc` nothing is passed. The answer is a struct by value.
+//! The calls of `wc_calls` and of `wc_component_calls` as a static library for programs in other languages.
 //!
-//! No function requires anything of its arguments, but what their types say: a pointer with a length is to so many bytes,
-//! those of `out` are the caller's alone for the call, and nothing is null, also where the length is 0. Calls may run on
-//! several threads at once. A null pointer of an empty slice is tested (`checks/c/fuzz_calls.c`), and is no part of what is
-//! proved.
+//! Each function takes numbers and slices, and is one call. A slice is passed as a pointer and a length, a slice of
+//! slices as a pointer to such pairs and their number; for `alloc` nothing is passed. The answer is a struct by
+//! value.
 //!
-//! `seed0` and `seed1` are the seed of the maps that a call makes (`wc_maps::Seed`). No answer depends on them; random ones
-//! keep who chooses names from choosing such that make a call slow. All calls of a process may have the same.
+//! A function requires of its arguments only what their types say. A pointer with a length points to this many bytes,
+//! only the call uses the bytes of `out` while it runs, and no pointer is null, even if the length is 0. Calls may
+//! run on several threads at once. A null pointer of an empty slice is tested (`checks/c/fuzz_calls.c`), but the
+//! proof does not cover it.
 //!
-//! Memory comes from three functions that the program has to define: `rattle_alloc`, `rattle_realloc` and
-//! `rattle_dealloc`. After each call all of it was given back.
+//! `seed0` and `seed1` are the seed of the maps that a call makes (`wc_maps::Seed`). No answer depends on them. If
+//! they are random, nobody can choose names that make a call slow. All calls of a process may have the same seed.
+//!
+//! Memory comes from three functions that the program must define: `rattle_alloc`, `rattle_realloc` and
+//! `rattle_dealloc`. A call frees all its memory before it returns.
 #![tactic(auto)]
 
 ghost use Rattle.std.specs.Prelude.{◌≡◌, ◌≢◌, ◌≤◌, ◌⊎◌, ℕ, List, []};
@@ -67,8 +69,8 @@ pub extern "C" fn nuigatre_dedupe(alloc: Global, wasm: &[u8], out: &mut [u8]) ->
     dedupe(alloc, wasm, out)
 }
 
-/// Trims an adapter to what its exports of these names reach: `wc_calls::trim`. The main module exports a realloc as
-/// `realloc`, where `has_realloc`; else `realloc` is not looked at.
+/// Trims an adapter to the items that its exports with these names reach: `wc_calls::trim`. If `has_realloc`, the
+/// main module exports a realloc as `realloc`; otherwise `realloc` is ignored.
 #[unsafe(no_mangle)]
 pub extern "C" fn nuigatre_trim(
     alloc: Global,
@@ -106,7 +108,7 @@ pub extern "C" fn nuigatre_trim(
     trim(alloc, seed, wasm, required, realloc, page_size_log2, out)
 }
 
-/// Says why an adapter imports what it does, where its exports of these names are required: `wc_calls::why`.
+/// Says why an adapter has its imports, if its exports with these names are required: `wc_calls::why`.
 #[unsafe(no_mangle)]
 pub extern "C" fn nuigatre_why(
     alloc: Global,
@@ -212,8 +214,9 @@ pub extern "C" fn nuigatre_planned_world(
     planned_world(alloc, seed, message, modules, out)
 }
 
-/// Validates one module of a component, which the message describes in JSON: `wc_calls::validate`. It is the adapter or the
-/// library of the name `adapter`, where `has_adapter`; else the main module, and `adapter` is not looked at.
+/// Validates one module of a component, which the message describes in JSON: `wc_calls::validate`. If `has_adapter`,
+/// it is the adapter or the library with the name `adapter`; otherwise it is the main module, and `adapter` is
+/// ignored.
 #[unsafe(no_mangle)]
 pub extern "C" fn nuigatre_validate(
     alloc: Global,
@@ -241,9 +244,9 @@ pub extern "C" fn nuigatre_validate(
     validate(alloc, seed, message, modules, adapter, out)
 }
 
-/// Validates one module of a component, which the message describes in JSON, and answers what is recorded of it:
-/// `wc_calls::validated_module`. It is the adapter or the library of the name `adapter`, where `has_adapter`; else the main
-/// module, and `adapter` and `required` are not looked at.
+/// Validates one module of a component, which the message describes in JSON, and gives what is recorded of it:
+/// `wc_calls::validated_module`. If `has_adapter`, it is the adapter or the library with the name `adapter`;
+/// otherwise it is the main module, and `adapter` and `required` are ignored.
 #[unsafe(no_mangle)]
 pub extern "C" fn nuigatre_validated_module(
     alloc: Global,
@@ -275,7 +278,7 @@ pub extern "C" fn nuigatre_validated_module(
     validated_module(alloc, seed, message, modules, adapter, required, out)
 }
 
-/// Lists what a module imports and exports, with types, and how its functions are named: `wc_calls::scan`.
+/// Lists the imports and exports of a module with their types, and the names of its functions: `wc_calls::scan`.
 #[unsafe(no_mangle)]
 pub extern "C" fn nuigatre_scan(alloc: Global, wasm: &[u8], out: &mut [u8]) -> Answer
     ensures done { result.status ≡ done
@@ -293,8 +296,9 @@ pub extern "C" fn nuigatre_scan(alloc: Global, wasm: &[u8], out: &mut [u8]) -> A
     scan(alloc, wasm, out)
 }
 
-/// Answers the paths to the imports of a module, main modules too, from its exports of these names, or from all, where there
-/// are none; `imports` has what asks for imports: `wc_calls::paths`.
+/// Gives the paths to the imports of any module, main modules too, from its exports with these names (from all, if
+/// `exports` is empty) and from its start function. `imports` has the keys of the requested imports:
+/// `wc_calls::paths`.
 #[unsafe(no_mangle)]
 pub extern "C" fn nuigatre_paths(
     alloc: Global,
@@ -326,8 +330,8 @@ pub extern "C" fn nuigatre_paths(
     paths(alloc, seed, wasm, exports, imports, out)
 }
 
-/// Answers why a component, which the message describes in JSON, imports what a key asks about: the paths that lead to it:
-/// `wc_component_calls::component_paths`.
+/// Says why a component, which the message describes in JSON, has the imports that a key requests, by the paths to
+/// them: `wc_component_calls::component_paths`.
 #[unsafe(no_mangle)]
 pub extern "C" fn nuigatre_component_paths(
     alloc: Global,
@@ -356,8 +360,8 @@ pub extern "C" fn nuigatre_component_paths(
     component_paths(alloc, seed, message, modules, key, out)
 }
 
-/// Answers what a component, which the message describes in JSON, imports of each interface, and what has to go for it to go:
-/// `wc_component_calls::component_imports`.
+/// Lists the imports of a component, which the message describes in JSON, from each interface, and the items that
+/// must be removed to drop them: `wc_component_calls::component_imports`.
 #[unsafe(no_mangle)]
 pub extern "C" fn nuigatre_component_imports(
     alloc: Global,
@@ -383,8 +387,8 @@ pub extern "C" fn nuigatre_component_imports(
     component_imports(alloc, seed, message, modules, out)
 }
 
-/// Writes the text of a fault of `nuigatre_dedupe` (`call` is 0), `nuigatre_trim` (1), `nuigatre_why` (2), `nuigatre_scan`
-/// (3) or `nuigatre_paths` (4), by the number that the call answers: `wc_calls::fault_text`.
+/// Writes the text of a fault of `nuigatre_dedupe` (`call` is 0), `nuigatre_trim` (1), `nuigatre_why` (2),
+/// `nuigatre_scan` (3) or `nuigatre_paths` (4), found by the number that the call answers: `wc_calls::fault_text`.
 #[unsafe(no_mangle)]
 pub extern "C" fn nuigatre_fault_text(
     alloc: Global,
@@ -410,7 +414,8 @@ pub extern "C" fn nuigatre_fault_text(
 /// The form of the calls, messages and answers.
 const ABI: u32 = 9;
 
-/// The number of the form of these calls, their messages and answers. It goes up with each change that a caller can see.
+/// The version of the form of these calls, their messages and answers. It increases with each change that a caller
+/// can see.
 #[unsafe(no_mangle)]
 pub extern "C" fn nuigatre_abi() -> u32
     ensures { result ≡ 9 }
@@ -418,7 +423,7 @@ pub extern "C" fn nuigatre_abi() -> u32
     ABI
 }
 
-/// The name, where there is one.
+/// The name, if present.
 fn optional_name(has_name: bool, name: &[u8]) -> Option<&[u8]>
     ensures { option_map (λ n. n.now) result ≡ optional_name has_name name.now }
 {

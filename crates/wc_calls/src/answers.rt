@@ -1,28 +1,28 @@
-//! Answers in a buffer of the caller's.
+//! Answers in a buffer that the caller passes.
 
 ghost use Rattle.std.specs.Prelude.{◌≡◌, ◌≢◌, ◌++◌, ◌<◌, ◌⊎◌, length};
 ghost use Rattle.wc_calls.specs.Answers.{HasNoBytes, HasNoFault, IsFaultPut, IsFront, done, too_small};
 
-/// The answer is in the front of the buffer, and the rest of the buffer is as it was.
+/// The buffer begins with the result, and the rest of the buffer is unchanged.
 pub const DONE: u32 = 0;
 
-/// There is no answer, for the reason whose number the answer has. The buffer is as it was, or begins with what is said of
-/// the reason (`trim`, `world`).
+/// No result: the answer has the number of the fault. The buffer is unchanged, or begins with details of the fault
+/// (`trim`, `world`).
 pub const FAULT: u32 = 1;
 
-/// The buffer is too small for the answer, and is as it was.
+/// The buffer is too small for the result, and is unchanged.
 pub const TOO_SMALL: u32 = 2;
 
-/// The answer would be the input itself. The buffer is as it was.
+/// The result would be the input itself. The buffer is unchanged.
 pub const SAME: u32 = 3;
 
-/// The arguments are none that the call has an answer for. The buffer is as it was.
+/// The call has no result for these arguments. The buffer is unchanged.
 pub const BAD_ARGUMENT: u32 = 4;
 
-/// An allocation failed. The buffer is as it was.
+/// An allocation failed. The buffer is unchanged.
 pub const MEMORY: u32 = 5;
 
-/// No fault of the call has the number (`fault_text`). The buffer is as it was.
+/// No fault of the call has the number (`fault_text`). The buffer is unchanged.
 pub const NO_SUCH_FAULT: u32 = 6;
 
 /// The answer of a call.
@@ -31,15 +31,15 @@ pub const NO_SUCH_FAULT: u32 = 6;
 pub struct Answer {
     /// Which kind of answer it is: 0 to 6, as the constants say.
     pub status: u32,
-    /// With `FAULT` the number of the fault; else 0.
+    /// With `FAULT` the number of the fault; otherwise 0.
     pub fault: u32,
-    /// With `DONE` and `TOO_SMALL` how many bytes the answer has; with `FAULT` how many say what the fault is about, and of a
-    /// call on a message its text too; else 0.
+    /// With `DONE` and `TOO_SMALL` the length of the result in bytes. With `FAULT` the length of the fault's details
+    /// in bytes; for a call on a message, the fault's text is counted too. Otherwise 0.
     pub length: usize,
     /// How many of these bytes are modules; they are the first ones.
     pub module_length: usize,
-    /// With `FAULT` of `trim`, where an export is missing, the position of its name among those that were passed; with
-    /// `FAULT` of a call on a message how many bytes the fault's text has, after which is its place; else 0.
+    /// With `FAULT` of `trim`, if an export is missing, the index of its name among the passed names. With `FAULT` of
+    /// a call on a message, the length of the fault's text in bytes; the details follow the text. Otherwise 0.
     pub position: usize,
 }
 
@@ -58,8 +58,8 @@ pub fn answer_without_bytes(status: u32) -> Answer
     }
 }
 
-/// Writes a module, and then the rest of the answer, to the front of the buffer. Where it is too small nothing is
-/// written.
+/// Writes a module, and then the rest of the result, to the front of the buffer. If the buffer is too small, nothing
+/// is written.
 pub fn put(wasm: &[u8], others: &[u8], out: &mut [u8]) -> Answer
     ensures length { result.length ≡ length (wasm.now ++ others.now) }
     ensures module_length { result.module_length ≡ length wasm.now }
@@ -93,8 +93,7 @@ pub fn put(wasm: &[u8], others: &[u8], out: &mut [u8]) -> Answer
     }
 }
 
-/// Answers a fault by its number and a position, and writes what it is about to the front of the buffer, if it has room
-/// for that.
+/// Answers a fault by its number and a position, and writes its details to the front of the buffer, if they fit.
 pub fn put_refusal(fault: u32, position: usize, place: &[u8], out: &mut [u8]) -> Answer
     ensures { IsFaultPut fault position place.now result out.old out.new }
 {

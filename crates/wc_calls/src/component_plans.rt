@@ -79,19 +79,20 @@ fn plan_for(alloc: Global, input: &WorldInput, out: &mut [u8]) -> Answer
     }
 }
 
-/// Makes the plan of a component: what each function that its core modules import needs, as `plan_encoder` of `wc_plan`
-/// does with the options of the message. The message and the modules are those of `world`; so is `seed`.
+/// Makes the plan of a component: the needs of each function that its core modules import. It is the plan that
+/// `plan_encoder` of `wc_plan` makes with the options of the message. `message`, `modules` and `seed` are as for
+/// `world`.
 ///
-/// - `DONE`: the front of `out` has the plan as JSON, as `wc_record::plan_to_json` writes it; `length` is how many bytes
-///   that has.
-/// - `TOO_SMALL`: the same would have `length` bytes, and `out` has fewer.
-/// - `FAULT`: why there is no plan, by its number (`MessageFault::number`), and its text, and what it is about, as of
-///   `world`. It neither is nor carries a `Memory`. A fault of the plan itself is about a function, which a module imports
-///   (`wc_record::plan_place_to_json`).
+/// - `DONE`: `out` begins with the plan as JSON, written as `wc_record::plan_to_json` writes it; `length` is its
+///   length in bytes.
+/// - `TOO_SMALL`: the plan would have `length` bytes, and `out` has fewer.
+/// - `FAULT`: no plan exists. The answer has the fault's number (`MessageFault::number`), and its text and details as
+///   for `world`. The fault neither is nor carries a `Memory`. The details of a fault of the plan itself are about
+///   the imported function that it concerns (`wc_record::plan_place_to_json`).
 /// - `MEMORY`: an allocation failed.
 ///
-/// It is never `SAME` or `BAD_ARGUMENT`. `out` is as it was but for what is said here, and then after the first `length`
-/// bytes. Numbers of the answer that nothing is said of are 0.
+/// The status is never `SAME` or `BAD_ARGUMENT`. `out` changes only with `DONE` and `FAULT`, and only in its first
+/// `length` bytes. Numbers of the answer that are not mentioned here are 0.
 pub fn plan(alloc: Global, seed: Seed, message: &[u8], modules: &[u8], out: &mut [u8]) -> Answer
     ensures done { result.status ≡ done
         → IsPut (IsPlanAnswer message.now modules.now) result.length out.old out.new }

@@ -105,43 +105,44 @@ fn world_for(alloc: Global, input: &WorldInput, out: &mut [u8]) -> Answer
 ///
 /// - `resolve`: worlds, interfaces, types and packages, as `wc_json` reads them;
 /// - `world`: the index of a world, or a name as `select_world` of `wc_selection` takes it;
-/// - `reject_legacy_names` and `realloc_via_memory_grow`, true or false, and `task_hook`, the name of the task hook; each
-///   of them may be missing, which is false, and a name by which no export is taken for the hook
-///   (`no_task_hook` of `wc_selection`);
+/// - `reject_legacy_names` and `realloc_via_memory_grow`, true or false, by default false; and `task_hook`, the name
+///   of the task hook. Without `task_hook` no export is a task hook (`no_task_hook` of `wc_selection`);
 /// - `length`: how many bytes the main module has;
-/// - `exports`: the keys of the world's exports that it has to export, a list of texts. Each is `interface-3`, as it is in
-///   `resolve`, and then that of the interface 3 alone, where it is exported under its own id; or the text of exports, of
-///   an interface also without its version where one alone has it so (`indexed_keys` of `wc_selection`). It may be
-///   missing, which is all keys that no adapter has to export;
-/// - `adapters`: a list of objects with `name`, `length` and `exports`, and `library_info`, missing or null for one that is
-///   no library, else as `wc_record` writes it;
-/// - `options`: which canonical options lowered functions have, a list of objects with `name`, the name of functions in
-///   WIT, as `[method]output-stream.write`, and `memory`, `realloc`, `string_encoding` and `async`, true or false. A
-///   function has those of the first object of its name, in whichever interface it is and however it is imported, and
-///   `PlainOptions` of `wc_world` decides for functions that have none. The list may be missing, which is an empty one,
-///   and so may each option of an object, which is false.
+/// - `exports`: the keys of the world's exports that the main module must export, a list of texts. A key is
+///   `interface-3`, with the interface's index in `resolve`, for an interface that is exported under its own id. Or
+///   it is the text of an export; an interface's text may omit the version if only one export then has this text
+///   (`indexed_keys` of `wc_selection`). By default these are all keys that no adapter must export;
+/// - `adapters`: a list of objects with `name`, `length` and `exports`, and `library_info`. `library_info` is missing
+///   or null for an adapter that is no library; otherwise it is as `wc_record` writes it;
+/// - `options`: the canonical options of lowered functions, a list of objects. Each has `name`, a function's name in
+///   WIT such as `[method]output-stream.write`, and `memory`, `realloc`, `string_encoding` and `async`, each true or
+///   false, by default false. A function has the options of the first object with its name, whatever its interface
+///   and however it is imported. For functions without such an object, `PlainOptions` of `wc_world` decides. By
+///   default the list is empty.
 ///
-/// A member that may be missing may also be null. Members that are not listed here are passed over.
+/// A member that may be missing may also be null. Members that are not listed here are skipped.
 ///
-/// `modules` has the bytes of the main module and of the adapters, one after another. Repeated imports of the main module
-/// are renamed first, as by `dedupe`. `seed`: the seed of the maps that are made.
+/// `modules` has the bytes of the main module and of the adapters, one after another. Repeated imports of the main
+/// module are renamed first, as `dedupe` does. The maps that are made hash under `seed`.
 ///
-/// - `DONE`: the front of `out` has `module_length` bytes of modules, one after another: the main module with its renamed
-///   imports, and the adapters and libraries of the component's world in their order. After them it has that world as
-///   JSON, as `wc_record::world_to_json` writes it, with the length of each adapter. `length` is how many bytes both have.
-/// - `TOO_SMALL`: the same would have `length` bytes, and `out` has fewer.
-/// - `FAULT`: why there is no component's world, by its number (`MessageFault::number`). It neither is nor carries a
-///   `Memory`. Its text, as it is printed, has `position` bytes. Of a message that is not what it has to be, it has the path
-///   to what is wrong, as `Json: adapters[0].length: not an index`. After the text is a JSON object that says what the fault
-///   is about, but for `NotText`, `Lengths`, `PackageRange` and `Encoder`. Both have `length` bytes, and are in the front of
-///   `out`, if `out` has so many. Its member `kind` says which it is, and these calls of `wc_record` list the others:
-///   `json_place_to_json`, `worlds_to_json`, `part_to_json`, `key_to_json`, `adapter_to_json`, `read_place_to_json` of the
-///   main module, `world_place_to_json`, and where a fault of trimming has no place `trim_fault_to_json`. A byte of the
-///   main module is one of `modules`, though its imports are renamed.
-/// - `MEMORY`: an allocation failed, at whichever step.
+/// - `DONE`: `out` begins with `module_length` bytes of modules, one after another: the main module with its renamed
+///   imports, then the adapters and libraries of the component's world, in its order. Then comes this world as JSON,
+///   written as `wc_record::world_to_json` writes it, with the length of each adapter. `length` is the length of
+///   modules and JSON in bytes.
+/// - `TOO_SMALL`: modules and JSON would have `length` bytes, and `out` has fewer.
+/// - `FAULT`: the component has no world. The answer has the fault's number (`MessageFault::number`). The fault
+///   neither is nor carries a `Memory`. The fault's text, as it is printed, has `position` bytes. If the message is
+///   malformed, the text has the path to the malformed part, for example `Json: adapters[0].length: not an index`.
+///   After the text comes a JSON object with the details of the fault; `NotText`, `Lengths`, `PackageRange` and
+///   `Encoder` have none. Text and object have `length` bytes; `out` begins with them, if they fit. The object's
+///   member `kind` says which object it is. These functions of `wc_record` list its other members:
+///   `json_place_to_json`, `worlds_to_json`, `part_to_json`, `key_to_json`, `adapter_to_json`, `read_place_to_json`
+///   for the main module, `world_place_to_json`, and `trim_fault_to_json` for a fault of trimming without a position.
+///   Offsets in the main module count in `modules`, before its imports are renamed.
+/// - `MEMORY`: an allocation failed, at any step.
 ///
-/// It is never `SAME` or `BAD_ARGUMENT`. `out` is as it was but for what is said here, and then after the first `length`
-/// bytes. Numbers of the answer that nothing is said of are 0.
+/// The status is never `SAME` or `BAD_ARGUMENT`. `out` changes only with `DONE` and `FAULT`, and only in its first
+/// `length` bytes. Numbers of the answer that are not mentioned here are 0.
 pub fn world(alloc: Global, seed: Seed, message: &[u8], modules: &[u8], out: &mut [u8]) -> Answer
     ensures done { result.status ≡ done → IsPut (IsWorldAnswer message.now modules.now
         result.module_length) result.length out.old out.new }

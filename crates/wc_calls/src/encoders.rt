@@ -130,7 +130,7 @@ fn world_of(alloc: Global, document: &Document, name: &WorldName) -> Result<Worl
     }
 }
 
-/// So many of the first bytes, and the others; `None` where there are fewer.
+/// The first bytes, as many as requested, and the others; `None` if there are fewer.
 fn split(bytes: &[u8], count: u32) -> Option<(&[u8], &[u8])>
     ensures cut { IfSome result (λ p. bytes.now ≡ p.0.now ++ p.1.now) }
     ensures size { IfSome result (λ p. length p.0.now ≡ count) }
@@ -164,8 +164,8 @@ fn adapter_with(
     })
 }
 
-/// The adapters of messages, with these bytes one after another, and with those of the indexed keys of exports, under the
-/// texts by which the messages give them, that they have to export. `seed`: the seed of the map that is made.
+/// The adapters of a message, each with its part of these bytes, one part after another, and with the indexed keys
+/// that it must export, found by the texts in the message. The map that is made hashes under `seed`.
 fn adapters_of(
     alloc: Global,
     seed: Seed,
@@ -198,8 +198,8 @@ fn adapters_of(
     Ok(adapters)
 }
 
-/// The adapters of messages (`adapters_of`), with those of these keys that they have to export. The keys are indexed once
-/// for all adapters.
+/// The adapters of a message (`adapters_of`), each with the keys among these that it must export. The keys are
+/// indexed once for all adapters.
 fn adapters_by_keys(
     alloc: Global,
     seed: Seed,
@@ -217,15 +217,15 @@ fn adapters_by_keys(
     adapters_of(alloc, seed, &index, messages, bytes)
 }
 
-/// The keys that the main module has to export, and the adapters with theirs.
+/// The keys that the main module must export, and the adapters with the keys that they must export.
 #[derive(Drop)]
 struct Exporters {
     main: Set<WorldKey>,
     adapters: Map<String, Adapter>,
 }
 
-/// The keys of a world's exports that the modules of a message have to export, with the adapters. `bytes`: those of the adapters. `seed`: the seed of the
-/// maps that are made.
+/// The keys of a world's exports that the main module must export, and the adapters with their keys. `bytes`: the
+/// bytes of the adapters. The maps that are made hash under `seed`.
 fn exporters_of(
     alloc: Global,
     seed: Seed,
@@ -249,7 +249,7 @@ fn exporters_of(
     })
 }
 
-/// The name of the task hook; where there is none, a name by which no export is taken for it (`no_task_hook`).
+/// The name of the task hook. Without one, it is a name that makes no export the task hook (`no_task_hook`).
 fn hook_name(alloc: Global, hook: Option<String>) -> Result<String, AllocError>
     ensures { IfOk result (λ name. string_bytes name
         ≡ unwrap_or (option_map string_bytes hook) no_task_hook) }
@@ -299,7 +299,8 @@ struct GivenModules {
     hook: Option<String>,
 }
 
-/// The parts of an encoder that are made of modules: those that export keys, the main module, and the name of its task hook.
+/// The parts of an encoder that come from modules: the exporters of keys, the main module, and the name of its task
+/// hook.
 #[derive(Drop)]
 struct ModuleParts {
     exporters: Exporters,
@@ -435,8 +436,8 @@ pub(crate) struct WorldInput {
     pub options: OptionTable,
 }
 
-/// The encoder of the text of a message, with the bytes of its modules, and the options of lowered functions. `seed`: the
-/// seed of the maps that are made.
+/// The encoder that the text of a message describes, with the bytes of its modules, and the options of lowered
+/// functions. The maps that are made hash under `seed`.
 fn input_of(
     alloc: Global,
     seed: Seed,

@@ -214,18 +214,18 @@ fn read_text(alloc: Global, number: u32, out: &mut [u8]) -> Answer
     }
 }
 
-/// Writes the text of a fault of a call on bytes, by the number that the call answers. `call` is `DEDUPE_CALL`, `TRIM_CALL`,
-/// `WHY_CALL`, `SCAN_CALL` or `PATHS_CALL`. The text is that which `Display` of the fault prints, with that of a fault which it
-/// carries: `Read: NotWasm`. A name that the fault carries is left out: the call answers where it is among those that were
-/// passed.
+/// Writes the text of a fault of a call on bytes, found by the number that the call answers. `call` is `DEDUPE_CALL`,
+/// `TRIM_CALL`, `WHY_CALL`, `SCAN_CALL` or `PATHS_CALL`. The text is as `Display` of the fault prints it, with the
+/// text of a fault that it carries: `Read: NotWasm`. It leaves out a name that the fault carries: the call answers
+/// the index of this name among the passed names.
 ///
-/// - `DONE`: the front of `out` has the text, `length` bytes of UTF-8.
+/// - `DONE`: `out` begins with the text, `length` bytes of UTF-8.
 /// - `TOO_SMALL`: the text has `length` bytes, and `out` has fewer.
-/// - `NO_SUCH_FAULT`: the call answers no fault by this number, or there is no such call.
+/// - `NO_SUCH_FAULT`: the call has no fault with this number, or no call has the number `call`.
 /// - `MEMORY`: an allocation failed.
 ///
-/// It is nothing else. `out` is as it was but for `DONE`, and then after the first `length` bytes. Numbers of the answer
-/// that nothing is said of are 0.
+/// No other status comes. `out` changes only with `DONE`, and only in its first `length` bytes. Numbers of the answer
+/// that are not mentioned here are 0.
 pub fn fault_text(alloc: Global, call: u32, number: u32, out: &mut [u8]) -> Answer
     ensures done { result.status ≡ done
         → IsPut (IsFaultText call number) result.length out.old out.new }

@@ -1,4 +1,4 @@
-//! The call that says why an adapter imports what it does.
+//! The call that says why an adapter has its imports.
 
 ghost use Rattle.std.specs.Prelude.{◌≡◌, ◌≢◌, ◌<◌, ◌≤◌, ◌⊎◌, IfErr, IfOk, false, length};
 ghost use Rattle.std.specs.List.{All};
@@ -20,19 +20,19 @@ use wc_maps::{Seed, Set};
 use wc_record::import_chains_to_json;
 use wc_texts::Refused;
 
-/// Says why an adapter imports what it does, where its exports of the names `required` are: the shortest chain to each
-/// import that they reach, as `wc_gc::why_imports` does. A repeated name counts once, and no name is one. `seed`: the
-/// seed of the maps that are made.
+/// Says why an adapter has its imports, if it must export the names `required`: the shortest chain to each import
+/// that these exports reach, as `wc_gc::why_imports` finds it. A repeated name counts once; `required` may be empty.
+/// The maps that are made hash under `seed`.
 ///
-/// - `DONE`: the front of `out` has the chains as JSON, as `wc_record::import_chains_to_json` writes them; `length` is how
-///   many bytes that has. It is a tree, and linear in the adapter.
-/// - `TOO_SMALL`: the same would have `length` bytes, and `out` has fewer.
-/// - `BAD_ARGUMENT`: exactly where a name is no text (UTF-8).
-/// - `FAULT`: the fault of `why_imports`, as that of `trim`.
+/// - `DONE`: `out` begins with the chains as JSON, written as `wc_record::import_chains_to_json` writes them;
+///   `length` is its length in bytes. The JSON is a tree, and its length is linear in the size of the adapter.
+/// - `TOO_SMALL`: the JSON would have `length` bytes, and `out` has fewer.
+/// - `BAD_ARGUMENT`: exactly if a name is not UTF-8.
+/// - `FAULT`: the fault of `why_imports`, answered as `trim` answers its fault.
 /// - `MEMORY`: an allocation failed.
 ///
-/// It is never `SAME`. `out` is as it was but for `DONE` and `FAULT`, and then after the first `length` bytes. Numbers of
-/// the answer that nothing is said of are 0.
+/// The status is never `SAME`. `out` changes only with `DONE` and `FAULT`, and only in its first `length` bytes.
+/// Numbers of the answer that are not mentioned here are 0.
 pub fn why(alloc: Global, seed: Seed, wasm: &[u8], required: &[&[u8]], out: &mut [u8]) -> Answer
     ensures done { result.status ≡ done
         → IsPut (IsWhyText (trim_input_for_names wasm.now (texts required.now)))
@@ -55,7 +55,7 @@ pub fn why(alloc: Global, seed: Seed, wasm: &[u8], required: &[&[u8]], out: &mut
     why_for_names(alloc, seed, wasm, required, out)
 }
 
-/// Says why an adapter imports what it does, by names that are texts.
+/// Says why an adapter has its imports, for names that are UTF-8.
 fn why_for_names<'a>(
     alloc: Global,
     seed: Seed,
@@ -101,7 +101,7 @@ fn why_text(
     Ok(text)
 }
 
-/// Writes the text that a call answers of a module; of a fault what it is about.
+/// Writes the text that a call answers for a module; for a fault, its details.
 pub(crate) fn put_text_or_fault(
     alloc: Global,
     required: &[&[u8]],

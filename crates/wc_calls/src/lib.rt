@@ -1,12 +1,12 @@
-//! The calls on modules as calls on slices, for a caller that shares no other types: `dedupe` renames the repeated
-//! imports of a module, `trim` cuts an adapter to what its exports reach, `why` says why it imports what it does, and `world`
-//! makes the world of a component, which is described in JSON; `plan` makes its plan, `planned_world` both, `validate`
-//! validates one of its modules, and `validated_module` says what is recorded of it. `scan` lists what a module imports and
-//! exports, and `paths` answers the paths that lead to its imports. `fault_text` gives the text of a fault of `dedupe`,
-//! `trim`, `why`, `scan` or `paths` by its number. Each writes its answer to the front of a buffer of the caller's, and
-//! returns an `Answer`, which is numbers alone.
-//! No call requires anything of its arguments. The maps of all but `dedupe` and `scan` hash under a seed that is passed:
-//! whoever chooses names shouldn't know it.
+//! Calls that take slices and return numbers, for callers that share no other types with Rattle. On one module:
+//! `dedupe` renames its repeated imports, `trim` cuts an adapter to the items that its exports reach, and `why` says
+//! why an adapter has its imports; `scan` lists imports and exports, and `paths` gives the paths to imports. On a
+//! component that JSON describes: `world` makes its world, `plan` its plan, `planned_world` both; `validate`
+//! validates one of its modules, and `validated_module` gives what is recorded of one. `fault_text` gives the text of
+//! a fault of `dedupe`, `trim`, `why`, `scan` or `paths` by its number. Each call writes its result to the front of
+//! the caller's buffer, and returns an `Answer`, which has only numbers. No call requires anything of its arguments.
+//! All but `dedupe` and `scan` hash under a seed that the caller passes; whoever chooses the names in the inputs
+//! shouldn't know the seed.
 //!
 //! ```rust
 //! use std::alloc::Global;

@@ -14,12 +14,12 @@ use wc_resolve::ResolveFault;
 use wc_texts::{CARRIED, FaultText, OUT_OF_MEMORY, Pieces, PutFailed, put_carried, put_quoted};
 use wc_world::WorldFault;
 
-/// Why a message has no component's world, or no plan of it. Of several causes the first in this order is named, with
-/// those of `UnknownWorld`, `SeveralWorlds` and `PackageRange` at the place of the first, and those of keys after
-/// `Resolve`; `Lengths` of adapters is at the place of `AdapterTwice`, and `Memory` may come in place of any. Of keys
-/// those of the main module are before those of adapters, and one that no export has is before one that is given twice.
-/// A `World` may carry a `Memory`, that of the step at which an allocation failed; no other does, and no answer of a call:
-/// that is `MEMORY`.
+/// Why a message has no world of a component, or no plan. If several causes apply, the first in this order is named,
+/// with these exceptions. The causes of `SeveralWorlds` and `PackageRange` rank with those of `UnknownWorld`. Causes
+/// of keys come after `Resolve`; keys of the main module come before keys of adapters, and a key that no export has
+/// comes before a repeated key. `Lengths` of adapters ranks with `AdapterTwice`. `Memory` may come instead of any. A
+/// `World` may carry a `Memory`, if an allocation failed at that step; no other fault does. No call answers such a
+/// fault: its status is `MEMORY`.
 #[derive(Debug, Drop, Error)]
 pub enum MessageFault {
     /// An allocation failed.
@@ -28,7 +28,7 @@ pub enum MessageFault {
     /// The message is not text, in UTF-8.
     #[error("NotText")]
     NotText,
-    /// The message is not what it has to be; the fault has the path to what is wrong.
+    /// The message is malformed; the fault has the path to the malformed part.
     #[error("Json: {0}")]
     Json(JsonFault),
     /// No world has this name, which the message gives.
@@ -46,7 +46,7 @@ pub enum MessageFault {
     /// The main module's imports could not be renamed.
     #[error("Main module: {0}")]
     Dedupe(DedupeFault),
-    /// There is no encoder of these parts.
+    /// These parts make no encoder.
     #[error("Encoder: {0}")]
     Encoder(EncoderFault),
     /// The component of the encoder has no world.
@@ -58,17 +58,17 @@ pub enum MessageFault {
     /// Several worlds have this name, which the message gives.
     #[error("SeveralWorlds `{0}`")]
     SeveralWorlds(String),
-    /// The world is given by its name, and a world says to be of a package that is not there.
+    /// The message names its world, and a world has a package that does not exist.
     #[error("PackageRange")]
     PackageRange,
     /// No export of the world has this key.
     #[error("UnknownKey `{0}`")]
     UnknownKey(String),
-    /// Several exports of the world have this key, but for their versions.
+    /// Several exports of the world have this key, except for their versions.
     #[error("SeveralKeys `{0}`")]
     SeveralKeys(String),
-    /// This key of an export is given twice, for one module or for two: as the same text, or as two texts of one export,
-    /// with its version and without, or as its index.
+    /// This key of an export is repeated, for one module or for two: as the same text, as two texts of one export
+    /// (with its version and without), or as its index.
     #[error("RepeatedKey `{0}`")]
     RepeatedKey(String),
 }

@@ -1,4 +1,4 @@
-//! The call that answers the paths to the imports of a module.
+//! The call that gives the paths to the imports of a module.
 
 ghost use Rattle.std.specs.Prelude.{◌≡◌, ◌≢◌, ◌≤◌, IfErr, IfOk};
 ghost use Rattle.wc_import_paths.specs.Following.{IsRefusal};
@@ -15,24 +15,25 @@ use wc_import_paths::{paths_to_json, patterns_of};
 use wc_maps::Seed;
 use wc_texts::Refused;
 
-/// Answers the paths to the imports of a module, main modules too: from its exports of the names `exports`, or from all,
-/// where there are none, from its start function, and where none of these leads to an import, from its active segments, as
-/// `wc_import_paths::paths_to_json` does. Each text of `imports` asks for imports: `KEY` for those of a module or of a
-/// package of interfaces, `KEY=NAME` for those of them that have a name (`wc_import_paths::patterns_of`); without texts all
-/// are asked for. `seed`: the seed of the maps that are made.
+/// Gives the paths to the imports of any module, main modules too. They begin at its exports with the names
+/// `exports`, or at all exports if `exports` is empty, and then at the start function. Only if none of these leads to
+/// an import, they begin at active segments, as in `wc_import_paths::paths_to_json`. Each text in `imports` requests
+/// imports: `KEY` requests all imports from a module or from a package of interfaces, `KEY=NAME` only those with this
+/// name (`wc_import_paths::patterns_of`). If `imports` is empty, all imports are requested. The maps that are made
+/// hash under `seed`.
 ///
-/// - `DONE`: the front of `out` has the paths as JSON in a line, `length` bytes. An import to which no path leads is left
-///   out, and so is what the module does not import.
-/// - `TOO_SMALL`: the same would have `length` bytes, and `out` has fewer.
-/// - `BAD_ARGUMENT`: exactly where a text of `exports` or of `imports` is no text (UTF-8).
-/// - `FAULT`: the fault of `paths_to_json`, by its number (`GcFault::number`). It neither is nor carries a `Memory`. Of a
-///   missing export `position` is where its name is first in `exports`. `length` is how many bytes the JSON object has that
-///   says what the fault is about, as that of `trim`; it is in the front of `out`, if `out` has so many. It is 0 where there
-///   is none.
+/// - `DONE`: `out` begins with the paths as JSON in one line, `length` bytes. Imports that no path reaches are left
+///   out, and so are requested imports that the module does not have.
+/// - `TOO_SMALL`: the JSON would have `length` bytes, and `out` has fewer.
+/// - `BAD_ARGUMENT`: exactly if a text in `exports` or in `imports` is not UTF-8.
+/// - `FAULT`: the fault of `paths_to_json`, by its number (`GcFault::number`). It neither is nor carries a `Memory`.
+///   For a missing export, `position` is the first index of its name in `exports`. `length` is the length in bytes of
+///   the JSON object with the details of the fault, as for `trim`; `out` begins with the object, if it fits. Without
+///   details `length` is 0.
 /// - `MEMORY`: an allocation failed.
 ///
-/// It is never `SAME`. `out` is as it was but for `DONE` and `FAULT`, and then after the first `length` bytes. Numbers of
-/// the answer that nothing is said of are 0.
+/// The status is never `SAME`. `out` changes only with `DONE` and `FAULT`, and only in its first `length` bytes.
+/// Numbers of the answer that are not mentioned here are 0.
 pub fn paths(
     alloc: Global,
     seed: Seed,

@@ -94,17 +94,17 @@ fn planned_world_for(alloc: Global, input: &WorldInput, out: &mut [u8]) -> Answe
     }
 }
 
-/// Makes the world of a component and its plan: what `world` and `plan` answer of the same message and modules, made once.
-/// `seed`: the seed of the maps that are made.
+/// Makes the world of a component and its plan in one call, as `world` and `plan` do for the same message and
+/// modules. The maps that are made hash under `seed`.
 ///
-/// - `DONE`: as of `world`, and the JSON object has one member more, which is the last: `plan`, the list that `plan` answers
+/// - `DONE`: as for `world`, and the JSON object has one more member, its last: `plan`, the list that `plan` gives
 ///   (`wc_record::planned_world_to_json`).
-/// - `TOO_SMALL`: the same would have `length` bytes, and `out` has fewer.
-/// - `FAULT`: as of `plan`: why there is no world, or no plan of it.
+/// - `TOO_SMALL`: modules and JSON would have `length` bytes, and `out` has fewer.
+/// - `FAULT`: as for `plan`: the component has no world, or no plan.
 /// - `MEMORY`: an allocation failed.
 ///
-/// It is never `SAME` or `BAD_ARGUMENT`. `out` is as it was but for what is said here, and then after the first `length`
-/// bytes. Numbers of the answer that nothing is said of are 0.
+/// The status is never `SAME` or `BAD_ARGUMENT`. `out` changes only with `DONE` and `FAULT`, and only in its first
+/// `length` bytes. Numbers of the answer that are not mentioned here are 0.
 pub fn planned_world(
     alloc: Global,
     seed: Seed,

@@ -23,20 +23,20 @@ use wc_texts::Refused;
 
 /// Renames the imports of a module so that no two share a module and a name, as `ModuleImportMap::new` does.
 ///
-/// - `DONE`: the front of `out` has the bytes of the renamed module, `module_length` of them, and then the renames;
-///   `length` is how many bytes both have. The renames, one at least, are encoded as a vector of the binary format
-///   (WebAssembly core specification, 5.1.3): how many they are, and of each the name of its module, its original name
-///   and its new name, in the order of the module's imports. Numbers are minimal LEB128 (5.2.2), a name is its length
-///   and its bytes (5.2.4).
-/// - `TOO_SMALL`: the same would have `length` bytes, and `out` has fewer.
-/// - `SAME`: no import repeats, or the bytes are a component's. So it is for every component.
-/// - `FAULT`: the fault of `ModuleImportMap::new`, by its number (`DedupeFault::number`). It neither is nor
-///   carries a `Memory`. `length` is how many bytes the JSON object has that says where the module stops to be right, as
-///   that of `world`; it is in the front of `out`, if `out` has so many. It is 0 where there is none.
+/// - `DONE`: `out` begins with the bytes of the renamed module, `module_length` of them, then come the renames;
+///   `length` is the length of both in bytes. The renames, at least one, are encoded as a vector of the binary format
+///   (WebAssembly core specification, 5.1.3), in the order of the module's imports. First comes their number. Each
+///   has the name of its module, its original name and its new name. Numbers are minimal LEB128 (5.2.2), a name is
+///   its length and its bytes (5.2.4).
+/// - `TOO_SMALL`: module and renames would have `length` bytes, and `out` has fewer.
+/// - `SAME`: no import repeats, or the bytes are a component. Every component has this status.
+/// - `FAULT`: the fault of `ModuleImportMap::new`, by its number (`DedupeFault::number`). It neither is nor carries a
+///   `Memory`. `length` is the length in bytes of a JSON object that says where the module is malformed, as for
+///   `world`; `out` begins with the object, if it fits. Without an object `length` is 0.
 /// - `MEMORY`: an allocation failed.
 ///
-/// It is never `BAD_ARGUMENT`. `out` is as it was but for `DONE` and `FAULT`, and then after the first `length` bytes.
-/// Numbers of the answer that nothing is said of are 0.
+/// The status is never `BAD_ARGUMENT`. `out` changes only with `DONE` and `FAULT`, and only in its first `length`
+/// bytes. Numbers of the answer that are not mentioned here are 0.
 pub fn dedupe(alloc: Global, wasm: &[u8], out: &mut [u8]) -> Answer
     ensures done { result.status ≡ done
         → IsPut (IsRenamed wasm.now result.module_length) result.length out.old out.new }
@@ -59,7 +59,8 @@ pub fn dedupe(alloc: Global, wasm: &[u8], out: &mut [u8]) -> Answer
     }
 }
 
-/// Answers a fault of renaming with what it is about; one that is or carries a `Memory` as that an allocation failed.
+/// Answers a fault of renaming with its details. If the fault is or carries a `Memory`, the answer is that an
+/// allocation failed.
 fn answer_refused_module(
     alloc: Global,
     refused: &Refused<DedupeFault, ReadPlace>,

@@ -1,4 +1,4 @@
-//! The call that lists what a module imports and exports.
+//! The call that lists the imports and exports of a module.
 
 ghost use Rattle.std.specs.Prelude.{◌≡◌, ◌≢◌, ◌≤◌, ◌⊎◌, IfOk, None, false};
 ghost use Rattle.wc_read.specs.Fault.{read_fault_number};
@@ -17,19 +17,19 @@ use wc_read::{Module, ReadFault, ReadPlace, function_names, read_module_explaine
 use wc_record::scan_to_json;
 use wc_texts::Refused;
 
-/// Lists what a module imports and exports, with types, and the names that its name sections give functions. Bodies of
-/// functions, and sections of elements and data, are not read.
+/// Lists the imports and exports of a module with their types, and the names of functions in its name sections. It
+/// does not read bodies of functions, or sections of elements and data.
 ///
-/// - `DONE`: the front of `out` has the lists as JSON, as `wc_record::scan_to_json` writes them; `length` is how many bytes
-///   that has. The names are those of `wc_read::function_names`.
-/// - `TOO_SMALL`: the same would have `length` bytes, and `out` has fewer.
-/// - `FAULT`: the fault of `wc_read::read_module`, by its number (`ReadFault::number`). It is no `Memory`. `length` is how
-///   many bytes the JSON object has that says where the module stops to be right, as that of `dedupe`; it is in the front
-///   of `out`, if `out` has so many.
+/// - `DONE`: `out` begins with the lists as JSON, written as `wc_record::scan_to_json` writes them; `length` is its
+///   length in bytes. `wc_read::function_names` gives the names of functions.
+/// - `TOO_SMALL`: the JSON would have `length` bytes, and `out` has fewer.
+/// - `FAULT`: the fault of `wc_read::read_module`, by its number (`ReadFault::number`). It is no `Memory`. `length`
+///   is the length in bytes of the JSON object that says where the module is malformed, as for `dedupe`; `out` begins
+///   with the object, if it fits.
 /// - `MEMORY`: an allocation failed.
 ///
-/// It is never `SAME` or `BAD_ARGUMENT`. `out` is as it was but for `DONE` and `FAULT`, and then after the first `length`
-/// bytes. Numbers of the answer that nothing is said of are 0.
+/// The status is never `SAME` or `BAD_ARGUMENT`. `out` changes only with `DONE` and `FAULT`, and only in its first
+/// `length` bytes. Numbers of the answer that are not mentioned here are 0.
 pub fn scan(alloc: Global, wasm: &[u8], out: &mut [u8]) -> Answer
     ensures done { result.status ≡ done
         → IsPut (IsScanText wasm.now) result.length out.old out.new }
@@ -80,7 +80,7 @@ fn module_text(alloc: Global, wasm: &[u8], module: &Module<'_>) -> Result<Vec<u8
     }
 }
 
-/// Answers a fault of reading with its place; a `Memory` as that an allocation failed.
+/// Answers a fault of reading with its position. If the fault is a `Memory`, the answer is that an allocation failed.
 fn answer_refused_module(
     alloc: Global,
     refused: &Refused<ReadFault, ReadPlace>,

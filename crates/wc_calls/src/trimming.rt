@@ -24,21 +24,21 @@ use wc_texts::Refused;
 /// The largest exponent of a page size: a page has 2^16 bytes at most.
 const MAX_PAGE_SIZE_LOG2: u32 = 16;
 
-/// Trims an adapter to what its exports of the names `required` reach, as `wc_gc::run` does. A repeated name counts
-/// once. The main module exports a realloc as `realloc`, where that is a name, and a page of its memory has
-/// 2^`page_size_log2` bytes. `seed`: the seed of the maps that are made.
+/// Trims an adapter to the items that its exports with the names `required` reach, as `wc_gc::run` does. A repeated
+/// name counts once. If `realloc` is a name, the main module exports a realloc under it. A page of the main module's
+/// memory has 2^`page_size_log2` bytes. The maps that are made hash under `seed`.
 ///
-/// - `DONE`: the front of `out` has the bytes of the trimmed adapter, `length` of them, which are all a module.
+/// - `DONE`: `out` begins with the bytes of the trimmed adapter, `length` of them, all of them a module.
 /// - `TOO_SMALL`: the trimmed adapter has `length` bytes, and `out` has fewer.
-/// - `BAD_ARGUMENT`: exactly where `required` is empty, a name is no text (UTF-8), or `page_size_log2` is more than 16.
-/// - `FAULT`: the fault of `run`, by its number (`GcFault::number`). It neither is nor carries a `Memory`. Of a missing
-///   export `position` is where its name is first in `required`. `length` is how many bytes the JSON object has that says
-///   what the fault is about (`wc_gc::TrimPlace`), as that of `world` without an adapter; it is in the front of `out`, if
-///   `out` has so many. It is 0 where there is none.
+/// - `BAD_ARGUMENT`: exactly if `required` is empty, a name is not UTF-8, or `page_size_log2` is more than 16.
+/// - `FAULT`: the fault of `run`, by its number (`GcFault::number`). It neither is nor carries a `Memory`. For a
+///   missing export, `position` is the first index of its name in `required`. `length` is the length in bytes of the
+///   JSON object with the details of the fault (`wc_gc::TrimPlace`), as for `world` without an adapter; `out` begins
+///   with the object, if it fits. Without details `length` is 0.
 /// - `MEMORY`: an allocation failed.
 ///
-/// It is never `SAME`. `out` is as it was but for `DONE` and `FAULT`, and then after the first `length` bytes.
-/// `module_length` is `length` but for `FAULT`. Numbers of the answer that nothing is said of are 0.
+/// The status is never `SAME`. `out` changes only with `DONE` and `FAULT`, and only in its first `length` bytes.
+/// `module_length` is `length`, except with `FAULT`. Numbers of the answer that are not mentioned here are 0.
 pub fn trim(
     alloc: Global,
     seed: Seed,
@@ -124,7 +124,7 @@ fn trim_for_names(alloc: Global, seed: Seed, passed: Arguments<'_>, out: &mut [u
     put_trimmed(alloc, passed.required, &trimmed, out)
 }
 
-/// Writes what trimming answered for an adapter and names; of a fault what it is about.
+/// Writes the result of trimming for an adapter and names; for a fault, its details.
 fn put_trimmed(
     alloc: Global,
     required: &[&[u8]],
@@ -155,7 +155,8 @@ fn put_trimmed(
     }
 }
 
-/// Answers a fault of trimming with what it is about; one that is or carries a `Memory` as that an allocation failed.
+/// Answers a fault of trimming with its details. If the fault is or carries a `Memory`, the answer is that an
+/// allocation failed.
 pub(crate) fn answer_refused_trim(
     alloc: Global,
     required: &[&[u8]],
@@ -184,7 +185,7 @@ pub(crate) fn answer_refused_trim(
     }
 }
 
-/// Where the name that a fault carries is first among the names; 0 of a fault that carries none.
+/// The first index of the fault's name among the names; 0 for a fault that carries none.
 fn missing_position(fault: &GcFault, required: &[&[u8]]) -> usize
     ensures { result ≡ position_in (texts required.now) fault.now }
 {

@@ -1,4 +1,4 @@
-//! The call that answers what is recorded of one module of a component.
+//! The call that gives what is recorded of one module of a component.
 
 ghost use Rattle.std.specs.Prelude.{◌≡◌, ◌≢◌, ◌≤◌, IfErr, IfOk, List, None, Some, [], map, ℕ};
 ghost use Rattle.std.specs.Map.{lookup};
@@ -100,8 +100,8 @@ fn answer_input(alloc: Global, input: AdapterInput<'_>, out: &mut [u8]) -> Answe
     }
 }
 
-/// Answers what is recorded of an adapter or a library, which the encoder has under its name, for the required functions that
-/// bytes are.
+/// Gives what is recorded of an adapter or a library, which the encoder has under its name. The bytes encode the
+/// required functions.
 fn answer_with(alloc: Global, required: &[u8], input: AdapterInput<'_>, out: &mut [u8]) -> Answer
     requires there { lookup (bytes_eq input.name.now) input.encoder.now.adapters
         ≡ Some (adapter_view input.adapter.now) }
@@ -133,7 +133,7 @@ struct AskedAdapter<'a> {
     required: &'a [u8],
 }
 
-/// Answers what is recorded of an adapter or a library, if the bytes are required functions.
+/// Gives what is recorded of an adapter or a library, if the bytes encode required functions.
 fn answer_adapter(
     alloc: Global,
     asked: AskedAdapter<'_>,
@@ -177,7 +177,7 @@ fn answer_adapter(
     }
 }
 
-/// Answers what is recorded of the adapter or the library of a name, if there is one.
+/// Gives what is recorded of the adapter or the library with this name, if one exists.
 fn answer_under(alloc: Global, asked: AskedAdapter<'_>, out: &mut [u8]) -> Answer
     ensures done { result.status ≡ done
         → IsPut (IsRecordText asked.entry.encoder.now (Some asked.entry.name.now)
@@ -204,7 +204,7 @@ fn answer_under(alloc: Global, asked: AskedAdapter<'_>, out: &mut [u8]) -> Answe
     }
 }
 
-/// Answers what is recorded of the adapter or the library of a name, which may be no text.
+/// Gives what is recorded of the adapter or the library with this name, which may not be UTF-8.
 fn answer_named(
     alloc: Global,
     encoder: &ComponentEncoder,
@@ -241,7 +241,7 @@ fn answer_named(
     }
 }
 
-/// Answers what is recorded of the module of an encoder that is asked for.
+/// Gives what is recorded of the requested module of an encoder.
 fn answer_for(
     alloc: Global,
     encoder: &ComponentEncoder,
@@ -272,28 +272,29 @@ fn answer_for(
     }
 }
 
-/// Validates one module of a component and answers what is recorded of it: of the main module, as `validate_module` of
-/// `wc_validate` does; or, where `adapter` is a name, of the adapter or the library of this name, as `validate_adapter_module`
-/// does, for the functions that are required of it (`required`), its keys and its library information. That is as it is
-/// passed, and not trimmed; and the main module is then not validated. The message and the modules are those of `world`; so
-/// is `seed`. Nothing depends on the `options` of the message, which have to be as of `world` all the same.
+/// Validates one module of a component, and gives what is recorded of it. Without `adapter` this is the main module,
+/// validated as by `validate_module` of `wc_validate`. If `adapter` is a name, it is the adapter or the library with
+/// this name, validated as by `validate_adapter_module`, for the functions that it must export (`required`), its keys
+/// and its library information. This module is validated as it is passed, untrimmed, and the main module is not
+/// validated. `message`, `modules` and `seed` are as for `world`. Nothing depends on the `options` of the message,
+/// but they must be well-formed as for `world`.
 ///
-/// `required` is not looked at for the main module. For an adapter or a library it is a vector in the binary format
-/// (WebAssembly core specification, 5.1.3): how many functions there are; and of each its name (5.2.4), and then its type
+/// For the main module, `required` is ignored. For an adapter or a library it is a vector in the binary format
+/// (WebAssembly core specification, 5.1.3): the number of functions; then for each its name (5.2.4) and its type
 /// (5.3.6), which begins with the byte 60.
 ///
-/// - `DONE`: the module is valid. The front of `out` has what is recorded of it as JSON, as `wc_record::module_to_json` writes
-///   it; `length` is how many bytes that has.
-/// - `TOO_SMALL`: the same would have `length` bytes, and `out` has fewer.
-/// - `BAD_ARGUMENT`: `adapter` is no text (UTF-8), or the name of none of the message; or `required` is no such vector, or
-///   has two functions of one name.
-/// - `FAULT`: the module is refused, or the message and the modules are no encoder. The fault is by its number
-///   (`MessageFault::number`), and with its text and what it is about, as of `world`: `World` with `Main`, or with `Adapter`
-///   and the name; or one of the others, but for `Plan`. It neither is nor carries a `Memory`.
+/// - `DONE`: the module is valid. `out` begins with what is recorded of it as JSON, written as
+///   `wc_record::module_to_json` writes it; `length` is its length in bytes.
+/// - `TOO_SMALL`: the JSON would have `length` bytes, and `out` has fewer.
+/// - `BAD_ARGUMENT`: `adapter` is not UTF-8, or no adapter of the message has this name; or `required` is no such
+///   vector, or has two functions with one name.
+/// - `FAULT`: the module is refused, or message and modules make no encoder. The answer has the fault's number
+///   (`MessageFault::number`), text and details as for `world`. The fault is `World` with `Main`, or with `Adapter`
+///   and the name; or one of the others, except `Plan`. It neither is nor carries a `Memory`.
 /// - `MEMORY`: an allocation failed.
 ///
-/// It is never `SAME`. `out` is as it was but for `DONE` and `FAULT`, and then after the first `length` bytes. Numbers of the
-/// answer that nothing is said of are 0.
+/// The status is never `SAME`. `out` changes only with `DONE` and `FAULT`, and only in its first `length` bytes.
+/// Numbers of the answer that are not mentioned here are 0.
 pub fn validated_module(
     alloc: Global,
     seed: Seed,

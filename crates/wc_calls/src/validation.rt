@@ -28,7 +28,7 @@ use wc_read::FuncType;
 use wc_validate::{ValidatedModule, validate_adapter_module_explained, validate_module_explained};
 use wc_world::{adapter_refusal, as_given, main_refusal};
 
-/// An adapter or a library, and the functions that it has to export.
+/// An adapter or a library, and the functions that it must export.
 #[derive(Clone, Copy)]
 pub(crate) struct AdapterInput<'a> {
     pub encoder: &'a ComponentEncoder,
@@ -151,7 +151,7 @@ fn validate_with(
     validate_input(alloc, input, out)
 }
 
-/// Answers whether the adapter or the library of a name is valid.
+/// Answers whether the adapter or the library with this name is valid.
 fn validate_adapter(
     alloc: Global,
     main: ValidMain<'_>,
@@ -185,7 +185,7 @@ fn validate_adapter(
     }
 }
 
-/// Answers whether the adapter or the library of a name is valid, if there is one.
+/// Answers whether the adapter or the library with this name is valid, if one exists.
 fn validate_under(alloc: Global, main: ValidMain<'_>, name: &str, out: &mut [u8]) -> Answer
     requires { IsMainRecord main.encoder.now (module_record main.validated.now) }
     ensures done { result.status ≡ done
@@ -205,7 +205,7 @@ fn validate_under(alloc: Global, main: ValidMain<'_>, name: &str, out: &mut [u8]
     }
 }
 
-/// Answers whether the adapter or the library of a name, which may be no text, is valid.
+/// Answers whether the adapter or the library with this name, which may not be UTF-8, is valid.
 fn validate_named(alloc: Global, main: ValidMain<'_>, name: &[u8], out: &mut [u8]) -> Answer
     requires { IsMainRecord main.encoder.now (module_record main.validated.now) }
     ensures done { result.status ≡ done
@@ -225,7 +225,7 @@ fn validate_named(alloc: Global, main: ValidMain<'_>, name: &[u8], out: &mut [u8
     }
 }
 
-/// Answers whether the module that is asked for is valid, where the main module is.
+/// Answers whether the requested module is valid, if the main module is valid.
 fn validate_other(alloc: Global, main: ValidMain<'_>, name: Option<&[u8]>, out: &mut [u8]) -> Answer
     requires { IsMainRecord main.encoder.now (module_record main.validated.now) }
     ensures done { result.status ≡ done
@@ -246,7 +246,7 @@ fn validate_other(alloc: Global, main: ValidMain<'_>, name: Option<&[u8]>, out: 
     }
 }
 
-/// Answers whether the module of an encoder that is asked for is valid.
+/// Answers whether the requested module of an encoder is valid.
 fn validate_for(
     alloc: Global,
     encoder: &ComponentEncoder,
@@ -273,21 +273,23 @@ fn validate_for(
     }
 }
 
-/// Validates one module of a component: the main module, as `validate_module` of `wc_validate` does; or, where `adapter` is
-/// a name, the main module, and then the adapter or the library of this name, as `validate_adapter_module` does, for what
-/// the main module imports from it, the keys that it has to export, and its library information. That is as it is passed,
-/// and not trimmed, also where the component does not need it. The message and the modules are those of `world`; so is
-/// `seed`. Nothing depends on the `options` of the message, which have to be as of `world` all the same.
+/// Validates one module of a component. The main module is always validated, as by `validate_module` of
+/// `wc_validate`. If `adapter` is a name, the adapter or the library with this name is validated next, as by
+/// `validate_adapter_module`. That call is passed the functions that the main module imports from it, the keys that
+/// it must export, and its library information. It is validated as it is passed, untrimmed, even if the component
+/// does not need it. `message`, `modules` and `seed` are as for `world`. Nothing depends on the `options` of the
+/// message, but they must be well-formed as for `world`.
 ///
 /// - `DONE`: the module is valid; if it is an adapter or a library, so is the main module.
-/// - `BAD_ARGUMENT`: the main module is valid; and `adapter` is no text (UTF-8), or the name of none of the message.
-/// - `FAULT`: the module is refused, or the main module is, or the message and the modules are no encoder. The fault is by
-///   its number (`MessageFault::number`), and with its text and what it is about, as of `world`: `World` with `Main`, or
-///   with `Adapter` and the name; or one of the others, but for `Plan`. It neither is nor carries a `Memory`.
+/// - `BAD_ARGUMENT`: the main module is valid, but `adapter` is not UTF-8, or no adapter of the message has this
+///   name.
+/// - `FAULT`: the module or the main module is refused, or message and modules make no encoder. The answer has the
+///   fault's number (`MessageFault::number`), text and details as for `world`. The fault is `World` with `Main`, or
+///   with `Adapter` and the name; or one of the others, except `Plan`. It neither is nor carries a `Memory`.
 /// - `MEMORY`: an allocation failed.
 ///
-/// It is never `SAME` or `TOO_SMALL`. `out` is as it was but for `FAULT`, and then after the first `length` bytes. Numbers of
-/// the answer that nothing is said of are 0.
+/// The status is never `SAME` or `TOO_SMALL`. `out` changes only with `FAULT`, and only in its first `length` bytes.
+/// Numbers of the answer that are not mentioned here are 0.
 pub fn validate(
     alloc: Global,
     seed: Seed,

@@ -1,4 +1,4 @@
-//! Calls on the world of a component, which other crates define: what they have in common.
+//! The common part of calls on the world of a component that other crates define.
 
 ghost use Rattle.std.specs.Prelude.{ℕ, List};
 ghost use Rattle.wc_world.specs.Nameable.{AreNameable};
@@ -18,27 +18,26 @@ use wc_maps::Seed;
 use wc_plan::laws::worlds_nameable;
 use wc_world::ComponentWorld;
 
-/// A call on the world of a component: what is asked of it, and how that is answered.
+/// A call on the world of a component: how the request is answered.
 pub trait WorldCall {
     // What it answers: of a world, an answer, and the buffer before and after.
     ghost answers: { Self → ComponentWorldView → Answer → List ℕ → List ℕ → Type 0 };
 
-    /// Answers what is asked of a world in the front of a buffer, as the calls of this crate do.
+    /// Answers a request about a world in the front of a buffer, as the calls of this crate do.
     fn answer(&self, alloc: Global, world: &ComponentWorld<'_>, out: &mut [u8]) -> Answer
         requires { AreNameable (world_view world.now) }
         ensures { answers self.now (world_view world.now) result out.old out.new };
 }
 
-/// Makes the world of a component, and lets a call answer for it. The message and the modules are those of `world`; so is
-/// `seed`.
+/// Makes the world of a component, and lets a call answer for it. `message`, `modules` and `seed` are as for `world`.
 ///
-/// - Where there is a world, the answer is the call's, and so is what `out` has then.
-/// - `FAULT`: why there is none, by its number (`MessageFault::number`), its text, and what it is about, as of `world`. It
-///   neither is nor carries a `Memory`.
-/// - `MEMORY`: an allocation failed before there was a world.
+/// - If the world exists, the answer and the content of `out` are those of the call.
+/// - `FAULT`: no world exists. The answer has the fault's number (`MessageFault::number`), text and details as for
+///   `world`. The fault neither is nor carries a `Memory`.
+/// - `MEMORY`: an allocation failed before the world was made.
 ///
-/// Where there is no world, `out` is as it was but for `FAULT`, and then after the first `length` bytes; and numbers of the
-/// answer that nothing is said of are 0.
+/// Without a world, `out` changes only with `FAULT`, and only in its first `length` bytes; numbers of the answer that
+/// are not mentioned here are 0.
 pub fn answer_for_world<C: WorldCall>(
     alloc: Global,
     seed: Seed,

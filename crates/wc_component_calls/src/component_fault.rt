@@ -1,4 +1,4 @@
-//! The faults of the calls, beside those of messages.
+//! The faults of the calls that are not faults of messages.
 
 ghost use Rattle.std.specs.Prelude.{◌≡◌};
 ghost use Rattle.wc_component_calls.specs.ComponentFault.{component_fault_number, component_fault_text, is_memory};
@@ -9,21 +9,21 @@ use wc_calls::gc_is_memory;
 use wc_gc::GcFault;
 use wc_texts::{CARRIED, FaultText, OUT_OF_MEMORY, Pieces, PutFailed, put_carried, put_quoted};
 
-/// Why it can't be said why a component imports something, where it has a world. No answer of a call is a `Memory`: that is
-/// `MEMORY`.
+/// Why a component that has a world has no answer to a request for paths. No call answers `Memory`: its status is
+/// `MEMORY` then.
 #[derive(Debug, Drop)]
 pub enum ComponentFault {
     /// An allocation failed.
     Memory,
-    /// The world has no import that this key asks about. It carries the key, and the texts of all imports of the world.
+    /// The world has no import that this key requests. It carries the key, and the texts of all imports of the world.
     UnknownImport(String, Vec<String>),
     /// An adapter, as the encoder has it, can't be searched. It carries why, and neither is nor carries a `Memory`.
     Ways(GcFault),
 }
 
 impl ComponentFault {
-    /// The number of the fault: those of this enum go on where those of `MessageFault` end, and to that of a fault that
-    /// carries another 256 times the number of the other is added. The key is no part of it. It never changes.
+    /// The number of the fault. The numbers of this enum continue the numbers of `MessageFault`; if the fault carries
+    /// another, 256 times the other's number is added. The key is no part of it. It never changes.
     pub fn number(&self) -> u32
         ensures { result ≡ component_fault_number self.now }
     {

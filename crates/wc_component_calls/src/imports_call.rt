@@ -1,4 +1,4 @@
-//! The call that answers what a component imports of each interface.
+//! The call that lists the imports of a component from each interface.
 
 ghost use Rattle.std.specs.Prelude.{◌≡◌, ◌≢◌, ◌≤◌, IfErr, IfOk};
 ghost use Rattle.wc_calls.specs.Answers.{AreOthersOfTextZero, IsPut, IsTooLong, bad_argument, done, failed, same, too_small};
@@ -15,7 +15,7 @@ use wc_maps::Seed;
 use wc_ways::imports_json;
 use wc_world::ComponentWorld;
 
-/// The question what a component imports of each interface.
+/// The request for the imports of a component from each interface.
 struct ImportsCall;
 
 impl WorldCall for ImportsCall {
@@ -40,17 +40,17 @@ fn imports_of(alloc: Global, world: &ComponentWorld<'_>) -> Result<Vec<u8>, Comp
     Ok(imports_json(alloc, world)?)
 }
 
-/// Answers what a component imports of each interface, with the modules that import it and what has to go for it to go, as
-/// JSON, as `imports_json` of `wc_ways` writes it. The message and the modules are those of `world` of `wc_calls`; so is `seed`.
-/// No plan is made.
+/// Lists the imports of a component from each interface, with the modules that import it and the items that must be
+/// removed to drop it. The result is JSON, as `imports_json` of `wc_ways` writes it. `message`, `modules` and `seed`
+/// are as for `world` of `wc_calls`. No plan is made.
 ///
-/// - `DONE`: the front of `out` has the interfaces as JSON, in a line; `length` is how many bytes that has.
-/// - `TOO_SMALL`: the same would have `length` bytes, and `out` has fewer.
-/// - `FAULT`: as of `component_paths`, but for `UnknownImport`.
+/// - `DONE`: `out` begins with the interfaces as JSON, in a line; `length` is its length in bytes.
+/// - `TOO_SMALL`: the JSON would have `length` bytes, and `out` has fewer.
+/// - `FAULT`: as for `component_paths`, except `UnknownImport`.
 /// - `MEMORY`: an allocation failed.
 ///
-/// It is never `SAME` or `BAD_ARGUMENT`. `out` is as it was but for `DONE` and `FAULT`, and then after the first `length`
-/// bytes. Numbers of the answer that nothing is said of are 0.
+/// The status is never `SAME` or `BAD_ARGUMENT`. `out` changes only with `DONE` and `FAULT`, and only in its first
+/// `length` bytes. Numbers of the answer that are not mentioned here are 0.
 pub fn component_imports(
     alloc: Global,
     seed: Seed,

@@ -1,4 +1,4 @@
-//! The check that a key asks about an import of a world.
+//! The check that a key requests an import of a world.
 
 ghost use Rattle.std.specs.Prelude.{◌≡◌, IfErr, IfOk, OnOk, map, string_bytes, true};
 ghost use Rattle.std.specs.List.{list_any};
@@ -14,12 +14,12 @@ use wc_resolve::WorldKey;
 use wc_selection::import_keys;
 use wc_why::asks_about;
 
-/// Checks that a key asks about something that the world of an encoder imports: `all`, `$root`, or an import or its package
+/// Checks that a key requests imports of the world of an encoder: `all`, `$root`, or an import or its package
 /// (`wc_why::asks_about`), by its text.
 ///
 /// # Errors
 ///
-/// - `UnknownImport`: it asks about none.
+/// - `UnknownImport`: it requests none.
 /// - `Memory`: an allocation failed.
 pub(crate) fn check_key(
     alloc: Global,
@@ -33,7 +33,7 @@ pub(crate) fn check_key(
     check_among(alloc, imports, key)
 }
 
-/// Checks that a key asks about one of these imports.
+/// Checks that a key requests one of these imports.
 fn check_among(alloc: Global, imports: Vec<String>, key: &str) -> Result<(), ComponentFault>
     ensures known { OnOk result
         (asks_about_known key.now (map string_bytes imports.items) ≡ true) }
@@ -46,21 +46,21 @@ fn check_among(alloc: Global, imports: Vec<String>, key: &str) -> Result<(), Com
     Err(ComponentFault::UnknownImport(key, imports))
 }
 
-/// Whether a key asks about all, about what is the world's own, or about one of these imports.
+/// Whether a key requests all imports, the world's own imports, or one of these imports.
 fn asks_about_known(key: &str, imports: &[String]) -> bool
     ensures { result ≡ asks_about_known key.now (map string_bytes imports.now) }
 {
     key == "all" || key == "$root" || asks_about_any(key, imports)
 }
 
-/// Whether a key asks about one of these imports.
+/// Whether a key requests one of these imports.
 fn asks_about_any(key: &str, imports: &[String]) -> bool
     ensures { result ≡ list_any (asks_about key.now) (map string_bytes imports.now) }
 {
     has_asked(key, imports)
 }
 
-/// Whether a key asks about one of these texts.
+/// Whether a key requests the import with one of these texts.
 fn has_asked(key: &str, imports: &[String]) -> bool
     ensures { result ≡ list_any (λ text. asks_about key.now (string_bytes text)) imports.now }
 {

@@ -1,7 +1,9 @@
-//! Calls on slices that say why a component imports what it does: `component_paths` answers the paths through its modules to
-//! what a key asks about, and `component_imports` what it imports of each interface, with what has to go for it to go. The
-//! component is described by a message, as of `world` and `plan` of `wc_calls`; each call writes its answer to the front of a
-//! buffer of the caller's, and returns an `Answer`, which is numbers alone. No call requires anything of its arguments.
+//! Calls on slices that say why a component has its imports.
+//!
+//! `component_paths` gives the paths through its modules to the imports that a key requests. `component_imports`
+//! lists its imports from each interface, with the items that must be removed to drop them. A message describes the
+//! component, as for `world` and `plan` of `wc_calls`. Each call writes its result to the front of the caller's
+//! buffer, and returns an `Answer`, which has only numbers. No call requires anything of its arguments.
 //!
 //! ```rust
 //! use std::alloc::Global;

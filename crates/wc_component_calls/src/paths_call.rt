@@ -1,4 +1,4 @@
-//! The call that answers the paths to what a component imports.
+//! The call that gives the paths to the imports of a component.
 
 ghost use Rattle.std.specs.Prelude.{◌≡◌, ◌≢◌, ◌≤◌, IfErr, IfOk};
 ghost use Rattle.std.specs.Str.{IsUtf8};
@@ -17,7 +17,7 @@ use wc_maps::Seed;
 use wc_ways::ways_json;
 use wc_world::ComponentWorld;
 
-/// The question why a component imports what a key asks about.
+/// The request for the paths to the imports of a key.
 #[derive(Clone, Copy)]
 struct PathsCall<'a> {
     key: &'a str,
@@ -35,7 +35,7 @@ impl WorldCall for PathsCall<'_> {
     }
 }
 
-/// The paths to what a key asks about, as JSON.
+/// The paths to the imports that a key requests, as JSON.
 fn paths_of(alloc: Global, world: &ComponentWorld<'_>, key: &str) -> Result<Vec<u8>, ComponentFault>
     requires { AreNameable (world_view world.now) }
     ensures text { IfOk result (λ v. IsPathsText (world_view world.now) key.now v.items) }
@@ -45,25 +45,25 @@ fn paths_of(alloc: Global, world: &ComponentWorld<'_>, key: &str) -> Result<Vec<
     Ok(ways_json(alloc, world, key)?)
 }
 
-/// Answers why a component imports what a key asks about: the paths through its main module and its adapters that lead to
-/// imports of its world, as JSON, as `ways_json` of `wc_ways` writes them. The message and the modules are those of `world` of
-/// `wc_calls`; so is `seed`. No plan is made, so a component that has none has its paths all the same.
+/// Says why a component has the imports that a key requests. It gives the paths through its main module and its
+/// adapters to these imports of its world, as JSON, as `ways_json` of `wc_ways` writes them. `message`, `modules` and
+/// `seed` are as for `world` of `wc_calls`. No plan is made, so a component without a plan has its paths too.
 ///
-/// The key is `all`; `$root`, for all that is the world's own; or it asks about imports of the world: an interface or a
+/// The key is `all`; `$root`, for the world's own imports; or it requests imports of the world: an interface or a
 /// package, with its version or without, or a function or a type of the world itself (`wc_why::asks_about`).
 ///
-/// - `DONE`: the front of `out` has the paths as JSON, in a line; `length` is how many bytes that has.
-/// - `TOO_SMALL`: the same would have `length` bytes, and `out` has fewer.
-/// - `BAD_ARGUMENT`: exactly where the key is no text (UTF-8).
-/// - `FAULT`: why there are no paths, by its number, and its text, which has `position` bytes, and what it is about, as of
-///   `world`: that of a message, which has no world (`MessageFault`); or a `ComponentFault`. Of `UnknownImport`, where the world
-///   imports nothing that the key asks about, a JSON object is after the text, with `kind`, which is `imports`, with `key`, and
-///   with `imports`, the list of the texts of all imports of the world. Of `Ways`, where an adapter can't be searched, there is
-///   none. A fault neither is nor carries a `Memory`.
+/// - `DONE`: `out` begins with the paths as JSON, in a line; `length` is its length in bytes.
+/// - `TOO_SMALL`: the JSON would have `length` bytes, and `out` has fewer.
+/// - `BAD_ARGUMENT`: exactly if the key is not UTF-8.
+/// - `FAULT`: no paths can be given. The answer has the fault's number, its text, which has `position` bytes, and its
+///   details, as for `world`. The fault is the `MessageFault` of a message that has no world, or a `ComponentFault`.
+///   `UnknownImport` comes if the world has no import that the key requests. A JSON object then follows the text,
+///   with `kind`, which is `imports`; `key`; and `imports`, the list of the texts of all imports of the world. `Ways`
+///   comes if an adapter can't be searched, and has no details. A fault neither is nor carries a `Memory`.
 /// - `MEMORY`: an allocation failed.
 ///
-/// It is never `SAME`. `out` is as it was but for `DONE` and `FAULT`, and then after the first `length` bytes. Numbers of the
-/// answer that nothing is said of are 0.
+/// The status is never `SAME`. `out` changes only with `DONE` and `FAULT`, and only in its first `length` bytes.
+/// Numbers of the answer that are not mentioned here are 0.
 pub fn component_paths(
     alloc: Global,
     seed: Seed,

@@ -15,8 +15,8 @@ use json::Writer;
 use std::alloc::{AllocError, Global};
 use wc_why::{begin_object, end_object, put_text};
 
-/// The place of a fault, as JSON: of a key that asks about no import an object with `kind`, which is `imports`, with `key`,
-/// and with `imports`, the list of the texts of all imports of the world; of other faults no bytes.
+/// The place of a fault, as JSON. For a key that requests no import it is an object with `kind`, which is `imports`;
+/// `key`; and `imports`, the list of the texts of all imports of the world. For other faults it is empty.
 pub(crate) fn place_text(alloc: Global, fault: &ComponentFault) -> Result<Vec<u8>, AllocError>
     ensures { IfOk result (λ v. v.items ≡ fault_place fault.now) }
 {
@@ -26,7 +26,7 @@ pub(crate) fn place_text(alloc: Global, fault: &ComponentFault) -> Result<Vec<u8
     }
 }
 
-/// A key that asks about no import, and the imports that there are.
+/// A key that requests no import, and the imports of the world.
 fn imports_text(alloc: Global, key: &str, imports: &[String]) -> Result<Vec<u8>, AllocError>
     ensures { IfOk result (λ v. v.items
         ≡ text_of (imports_json key.now (map string_bytes imports.now))) }
@@ -36,7 +36,7 @@ fn imports_text(alloc: Global, key: &str, imports: &[String]) -> Result<Vec<u8>,
     Ok(out.into_inner())
 }
 
-/// Writes a key that asks about no import, and the imports that there are.
+/// Writes a key that requests no import, and the imports of the world.
 fn put_imports(out: &mut Writer, key: &str, imports: &[String]) -> Result<(), AllocError>
     ensures { OnOk result (Puts out.old out.new
         (json_tokens (imports_json key.now (map string_bytes imports.now)))) }

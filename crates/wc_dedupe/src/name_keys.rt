@@ -1,8 +1,8 @@
 //! The names of imports without repeats, in ascending order, by a sort of numbers before that of texts.
 //!
-//! Of most repeats one is left before any texts are sorted: numbers that are made of the names are sorted, and of equal
-//! names that then follow each other the first is taken. Different names may have one number, so some repeats may be left
-//! for the sort of texts, and no choice of names makes more than n log n comparisons of texts.
+//! Most repeats are removed before any texts are sorted: numbers made from the names are sorted, and only the first
+//! of consecutive equal names is kept. Different names may have one number, so some repeats may remain for the sort
+//! of texts. No choice of names makes more than n log n comparisons of texts.
 
 ghost use Rattle.std.specs.Prelude.{◌≡◌, ◌<◌, true, IfOk, All, get_or, length, map};
 ghost use Rattle.wc_dedupe.specs.Private.NameKeys.{AreKeys, Rise, name_key, number_from, tail_number};
@@ -11,14 +11,14 @@ ghost use Rattle.wc_dedupe.specs.Private.NamePositions.{names_of, Ascend, HavePo
 use crate::name_positions::{NamePositions, name_in, name_positions, push_new};
 use std::alloc::{AllocError, Global};
 
-/// By what the number of a module is multiplied: odd, with bits set all over.
+/// The factor for the number of a module: odd, with bits set all over.
 const FACTOR: u64 = 0x9e37_79b9_7f4a_7c15;
 
 /// How many bytes of a text count for its number.
 const TAIL: usize = 8;
 
-/// The names of a list without repeats, in ascending order, and where each is. Names are compared by their modules
-/// first. `keys`: those of the names, in ascending order.
+/// The names of a list without repeats, in ascending order, and the position of each. Names are compared by their
+/// modules first. `keys`: the keys of the names, in ascending order.
 pub(crate) fn known_names<'a>(
     alloc: Global,
     names: &[(&'a str, &'a str)],
@@ -109,7 +109,7 @@ fn number_of(bytes: &[u8]) -> u64
     number
 }
 
-/// The names without those that follow an equal one in the order of their keys, and where each is.
+/// The names without those that follow an equal name in the order of their keys, and the position of each.
 fn placed<'a>(
     alloc: Global,
     names: &[(&'a str, &'a str)],

@@ -48,10 +48,10 @@ fn are_some_numbered(names: &[(&str, &str)]) -> bool
     false
 }
 
-/// Gives the next import a name. `position` is where its original name is among the known ones. `numbers` has for each
-/// known name 0 while no import has it; else a number from 2 on: with each smaller one from 2 after it, the name is that of
-/// an import already. `given` imports have names. The answer is the new name, `None` where the import keeps the original
-/// one. After an error nothing is known of `numbers`.
+/// Gives the next import a name. `position` is the index of its original name among the known names. `numbers` has 0
+/// for each known name while no import has it. Otherwise it has a number from 2 on: for each smaller number from 2
+/// on, an import already has the name with that number after it. `given` imports have names. The result is the new
+/// name, or `None` if the import keeps the original one. After an error, `numbers` may have any content.
 pub(crate) fn give(
     alloc: Global,
     known: Known<'_, '_>,

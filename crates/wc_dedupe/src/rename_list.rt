@@ -1,4 +1,4 @@
-//! Renamed imports, whose names stand one after another in one text.
+//! Renamed imports, whose names follow one another in one text.
 
 ghost use Rattle.std.specs.Prelude.{◌≡◌, ◌++◌, ◌∷◌, ◌==◌, ◌<◌, [], IfOk, OnOk, length, slice_get, slice_index_or, string_bytes};
 ghost use Rattle.std.specs.Option.{option_map};
@@ -20,8 +20,8 @@ pub struct Rename<'a> {
     pub name: &'a str,
 }
 
-/// Where the texts of a rename begin, which follow each other: its module, its original name and its new one; and where
-/// they end.
+/// The offsets at which the texts of a rename begin, one after another: its module, its original name and its new
+/// one; and the offset at which they end.
 #[derive(Clone, Copy)]
 pub(crate) struct Place {
     start: usize,
@@ -30,7 +30,7 @@ pub(crate) struct Place {
     end: usize,
 }
 
-/// Renamed imports, in order. Their names stand one after another in one text, so a rename takes no allocation of its own.
+/// Renamed imports, in order. Their names follow one another in one text, so a rename takes no allocation of its own.
 #[derive(Drop)]
 pub struct RenameList {
     texts: String,
@@ -68,7 +68,7 @@ impl RenameList {
         self.places.len()
     }
 
-    /// Whether there are none.
+    /// Whether the list is empty.
     pub fn is_empty(&self) -> bool
         ensures { result ≡ (length self.now == 0) }
     {
@@ -112,7 +112,7 @@ impl RenameList {
     }
 }
 
-/// Appends the texts of a rename, and answers where they are.
+/// Appends the texts of a rename, and returns their offsets.
 fn push_texts(
     texts: &mut String,
     module: &str,

@@ -10,7 +10,8 @@ use crate::rename_list::RenameList;
 use std::alloc::{AllocError, Global};
 use std::cmp::Ordering;
 
-/// The keys of the renames' new names, in ascending order: those of one number in that of their modules and names.
+/// The keys of the renames' new names, in ascending order; keys with one number are in the order of their modules and
+/// names.
 pub(crate) fn rename_order(
     alloc: Global,
     renames: &RenameList,
@@ -36,7 +37,7 @@ fn new_keys(alloc: Global, renames: &RenameList) -> Result<Vec<(u64, usize)>, Al
     Ok(keys)
 }
 
-/// The index of a rename to this name in this module, where there is one. `order` has the keys in their order.
+/// The index of the rename to this name in this module, if it exists. `order` has the keys in their order.
 pub(crate) fn find(
     renames: &RenameList,
     order: &[(u64, usize)],
@@ -54,8 +55,8 @@ pub(crate) fn find(
     }
 }
 
-/// How the new name that has a key compares to one that has another: by their numbers, and by themselves where these are
-/// equal.
+/// How the new name with one key compares to the new name with another: by their numbers, and if these are equal, by
+/// the names.
 fn keys_compared(renames: &RenameList, one: (u64, usize), other: (u64, usize)) -> Ordering
     ensures { result ≡ key_cmp renames.now one other.0
         (name_at renames.now other.1) }

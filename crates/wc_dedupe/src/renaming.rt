@@ -39,8 +39,8 @@ impl Model for ModuleImportMap {
 }
 
 impl ModuleImportMap {
-    /// The original name of an import of the renamed module, by its module and its name; its type is not looked at.
-    /// `None` where no import was renamed to that name. It does not allocate.
+    /// The original name of an import of the renamed module, by its module and its name; its type is ignored. `None`
+    /// if no import was renamed to that name. It does not allocate.
     pub fn original_name(&self, import: &Import<'_>) -> Option<&str>
         ensures { option_map (λ s. s.now) result
             ≡ original_in self.now import.now.module.now import.now.name.now }
@@ -62,8 +62,8 @@ impl ModuleImportMap {
     }
 }
 
-/// The renaming of a list of imports: the renames, and for each import the index of its rename, `None` where it
-/// keeps its name.
+/// The renaming of a list of imports: the renames, and for each import the index of its rename, or `None` if it keeps
+/// its name.
 #[derive(Drop)]
 pub(crate) struct Renaming {
     pub(crate) map: ModuleImportMap,
@@ -103,8 +103,8 @@ fn unrenamed(alloc: Global, names: &[(&str, &str)]) -> Result<Renaming, AllocErr
     })
 }
 
-/// The renames of imports of these names, which have these positions among the known ones, and for each import the index
-/// of its rename.
+/// The renames of imports with these names, which have these positions among the known names, and for each import the
+/// index of its rename.
 fn rename_each(
     alloc: Global,
     names: &[(&str, &str)],
@@ -130,7 +130,7 @@ fn rename_each(
     Ok((renames, indices))
 }
 
-/// Appends the rename of an import to its new name, where it has one, and answers the index of that rename.
+/// Appends the rename of an import to its new name, if it has one, and returns the index of that rename.
 fn push_rename(
     renames: &mut RenameList,
     original: (&str, &str),

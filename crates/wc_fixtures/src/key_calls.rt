@@ -47,7 +47,7 @@ pub(crate) fn answer_track(alloc: Global, row: &Row<'_>, out: &mut Lines) -> Res
     Ok(())
 }
 
-/// `function_clone`: the copy of a function, which is asked about; `legacy_core_export_name [INTERFACE]`: the name of its
+/// `function_clone`: a question about the copy of a function; `legacy_core_export_name [INTERFACE]`: the name of its
 /// export.
 pub(crate) fn answer_function(alloc: Global, row: &Row<'_>, out: &mut Lines) -> Result<(), Stop> {
     let function: Function = asked_of(alloc, row, out)?;

@@ -7,7 +7,8 @@ use wc_lines::input::{Stop, bad_row};
 use wc_lines::lines::Lines;
 use wc_resolve::{Function, LiveTypes, Resolve, ResolveFault, TypeId, WitType, WorldItem};
 
-/// `add_type_id TYPE-ID`. Where memory runs out, what is kept begins with what was there, and the whole with what is kept.
+/// `add_type_id TYPE-ID`. If memory runs out, the old list is the beginning of the kept list, and the kept list is
+/// the beginning of the whole one.
 fn add_type_id(
     alloc: Global,
     resolve: &Resolve,
@@ -79,14 +80,15 @@ fn add_func(
     Ok(live.add_func(resolve, &function)?)
 }
 
-/// The lists of a script: the types that it adds to, and those that are known.
+/// The lists of a script: the types that it adds to, and the known types.
 #[derive(Drop)]
 struct Lists {
     known: LiveTypes,
     live: LiveTypes,
 }
 
-/// `add_world_item ITEM`, or `add_world_item_beside ITEM`, beside the known types: the types of an item of a world, as JSON.
+/// `add_world_item ITEM`, or `add_world_item_beside ITEM`, beside the known types: adds the types of an item of a
+/// world, which is JSON.
 fn add_world_item(
     alloc: Global,
     resolve: &Resolve,
@@ -109,7 +111,7 @@ fn add_world_item(
     Ok(())
 }
 
-/// A line of the script, after `do`: about the known types after the word `known`, and else about the others.
+/// A line of the script, after `do`: about the known types after the word `known`, otherwise about the others.
 fn step(
     alloc: Global,
     resolve: &Resolve,

@@ -10,7 +10,7 @@ use wc_lines::lines::Lines;
 use wc_names::NameMangling;
 use wc_resolve::AbiVariant;
 
-/// A word, and what was found, if something was.
+/// A word, and the found value, if any.
 fn put_found<T: Debug + Drop>(out: &mut Lines, word: &str, found: Option<T>) {
     if let Some(found) = found {
         write!(out, "{word} {found:?}");
@@ -50,8 +50,8 @@ fn put_others<N: NameMangling>(scheme: &N, name: &str, out: &mut Lines) {
     );
 }
 
-/// Whether `subtask.cancel` is lowered asynchronously; the resource or function in the name of a built-in, and the function
-/// that a name of a callback, a lift or a post-return is about.
+/// Whether `subtask.cancel` is lowered asynchronously; the resource or function in the name of a built-in, and the
+/// function in the name of a callback, a lift or a post-return.
 fn put_subjects<N: NameMangling>(scheme: &N, name: &str, out: &mut Lines) {
     if let Some(cancel) = scheme.subtask_cancel(name) {
         let lowered = cancel.async_lowered;
@@ -109,7 +109,7 @@ fn functions<N: NameMangling>(scheme: &N, name: &str, out: &mut Lines) {
     put_function(out, " interface ", own, abi);
 }
 
-/// Answers a call on the name of a line: `names`, `function_names`, or `env_import`, for which a type is after the name.
+/// Answers a call on the name of a line: `names`, `function_names`, or `env_import`, whose type follows the name.
 pub(crate) fn put_name_line<N: NameMangling>(
     alloc: Global,
     scheme: &N,

@@ -12,7 +12,7 @@ use wc_lines::values::put_fault;
 use wc_read::{FuncType, ValType};
 use wc_resolve::{InterfaceId, Resolve, WorldKey};
 
-/// The value that was made. Where there is none, the fault is the answer.
+/// The value that was made. Without a value, the fault is the answer.
 pub fn made<T: Drop, F: Display + Drop>(made: Result<T, F>, out: &mut Lines) -> Result<T, Stop> {
     match made {
         Ok(value) => Ok(value),
@@ -41,7 +41,8 @@ fn put_numbered(text: &mut String, copied: &str, number: u32) -> Result<(), Allo
     Ok(())
 }
 
-/// Appends copies of a text: `FIRST COUNT TEXT`. In the first each `@` is the number FIRST, and one more in each after it.
+/// Appends copies of a text: `FIRST COUNT TEXT`. Each `@` becomes a number: FIRST in the first copy, and one more in
+/// each copy after it.
 fn put_copies(text: &mut String, line: &str, out: &mut Lines) -> Result<(), Stop> {
     let (first, rest) = line.split_once(' ').unwrap_or((line, ""));
     let (count, copied) = rest.split_once(' ').unwrap_or((rest, ""));
@@ -84,7 +85,7 @@ pub fn asked_of<T: FromJson>(alloc: Global, row: &Row<'_>, out: &mut Lines) -> R
     Err(bad_row(out, "nothing is asked about", row.call))
 }
 
-/// A name: a text, as JSON where it begins with quotes.
+/// A name: a text, or JSON if it begins with quotes.
 pub fn name_of(alloc: Global, text: &str, out: &mut Lines) -> Result<String, Stop> {
     if text.starts_with('"') {
         return from_json(alloc, text, out);
@@ -110,7 +111,7 @@ pub fn key_of(alloc: Global, word: &str, out: &mut Lines) -> Result<WorldKey, St
     Ok(WorldKey::Name(name_of(alloc, word, out)?))
 }
 
-/// A text at its first space; the whole, where it has none.
+/// A text at its first space; without a space, the whole text.
 pub fn cut(text: &str) -> (&str, &str) {
     text.split_once(' ').unwrap_or((text, ""))
 }

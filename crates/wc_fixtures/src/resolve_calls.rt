@@ -1,4 +1,4 @@
-//! The calls on a `Resolve`: building one, what is at an index, and queries.
+//! The calls on a `Resolve`: building one, the part at an index, and queries.
 
 ghost use Rattle.std.specs.Prelude.{IsTrue};
 ghost use Rattle.wc_resolve.specs.Ranges.{IsItemIn};
@@ -150,7 +150,7 @@ fn put_of_interface(
     Ok(())
 }
 
-/// The text of a key. That of an interface has to have an id.
+/// The text of a key. A key that is an interface's id needs an interface with a name.
 fn put_key_name(
     alloc: Global,
     resolve: &Resolve,
@@ -167,7 +167,7 @@ fn put_key_name(
     Ok(())
 }
 
-/// The calls on an item of a world, which is asked about. Its key is the first argument.
+/// The calls that ask about an item of a world. Its key is the first argument.
 fn put_of_item(
     alloc: Global,
     resolve: &Resolve,
@@ -188,7 +188,7 @@ fn put_of_item(
     Ok(())
 }
 
-/// Whether what an item is of is there.
+/// Whether the part that an item names exists.
 pub(crate) fn is_usable(resolve: &Resolve, item: &WorldItem) -> bool
     ensures { IsTrue result → IsItemIn resolve.now (item_view item.now) }
 {
@@ -199,7 +199,7 @@ pub(crate) fn is_usable(resolve: &Resolve, item: &WorldItem) -> bool
     }
 }
 
-/// The calls on a function, which is asked about.
+/// The calls that ask about a function.
 fn put_of_function(
     alloc: Global,
     resolve: &Resolve,
@@ -270,7 +270,8 @@ pub(crate) fn on_resolve(alloc: Global, row: &Row<'_>, out: &mut Lines) -> Resul
     put_of_resolve(alloc, &resolve, row, out)
 }
 
-/// `resolve_build_with KEY`: builds the `Resolve` of a row, of which the first world imports under a key what is asked about.
+/// `resolve_build_with KEY`: builds the `Resolve` of a row, whose first world imports the item in question under a
+/// key.
 pub(crate) fn build_with(alloc: Global, row: &Row<'_>, out: &mut Lines) -> Result<(), Stop> {
     let key = key_of(alloc, row.argument(0), out)?;
     let item: WorldItem = asked_of(alloc, row, out)?;

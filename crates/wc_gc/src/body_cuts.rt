@@ -11,11 +11,11 @@ use wc_read::{Immediates, IndexKind, Instr, Opcode, Space};
 /// A body with fewer bytes is read again.
 const LEAST: usize = 32;
 
-/// How many bytes of bodies there have to be for each stretch past the spare ones. It takes 24 bytes of memory.
+/// How many bytes of bodies each stretch past the spare ones requires. It takes 24 bytes of memory.
 const BYTES_OF_STRETCH: usize = 48;
 
-/// How many stretches are spare for each function of the adapter. They take no more memory than the function itself, which
-/// is let go before the text is made.
+/// How many spare stretches there may be for each function of the adapter. They take no more memory than the function
+/// itself, which is dropped before the text is written.
 const SPARE: usize = 2;
 
 /// A stretch of a body: bytes that are the same under all indices under which memory 0 is memory 0, and the operator
@@ -40,17 +40,17 @@ pub struct BodyCut<'a> {
     pub stretches: Vec<Stretch<'a>>,
     /// The bytes that were passed after the last of them.
     pub run: &'a [u8],
-    /// Whether the stretches are all there: a body is read again where another operator names an item, or where the
-    /// stretches would take too much memory.
+    /// Whether all stretches are kept: a body is read again if another operator names an item, or if the stretches
+    /// would take too much memory.
     pub is_kept: bool,
     /// How many bytes there are for stretches of this body that are still to come.
     room: usize,
-    /// How many there are for those of the next body, if this one is not kept.
+    /// How many bytes are left for the stretches of the next body, if this one is not kept.
     spare: usize,
 }
 
 impl<'a> BodyCut<'a> {
-    /// No body of an adapter that has so many functions.
+    /// No body yet, for an adapter with this number of functions.
     pub fn new(alloc: Global, funcs: usize) -> BodyCut<'a> {
         BodyCut {
             stretches: Vec::new(alloc),
@@ -61,7 +61,7 @@ impl<'a> BodyCut<'a> {
         }
     }
 
-    /// Begins a body of so many bytes.
+    /// Begins a body of `size` bytes.
     #[inline(always)]
     pub fn begin(&mut self, size: usize)
         ensures { self.new.is_kept ≡ true →
@@ -124,7 +124,7 @@ impl<'a> BodyCut<'a> {
         })
     }
 
-    /// Adds a stretch, if all before it are there and there is room for it.
+    /// Adds a stretch, if all stretches before it are kept and it fits.
     #[inline(always)]
     fn add(&mut self, stretch: Stretch<'a>) -> Result<(), AllocError>
         ensures { OnOk result (self.new.is_kept ≡ true → (self.old.is_kept ≡ true)
@@ -160,7 +160,7 @@ pub struct BodyCuts<'a> {
 impl<'a> BodyCuts<'a> {
     ghost use Rattle.wc_gc.specs.Private.KeptBodies.{AreBodiesCut, KeepsBody, KeepsCuts, stretches_at};
 
-    /// Those of functions of which none was read. No body is kept where there is no place for it.
+    /// No stretches yet, for the first `places` functions. Bodies of other functions are not kept.
     pub fn new(alloc: Global, places: usize) -> Result<BodyCuts<'a>, AllocError>
         ensures { IfOk result (λ c. (funcs : ReadFuncs) → AreBodiesCut funcs c) }
     {
@@ -211,7 +211,7 @@ impl<'a> BodyCuts<'a> {
         self.current = BodyCut::new(alloc, 0);
     }
 
-    /// Where the stretches of the body of a function begin, and how many there are.
+    /// The index at which the stretches of the body of a function begin, and how many they are.
     fn span(&self, index: usize) -> (usize, usize)
         ensures within { result.0 + result.1 ≤ length self.now.stretches.items }
         ensures at { stretches_in self.now.stretches.items result ≡ stretches_at self.now index }
@@ -222,7 +222,7 @@ impl<'a> BodyCuts<'a> {
         }
     }
 
-    /// The stretches of the body of a function; none, where it has to be read again.
+    /// The stretches of the body of a function; none, if the body must be read again.
     pub fn cut(&self, index: usize) -> &[Stretch<'a>]
         ensures { result.now ≡ stretches_at self.now index }
     {
@@ -233,7 +233,7 @@ impl<'a> BodyCuts<'a> {
     }
 }
 
-/// No stretches for each of so many functions.
+/// No stretches, for this number of functions.
 fn no_spans(alloc: Global, count: usize) -> Result<Vec<(u32, u32)>, AllocError>
     ensures { IfOk result (λ v. v.items ≡ replicate count (0, 0)) }
 {

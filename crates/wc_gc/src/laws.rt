@@ -19,8 +19,8 @@ pub use crate::untouched_laws::{
     calls_keep_code, kept_items_have_chains, nothing_is_edited, untouched,
 };
 
-/// A body that can be spelled, as `wc_write::laws::body_text_read` asks, can be spelled under new indices that have 32
-/// bits where the old ones have; so can an initialiser (WebAssembly core specification, 5.4).
+/// A body that has an encoding, as `wc_write::laws::body_text_read` requires, has one under new indices that fit in
+/// 32 bits where the old ones do. So does an initialiser (WebAssembly core specification, 5.4).
 pub fn code_stays_spellable()
     ensures bodies { BodiesStaySpellable }
     ensures initialisers { InitialisersStaySpellable }
@@ -31,33 +31,34 @@ pub fn ranks_keep_bits()
     ensures { (kept : ItemIndex → Bool) → KeepsBits (rank kept) }
 {}
 
-/// No two items of a space, kept or added, have the same rank; ranks leave types, tables, memories and globals in their
-/// order, and of functions those that are imported and those that are defined.
+/// No two items of a space, kept or added, have the same rank. Ranks keep the order of types, tables, memories and
+/// globals. For functions, they keep the order of the imported ones and the order of the defined ones.
 pub fn ranks_are_ordered()
     ensures differ { (e : EditedModule) → RanksDiffer e }
     ensures order { (e : EditedModule) → RanksKeepOrder e }
 {}
 
-/// The text that `run` answers with Ok is read back: it spells the image that it is the text of, and no other module; the text of
-/// each of the image's bodies and initialisers spells it and no other (`wc_write::laws::text_read`; WebAssembly core
+/// The text that `run` returns is read back: it encodes the image whose text it is, and no other module. The text of
+/// each body and initialiser of the image encodes it, and no other (`wc_write::laws::text_read`; WebAssembly core
 /// specification, 5.5).
 pub fn trimmed_read()
     ensures { TrimmedIsRead }
 {}
 
-/// Where the kept items of a module are those of another under new indices, and name kept items alone, each of them
-/// unfolds in the other as in this one, at every depth: its entry, and in the place of each index the item named.
+/// Let the kept items of a module be items of another module under new indices, and name only kept items. Then each
+/// of them unfolds in the other module as in this one, at every depth: into its entry, with the named item instead of
+/// each index.
 pub fn renumbered_unfolds()
     ensures { RenumberedUnfolds }
 {}
 
-/// Where what the image of an edited adapter has is there, is code and names such items alone, each kept or added item
-/// unfolds at its rank in the image as it does in the edited adapter, at every depth.
+/// Let all items in the image of an edited adapter be in range, be code and name only such items. Then each kept or
+/// added item unfolds at its rank in the image as it does in the edited adapter, at every depth.
 pub fn image_unfolds()
     ensures { ImageUnfolds }
 {}
 
-/// Each item that the image of an adapter has that `run` trims is there, is code and names such items alone. So each kept
+/// Each item in the image of an adapter that `run` trims is in range, is code and names only such items. So each kept
 /// or added item unfolds in the image as it does in the edited adapter, at every depth.
 pub fn trimmed_unfolds()
     ensures closed { TrimmedIsClosed }

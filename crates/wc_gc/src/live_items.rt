@@ -28,17 +28,17 @@ use wc_texts::Refused;
 pub struct Liveness<L> {
     /// The items, by their spaces.
     pub live: LiveSets<L>,
-    /// How many items were taken up to be gone through.
+    /// How many items were visited.
     pub turns: u64,
 }
 
-/// The items that the required exports of an adapter reach: those that they name, and those that a reached item names.
-/// A function names its type and what its body names, a global what its initialiser names. Each reached item is taken
-/// up once. Bodies that are not reached are not read.
+/// The items that the required exports of an adapter reach: the items that they name, and the items that a reached
+/// item names. A function names its type and the items in its body, a global the items in its initialiser. Each
+/// reached item is visited once. Bodies that are not reached are not read.
 ///
 /// # Errors
 ///
-/// Of several causes the first in this order is named; `Memory` may come in place of any.
+/// If several causes apply, the first in this order is named; `Memory` may come instead of any.
 ///
 /// - `Read`: the bytes are no module; the fault of `read_module`.
 /// - `MissingExport`: a required name is not exported; the first of them.
@@ -77,8 +77,8 @@ pub struct Reached<'a, L> {
     pub cuts: BodyCuts<'a>,
 }
 
-/// The exports that are kept of a module that was read, and its live items, in sets of any kind. The search marks what it
-/// finds by bits. Of live bodies those of the first so many functions are kept as they were cut.
+/// The kept exports of a module that was read, and its live items, in sets of any kind. The search marks found items
+/// by bits. It keeps the stretches of live bodies among the first `places` functions.
 pub fn find_live_in<'a, L: LiveSet>(
     alloc: Global,
     adapter: &Module<'a>,
@@ -111,7 +111,7 @@ pub fn find_live_in<'a, L: LiveSet>(
     })
 }
 
-/// The exports that are kept, where there is nothing that is not supported.
+/// The kept exports, if the adapter has no unsupported section.
 fn supported_exports<'a>(
     alloc: Global,
     adapter: &Module<'a>,

@@ -54,7 +54,7 @@ pub struct StackBody {
     pub state: Option<u32>,
 }
 
-/// By what the bodies of live functions of the adapter are written.
+/// The tables by which the bodies of the adapter's live functions are written.
 #[derive(Clone, Copy)]
 pub struct OldBodies<'a, 'n> {
     /// The bodies, as they were cut.
@@ -64,11 +64,11 @@ pub struct OldBodies<'a, 'n> {
     pub call: Option<u32>,
 }
 
-/// The body of a live function of the adapter, to be written under new indices: by its stretches, if there are any; else
-/// its operators are read and written one after another, and none of them is kept.
+/// The body of a live function of the adapter, for writing under new indices. It is written by its stretches, if it
+/// has any; otherwise its operators are read and written one after another, and none of them is kept.
 #[derive(Clone, Copy)]
 pub struct OldBody<'a, 'n> {
-    /// Bytes that spell a body.
+    /// Bytes that encode a body.
     pub bytes: &'a [u8],
     pub bodies: &'n OldBodies<'a, 'n>,
     /// The index of the function.
@@ -98,7 +98,7 @@ impl<'a, 'n> OldBody<'a, 'n> {
 /// The initialiser of a live global of the adapter, to be written under new indices.
 #[derive(Clone, Copy)]
 pub struct NewInit<'a, 'n> {
-    /// Bytes that spell an initialiser; where they spell none, nothing is written.
+    /// Bytes that encode an initialiser; if they encode none, nothing is written.
     pub bytes: &'a [u8],
     pub new: &'n NewIndices,
 }

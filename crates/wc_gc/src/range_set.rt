@@ -13,11 +13,11 @@ use std::alloc::{AllocError, Global};
 
 /// A set of numbers as sorted ranges, each from its first number to its last, that neither overlap nor touch.
 ///
-/// The ranges lie one after another in memory. `insert` takes the same time for each number that is past all others, so
-/// it takes time in proportion to `n` for `n` numbers in ascending order. Any other number takes a search, and moves the
-/// ranges after it by one place, or back where two become one: `n` numbers that do not touch take `n * n / 2` moves of
-/// eight bytes in descending order, and half of that in random order. `extend` puts in many numbers in any order, by a
-/// sort: its time grows as `n * log n`, where `n` is the number of ranges and of numbers together.
+/// The ranges are contiguous in memory. `insert` takes constant time for a number above all others, so `n` numbers in
+/// ascending order take time proportional to `n`. For any other number it searches, and moves the ranges after it by
+/// one position, or back if two ranges become one. For `n` numbers that do not touch, these are `n * n / 2` moves of
+/// eight bytes in descending order, and half as many in random order. `extend` adds many numbers in any order, by
+/// sorting: its time grows as `n * log n`, where `n` counts ranges and new numbers together.
 #[derive(Debug, Drop)]
 pub struct RangeSet {
     ranges: Vec<(u32, u32)>,

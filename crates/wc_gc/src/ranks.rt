@@ -8,7 +8,7 @@ ghost use Rattle.wc_gc.specs.Private.RangeSet.{AreStarts, IsCut};
 use crate::range_set::{has_at, range_near};
 use std::alloc::{AllocError, Global};
 
-/// In how many ranges a number is looked for, from where it may be on, before all are searched.
+/// How many ranges are tried for a number, from its block on, before all are searched.
 const NEAR: usize = 9;
 
 /// How many numbers a block has at least. No more than eight ranges end in one that has no more.
@@ -37,7 +37,7 @@ pub struct Ranks {
 impl Ranks {
     ghost use Rattle.wc_gc.specs.Ranks.{has_number, rank_of};
 
-    /// Those of the numbers in ranges.
+    /// The ranks of the numbers in these ranges.
     pub(crate) fn of_ranges(alloc: Global, ranges: &[(u32, u32)]) -> Result<Ranks, AllocError>
         requires { AreRanges ranges.now }
         ensures { IfOk result (λ r. r.ranges.items ≡ ranges.now) }
@@ -76,8 +76,8 @@ impl Ranks {
         has_at(&self.ranges, range_near(&self.ranges, x), x)
     }
 
-    /// How many numbers of the set are below one. It is looked for in at most ten ranges, from where its block begins on;
-    /// if it is in none of them, all are searched, as `rank_counted` does.
+    /// How many numbers of the set are less than `x`. The search tries at most ten ranges, from the block of `x` on.
+    /// If `x` is in none of them, it searches all ranges, as `rank_counted` does.
     pub fn rank(&self, x: u32) -> u32
         ensures { result ≡ rank_of self.now x }
     {
@@ -111,8 +111,8 @@ impl Ranks {
         }
     }
 
-    /// The rank of a number, and with how many ranges it was compared: of one in the set with those that end before it in
-    /// its block, and twice with its own, if they are few.
+    /// The rank of a number, and how many comparisons with ranges it took. For a number in the set these are one for
+    /// each range that ends before it in its block, and two for its own range, if they are few.
     #[inline(always)]
     fn rank_near(&self, x: u32) -> (u32, u32)
         ensures rank { result.0 ≡ rank_of self.now x }
@@ -132,8 +132,8 @@ impl Ranks {
         }
     }
 
-    /// From the start of its block on the index of the first range that does not end before a number, if it is one of the
-    /// next, and with how many ranges the number was compared.
+    /// The index of the first range that does not end before a number, if it is one of the next ranges from the start
+    /// of the number's block on; and with how many ranges the number was compared.
     #[inline(always)]
     fn position(&self, start: usize, x: u32) -> (usize, u32)
         requires { IsCut (x / self.now.block * self.now.block) self.now.ranges.items start }
@@ -224,7 +224,7 @@ impl Ranks {
     }
 }
 
-/// How many numbers a block has: so many that there are hardly more blocks than ranges.
+/// How many numbers a block has: enough that there are hardly more blocks than ranges.
 fn block_of(ranges: &[(u32, u32)]) -> usize
     ensures { 0 < result }
 {

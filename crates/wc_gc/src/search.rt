@@ -78,7 +78,7 @@ impl<L: LiveSet> Search<L> {
         Ok(())
     }
 
-    /// Finds an item, at once where it was found before.
+    /// Finds an item, at once if it was found before.
     #[inline(always)]
     fn reach_again(&mut self, item: (Space, u32)) -> Result<(), AllocError>
         ensures { OnOk result (FindsItems L.has self.old self.new (item ∷ [])) }
@@ -90,7 +90,7 @@ impl<L: LiveSet> Search<L> {
         }
     }
 
-    /// Finds an item where the adapter has it, and answers whether it has.
+    /// Finds an item if the adapter has it, and returns whether it has.
     fn reach_present(
         &mut self,
         adapter: &Module<'_>,
@@ -108,7 +108,8 @@ impl<L: LiveSet> Search<L> {
         Ok(there)
     }
 
-    /// Finds a function where the adapter has it, and answers whether it has: most operators that name an item are calls.
+    /// Finds a function if the adapter has it, and returns whether it has: most operators that name an item are
+    /// calls.
     #[inline(always)]
     fn reach_called(&mut self, adapter: &Module<'_>, number: u32) -> Result<bool, AllocError>
         ensures found { OnOk result (FindsItems L.has self.old self.new
@@ -214,7 +215,8 @@ impl<L: LiveSet> Search<L> {
         }
     }
 
-    /// Finds the item that an index names. Answers whether it names one of the adapter, or neither an item nor a segment.
+    /// Finds the item that an index names. Returns whether the index names an item of the adapter, or neither an item
+    /// nor a segment.
     #[inline(always)]
     fn reach_index(&mut self, adapter: &Module<'_>, index: Index) -> Result<bool, AllocError>
         ensures found { OnOk result (FindsItems L.has self.old self.new
@@ -246,8 +248,9 @@ impl<L: LiveSet> Search<L> {
         Ok(types && items && !names_segment(instr))
     }
 
-    /// The next operator of a body that may name an item that was not found. Operators that name nothing are passed
-    /// over, and once memory 0 is found, so are those that name nothing else; their bytes are the run of the cut.
+    /// The next operator of a body that may name an item that was not found. Operators that name nothing are skipped,
+    /// and once memory 0 is found, so are operators that name only memory 0. The skipped bytes are the run of the
+    /// cut.
     #[inline(always)]
     fn next_unknown<'a>(
         &self,
@@ -379,8 +382,8 @@ impl<L: LiveSet> Search<L> {
         Ok(())
     }
 
-    /// Finds the items that the initialiser names that bytes spell; none, where they spell none. Most that name an item
-    /// have one operator.
+    /// Finds the items that an initialiser names; none, if the bytes encode no initialiser. Most initialisers that
+    /// name an item have one operator.
     fn reach_init(
         &mut self,
         alloc: Global,
@@ -399,7 +402,7 @@ impl<L: LiveSet> Search<L> {
         }
     }
 
-    /// Finds the items that an initialiser of any operators names; none, where the bytes spell none.
+    /// Finds the items that an initialiser of any operators names; none, if the bytes encode no initialiser.
     #[inline(never)]
     fn reach_any_init(
         &mut self,
@@ -576,7 +579,7 @@ impl<L: LiveSet> Search<L> {
         self.reach_and_cut(alloc, adapter, item, &mut cuts)
     }
 
-    /// Finds what roots reach, keeps bodies as they were cut, and answers how many items were taken up.
+    /// Finds the items that roots reach, keeps the stretches of bodies, and returns how many items were visited.
     pub fn reach_all<'a>(
         &mut self,
         alloc: Global,

@@ -34,10 +34,11 @@ use wc_read::{Module, read_module_explained};
 use wc_texts::Refused;
 use wc_write::laws::slices_are_bytes;
 
-/// Trims an adapter: its required exports, and of its items those that they reach, in their order, each index replaced
-/// by the item's rank among these. Exports that are not required are taken out one after another, in their order; the
-/// last one takes the index of each. Bodies that are not reached are not read. Numbers are written as minimal LEB128,
-/// runs of locals and the content of producers as they were; names of globals and other custom sections are left out.
+/// Trims an adapter to its required exports and the items that they reach. The items keep their order, and each index
+/// becomes the item's rank among them. Exports that are not required are removed one after another, in their order,
+/// and each time the last export moves to the free index. Bodies that are not reached are not read. Numbers are
+/// written as minimal LEB128. Runs of locals and the content of producers stay unchanged; names of globals and other
+/// custom sections are left out.
 ///
 /// A live import of `cabi_realloc` or `canonical_abi_realloc` from `__main_module__` takes the name
 /// `main_module_realloc`; without that name it becomes a function of the adapter that grows memory, as
@@ -50,16 +51,17 @@ use wc_write::laws::slices_are_bytes;
 ///   called or not.
 /// - With `main_module_realloc` and another such global named `allocation_state`, each defined function that a required
 ///   export names begins with a call of the code, which is added after all functions.
-/// - Otherwise, if a memory is live, the code is the start function, added last. A function that grows memory is added
-///   before it where no global has the state, or where there is neither `main_module_realloc` nor a live realloc import.
-/// - The code calls the function that is added to grow memory, else the last live realloc import, else the import that
-///   is added.
-/// - The types of what is added come after the live ones. The start function is of the last live type without parameters
-///   and results, if there is one.
+/// - Otherwise, if a memory is live, the code is the start function, added last. A function that grows memory is
+///   added before it if no global has the state, or if there is neither `main_module_realloc` nor a live realloc
+///   import.
+/// - The code calls the added function that grows memory, or without it the last live realloc import, or without this
+///   the added import.
+/// - The types of added functions come after the live ones. The start function has the last live type without
+///   parameters and results, if one exists.
 ///
 /// # Errors
 ///
-/// Of several causes the first in this order is named; `Memory` may come in place of any.
+/// If several causes apply, the first in this order is named; `Memory` may come instead of any.
 ///
 /// - `Read`: the bytes are no module; the fault of `read_module`.
 /// - `MissingExport`: a required name is not exported; the first of them.

@@ -30,7 +30,7 @@ use wc_texts::Refused;
 /// The part of an adapter that a fault of trimming is about.
 #[derive(Clone, Copy, Debug, PartialEq, Eq)]
 pub enum TrimPlace {
-    /// The byte at which it stops to be a module.
+    /// The offset at which the adapter is malformed.
     Bytes(ReadPlace),
     /// A section.
     Section {
@@ -39,11 +39,11 @@ pub enum TrimPlace {
     },
     /// The body of a function.
     Body {
-        /// The function's index, among those that are imported and those that are defined.
+        /// The function's index, among imported and defined functions.
         function: u32,
-        /// The first operator that names a segment or an index that is out of range, by its number in the body: 0 is
-        /// the first, and each `else` and `end` counts. `None` where the body is no code, or where a type of its
-        /// locals alone is out of range.
+        /// The first operator that names a segment or an index out of range, by its number in the body: 0 is the
+        /// first, and each `else` and `end` counts. `None` if the body is no code, or if only a type of its locals is
+        /// out of range.
         operator: Option<usize>,
     },
 }
@@ -76,21 +76,21 @@ impl fmt::Display for TrimPlace {
     }
 }
 
-/// Trims an adapter as `run` does, and says of one that is refused what the fault is about:
+/// Trims an adapter as `run` does. If it is refused, the result says which part the fault is about:
 ///
-/// - `Read` is about the byte at which the adapter stops to be a module (`wc_read::read_module_explained`);
-/// - `UnsupportedSection` is about the first section, in the order of the bytes, that is of the start function (its id
-///   is 8), of elements (9), of a data count (12) or of data (11);
-/// - `LiveBody` is about the body of a function that the required exports reach, and that is no code or names a segment
-///   or an index that is out of range: of several such functions one.
+/// - `Read` is about the offset at which the adapter is malformed (`wc_read::read_module_explained`);
+/// - `UnsupportedSection` is about the first section, in the order of the bytes, that has the start function (id 8),
+///   elements (9), a data count (12) or data (11);
+/// - `LiveBody` is about the body of a function that the required exports reach. The body is no code, or names a
+///   segment or an index out of range. If several functions have such bodies, it is about one of them.
 ///
-/// The other faults have no place: `Memory` and `TooLarge` are about the adapter as a whole; `MissingExport` has its name;
-/// `SeveralNamed`, `LiveTable`, `SeveralMemories`, `LocalMemory`, `ReallocType` and `ReallocMemory` are about the items
-/// that are live.
+/// The other faults have no position: `Memory` and `TooLarge` are about the adapter as a whole; `MissingExport` has
+/// its name; `SeveralNamed`, `LiveTable`, `SeveralMemories`, `LocalMemory`, `ReallocType` and `ReallocMemory` are
+/// about live items.
 ///
 /// # Errors
 ///
-/// Those of `run`. `Memory` comes too where there is no memory to find the place of another fault.
+/// The faults of `run`. `Memory` also comes if an allocation for the position of another fault fails.
 pub fn run_explained(
     alloc: Global,
     wasm: &[u8],
@@ -116,12 +116,12 @@ pub fn run_explained(
     trim::<RangeSet>(alloc, wasm, required, settings)
 }
 
-/// Why the imports of an adapter are live, as `why_imports` has it, and what the fault of a refused adapter is about, as
-/// `run_explained` has it.
+/// Why the imports of an adapter are live, as `why_imports` gives it. If the adapter is refused, the result says
+/// which part the fault is about, as `run_explained` does.
 ///
 /// # Errors
 ///
-/// Those of `why_imports`. `Memory` comes too where there is no memory to find the place of another fault.
+/// The faults of `why_imports`. `Memory` also comes if an allocation for the position of another fault fails.
 pub fn why_imports_explained<'a>(
     alloc: Global,
     wasm: &[u8],
@@ -178,8 +178,8 @@ pub fn first_unsupported(adapter: &Module<'_>) -> Option<u8>
     adapter.ids.first().copied()
 }
 
-/// Where an adapter has a place for a fault, `run` refuses it with this fault: the fault's cause is there, and the cause
-/// of none that is named before it.
+/// If an adapter has a position for a fault, `run` refuses it with this fault: the adapter has the fault's cause, and
+/// none of a fault that is named before it.
 pub fn places_are_of_faults()
     ensures { (s : SettingsView) (w : TrimInput) (f : GcFault) (p : TrimPlace) →
         IsPlace w f p → IsTrimFault s w f }

@@ -15,14 +15,15 @@ use std::alloc::{AllocError, Global};
 #[derive(Clone, Copy, Debug, PartialEq, Eq)]
 pub struct Alone {
     pub items: usize,
-    /// The sum of their sizes, or the largest number where it is larger.
+    /// The sum of their sizes, or the largest number if the sum is larger.
     pub size: usize,
 }
 
-/// For each set of sources, which are named by their positions: of some items, each with its size, those that sources reach, but
-/// that no item of a source reaches of which no source is in the set.
+/// For each set of sources, given by their positions: how many items are reached from it alone, and their size.
+/// `items` has the items that may count, each with its size. Such an item is reached from sources, but not from an
+/// item all of whose sources are outside the set.
 ///
-/// It takes the time of one `spread` for each 63 sets, and goes through the items for each set.
+/// It takes the time of one `spread` for each 63 sets, and visits the items once for each set.
 ///
 /// # Errors
 ///
@@ -48,7 +49,7 @@ pub fn reached_alone<G: Graph>(
     Ok(found)
 }
 
-/// Appends what is reached from the next 63 sets alone, of so many.
+/// Appends what is reached from the next sets alone: from 63 sets, or from fewer if `count` is reached.
 fn push_alone(
     alloc: Global,
     words: &[u64],
@@ -104,7 +105,7 @@ fn sizes_of(
     Ok(sizes)
 }
 
-/// Notes a size, if it is asked for.
+/// Appends a size, if requested.
 fn note_size(sizes: &mut Vec<usize>, is_asked: bool, size: usize) -> Result<(), AllocError>
     ensures { OnOk result (sizes.new.items
         ≡ sizes.old.items ++ (if is_asked then size ∷ [] else [])) }
@@ -126,7 +127,7 @@ fn is_alone(words: &[u64], bit: usize, item: usize) -> bool
     }
 }
 
-/// The sum of some numbers, or the largest number where it is larger.
+/// The sum of some numbers, or the largest number if the sum is larger.
 fn sum_of(sizes: &[usize]) -> usize
     ensures { result ≡ min (sum_by (λ n. n) sizes.now) (2 ^ 64 - 1) }
 {

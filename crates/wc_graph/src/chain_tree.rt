@@ -1,4 +1,4 @@
-//! The chains to some positions of what a search found, as a tree, which has each position once.
+//! The chains to some of the positions that a search found, as a tree with each position once.
 
 ghost use Rattle.std.specs.Prelude.{◌≡◌, ◌<◌, ◌≤◌, ℕ, All, IfOk, Some, None, length, slice_index_or};
 ghost use Rattle.wc_graph.specs.ChainTree.{IsChainTree, IsInside};
@@ -6,36 +6,38 @@ ghost use Rattle.wc_graph.specs.Private.ChainTree.{IsGrowth, IsGrown, IsGrownIf,
 
 use std::alloc::{AllocError, Global};
 
-/// Positions of what a search found, each once, and for each the place of its finder among them.
+/// Positions that a search found, each once, and for each the index of its finder among them.
 #[derive(Drop)]
 pub struct ChainTree {
-    /// The positions on the chains to some of them: those on the chain to the first, and then of each other those that are new.
+    /// The positions on the chains to the targets: first the chain to the first target, then the new positions on the
+    /// chain to each next target.
     pub order: Vec<usize>,
-    /// For each of them the place in `order` of its finder; `None` for a root.
+    /// For each of them the index of its finder in `order`; `None` for a root.
     pub from: Vec<Option<usize>>,
-    /// For each position to which a chain was asked for its place in `order`; `None` where none was given.
+    /// For each target its index in `order`; `None` for a target that is `None`.
     pub ends: Vec<Option<usize>>,
 }
 
-/// The growth of a tree: what it has so far.
+/// The tree while it grows.
 #[derive(Drop)]
 struct Growth {
     order: Vec<usize>,
     from: Vec<Option<usize>>,
-    /// For each position its place in `order`, if it is there.
+    /// For each position its index in `order`, if it is in it.
     places: Vec<Option<usize>>,
 }
 
-/// Positions that a tree does not have yet, on the chain to the first of them, each after what it found; and the place of the
-/// finder of the last, if it has one.
+/// Positions that a tree does not have yet, on the chain to the first of them, each after the position that it found;
+/// and the index of the finder of the last, if it has one.
 #[derive(Drop)]
 struct NewPart {
     new: Vec<usize>,
     after: Option<usize>,
 }
 
-/// The chains to some positions of what a search found, as a tree. Where `None` stands for one, there is none. `finder` has for each position that of its finder, which is
-/// no later; a root is its own. It takes time and memory linear in both.
+/// The chains to some of the positions that a search found, as a tree. A target that is `None` has no chain. `finder`
+/// has for each position the position of its finder, which is no later; a root is its own finder. The call takes time
+/// and memory linear in both lists.
 ///
 /// # Errors
 ///
@@ -64,7 +66,7 @@ pub fn tree_to(
     Ok(ChainTree { order, from, ends })
 }
 
-/// Adds the chain to a position, if there is one, and returns its place.
+/// Adds the chain to a position, unless it is `None`, and returns its index.
 fn add_if(
     alloc: Global,
     finder: &[usize],
@@ -85,7 +87,7 @@ fn add_if(
     }
 }
 
-/// Adds the chain to a position, and returns its place.
+/// Adds the chain to a position, and returns its index.
 fn add(
     alloc: Global,
     finder: &[usize],
@@ -129,7 +131,8 @@ fn new_part(
     })
 }
 
-/// Appends new positions, and returns the place of the first of them, or, where there are none, of the position that is there.
+/// Appends new positions, and returns the index of the first of them; without new positions, the index of the
+/// existing position.
 fn put_all(
     finder: &[usize],
     target: usize,
@@ -152,7 +155,7 @@ fn put_all(
     }
 }
 
-/// Appends a position, and returns its place.
+/// Appends a position, and returns its index.
 fn put(position: usize, after: Option<usize>, growth: &mut Growth) -> Result<usize, AllocError>
     requires { position < length growth.old.places.items }
     ensures { IfOk result (IsPut position after growth.old growth.new) }

@@ -26,8 +26,9 @@ impl Chains {
     ghost use Rattle.wc_graph.specs.OnChains.{AreMarkedTo};
     ghost use Rattle.wc_graph.specs.Private.Places.{is_missing_at, place_at};
 
-    /// The shortest chain from a root to an item, and of several the first, by the order of the roots, and then by that in
-    /// which each item names others; `None` where none leads there. It takes time and memory for the items of this chain.
+    /// The shortest chain from a root to an item; `None` if no chain leads there. If several are shortest, it is the
+    /// first in the order of the roots, and then in the order in which each item names others. It takes time and
+    /// memory linear in the length of this chain.
     ///
     /// # Errors
     ///
@@ -45,8 +46,8 @@ impl Chains {
         }
     }
 
-    /// For each item whether it is on the shortest chain to one of some items. It takes time and memory linear in the graph and
-    /// in these items, however long their chains are.
+    /// For each item whether it is on the shortest chain to one of some items. It takes time and memory linear in the
+    /// graph and in these items, however long their chains are.
     ///
     /// # Errors
     ///
@@ -81,14 +82,14 @@ impl Chains {
         &self.tree.finder
     }
 
-    /// The position of an item among them; `None` where no root reaches it.
+    /// The position of an item among the found items; `None` if no root reaches it.
     pub fn place(&self, item: usize) -> Option<usize>
         ensures { result ≡ place_at self.now.places.items item }
     {
         place_at(&self.places, item)
     }
 
-    /// Those of some items to which no chain leads, in order.
+    /// The items among these to which no chain leads, in order.
     pub fn missing_of(&self, alloc: Global, items: &[usize]) -> Result<Vec<usize>, AllocError>
         ensures { IfOk result (λ v. v.items
             ≡ filter (is_missing_at self.now.places.items) items.now) }
@@ -96,12 +97,12 @@ impl Chains {
         missing_of(alloc, &self.places, items)
     }
 
-    /// Finds what roots reach, with the chains that lead there. It takes time and memory linear in what is reached, and memory
-    /// linear in the graph.
+    /// Finds the items that roots reach, with the chains that lead there. It takes time and memory linear in the
+    /// reached part of the graph, and memory linear in the graph.
     ///
     /// # Errors
     ///
-    /// - `NotClosed`: an item that is reached names items that are not there.
+    /// - `NotClosed`: a reached item names an item that does not exist.
     /// - `Memory`: an allocation failed.
     pub fn find<G: Graph>(alloc: Global, graph: &G, roots: &[usize]) -> Result<Chains, SearchFault>
         requires { All (λ x. x < G.size graph.now) roots.now }

@@ -12,14 +12,14 @@ use crate::search::{Graph, SearchFault, find_all};
 use crate::tree::{Tree, positions_of};
 use std::alloc::{AllocError, Global};
 
-/// For each item of a graph whether it is a dominator of targets: an item through which each path from a root to any target
-/// goes, and no target itself. Where no path leads to a target, none is.
+/// For each item of a graph whether it is a dominator of targets: each path from a root to any target goes through
+/// it, and it is no target itself. If no path leads to a target, there are no dominators.
 ///
-/// It takes time linear in what the roots reach, and memory linear in the graph.
+/// It takes time linear in the part of the graph that the roots reach, and memory linear in the graph.
 ///
 /// # Errors
 ///
-/// - `NotClosed`: an item that is reached names items that are not there.
+/// - `NotClosed`: a reached item names an item that does not exist.
 /// - `Memory`: an allocation failed.
 pub fn dominators_in<G: Graph>(
     alloc: Global,
@@ -41,7 +41,7 @@ pub fn dominators_in<G: Graph>(
     }
 }
 
-/// The dominators of targets, by what the roots reach.
+/// The dominators of targets, by the items that the roots reach.
 fn dominators_by<G: Graph>(
     alloc: Global,
     graph: &G,
@@ -85,7 +85,7 @@ fn chain_to_first(
     }
 }
 
-/// The marks of so many items of which none is a dominator.
+/// The marks of a number of items, none of which is a dominator.
 fn no_dominators(alloc: Global, size: usize) -> Result<Vec<bool>, AllocError>
     ensures { IfOk result (λ v. v.items ≡ replicate size false) }
 {

@@ -1,9 +1,9 @@
-//! Which items of a way are on all paths from roots to targets.
+//! Which items of one path, the way, are on all paths from roots to targets.
 //!
-//! One search has them all. It begins at the roots, and goes on from no item of the way and from no target; `last` is the
-//! last position of the way that it has come upon, and a target counts as the last of all. For each position k, once nothing
-//! is left to go on from: where `last` is k, no path goes round the item at k, and it is marked. Then the search goes on
-//! from that item.
+//! One search finds them all. It begins at the roots, and stops at each item of the way and at each target. `last` is
+//! the last position of the way that it has met; a target counts as the last of all. For each position k in turn,
+//! once the search is exhausted: if `last` is k, no path avoids the item at k, and the item is marked. Then the
+//! search goes on from that item.
 
 ghost use Rattle.std.specs.Prelude.{◌≡◌, List, ℕ, ◌+◌, ◌-◌, ◌<◌, ◌≤◌, ◌⊎◌, All, IfOk, OnOk, length};
 ghost use Rattle.wc_graph.specs.Private.Fronts.{BeginsFront, IsReady, KeepsFront};
@@ -18,7 +18,7 @@ use std::alloc::{AllocError, Global};
 #[derive(Drop)]
 pub(crate) struct Front {
     search: Search,
-    /// For each item its position in the way, if it is there; a target has that of the last.
+    /// For each item its position in the way, if it is on it; a target has the last position.
     positions: Vec<Option<usize>>,
     /// How many of the items that were found were passed.
     next: usize,
@@ -87,8 +87,8 @@ impl Front {
     }
 }
 
-/// Which items of a way are marked: those that are on all paths from roots to targets, and are no targets themselves. It
-/// takes time linear in what the roots reach, and memory linear in the graph.
+/// Which items of a way are marked: those on all paths from roots to targets that are no targets themselves. It takes
+/// time linear in the part of the graph that the roots reach, and memory linear in the graph.
 ///
 /// # Errors
 ///
@@ -119,7 +119,7 @@ pub fn find_dominators<G: Graph>(
     Ok(marks)
 }
 
-/// For each item its position in a way, if it is there; for each target that of the last.
+/// For each item its position in a way, if it is on it; for each target the last position.
 fn way_positions<G: Graph>(
     alloc: Global,
     graph: &G,
@@ -158,7 +158,8 @@ fn later(last: usize, position: usize) -> usize
     if position > last { position } else { last }
 }
 
-/// How many items of a chain there are up to the first target; `places`: the positions of targets.
+/// How many items a chain has up to and with its first target; all, if it has no target. `places`: the positions of
+/// targets.
 pub fn up_to_first(places: &[Option<usize>], chain: &[usize]) -> usize
     requires { All (λ x. x < length places.now) chain.now }
     ensures { (targets : List ℕ) (size : ℕ) → ArePlaces targets size places.now

@@ -7,7 +7,7 @@ ghost use Rattle.wc_graph.specs.Private.Labels.{AreNoted, Comes, IsJoined, IsNot
 use crate::search::Graph;
 use std::alloc::{AllocError, Global};
 
-/// Labels on their way: those that have come to each item, and the items that have yet to pass theirs on.
+/// Labels while they spread: the labels that have come to each item, and the items that have yet to pass theirs on.
 #[derive(Drop)]
 struct Spreading {
     words: Vec<u64>,
@@ -15,7 +15,7 @@ struct Spreading {
 }
 
 impl Spreading {
-    /// Adds labels to those of an item. It waits if it had not all of them.
+    /// Adds labels to the labels of an item. The item waits if it lacked one of them.
     fn add(&mut self, item: usize, word: u64) -> Result<(), AllocError>
         requires { item < vec_len self.old.words }
         ensures come { OnOk result (Comes word (item ∷ []) self.old self.new) }
@@ -31,7 +31,7 @@ impl Spreading {
         }
     }
 
-    /// Adds labels to those of some items.
+    /// Adds labels to the labels of some items.
     fn add_each(&mut self, items: &[usize], word: u64) -> Result<(), AllocError>
         requires { All (λ x. x < vec_len self.old.words) items.now }
         ensures come { OnOk result (Comes word items.now self.old self.new) }
@@ -43,7 +43,7 @@ impl Spreading {
         Ok(())
     }
 
-    /// Passes the labels of an item on to those that it names.
+    /// Passes the labels of an item on to the items that it names.
     fn pass_on<G: Graph>(&mut self, alloc: Global, graph: &G, item: usize) -> Result<(), AllocError>
         requires size { vec_len self.old.words ≡ G.size graph.now }
         requires there { item < G.size graph.now }
@@ -89,10 +89,12 @@ fn note(waiting: &mut Vec<usize>, item: usize, word: u64) -> Result<(), AllocErr
     Ok(())
 }
 
-/// For each item the labels of all items from which a path leads to it: an item is labelled with the bits of a word, and a path
-/// of no steps leads from an item to itself. So one call says of 64 sets of items what each of them reaches.
+/// For each item the labels of all items from which a path leads to it. The labels of an item are the bits of its
+/// word, and a path of no steps leads from an item to itself. So one call says for 64 sets of items which items each
+/// set reaches.
 ///
-/// An item passes its labels on at most 65 times, so the time is at most that many times the names of all items.
+/// An item passes its labels on at most 65 times, so the time is at most 65 times the number of all items'
+/// references.
 ///
 /// # Errors
 ///

@@ -11,8 +11,9 @@ use crate::marks::{gather, has_label, labels_at};
 use crate::search::Graph;
 use std::alloc::{AllocError, Global};
 
-/// For each of so many owners the positions of the sources that lead to one of its items, in ascending order: of each source its
-/// item, and of each item its owner, if there is one. An item leads to itself.
+/// For each of `count` owners the positions of the sources that lead to one of its items, in ascending order.
+/// `sources` has the item of each source, and `owners` the owner of each item, if it has one. An item leads to
+/// itself.
 ///
 /// It takes the time of one `spread` for each 64 sources.
 ///

@@ -1,5 +1,7 @@
-//! Graphs of numbered items: what roots reach, the shortest chain to each item, trees of chains, dominators, and labels that are
-//! spread from items.
+//! Graphs of numbered items, and searches of them.
+//!
+//! They give the items that roots reach, the shortest chain to each item, trees of chains, dominators, and labels
+//! that spread from items.
 #![tactic(auto)]
 
 mod alone;

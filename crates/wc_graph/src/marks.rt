@@ -9,7 +9,7 @@ ghost use Rattle.wc_graph.specs.Private.Marks.{AreGathered, AreLabelsAt, AreLabe
 
 use std::alloc::{AllocError, Global};
 
-/// Adds the labels of a word to those of an item, if there is one.
+/// Adds the labels of a word to the labels of an item, unless it is `None`.
 fn join(words: &mut Vec<u64>, item: Option<usize>, word: u64)
     requires { (x : ℕ) → item ≡ Some x → x < length words.old.items }
     ensures { IsJoined item word words.old.items words.new.items }
@@ -38,7 +38,7 @@ pub(crate) fn has_label(word: u64, bit: usize) -> bool
     (word >> bit) & 1 == 1
 }
 
-/// Where so many things at most end, of a row of so many, from a position on.
+/// The end of at most `most` elements from a position on, in a list of `count`.
 pub(crate) fn end_of(start: usize, most: usize, count: usize) -> usize
     requires { start ≤ count }
     ensures { result ≡ min (start + most) count }
@@ -108,7 +108,8 @@ fn source_at(sources: &[Option<usize>], position: usize) -> Option<usize>
     }
 }
 
-/// The labels of up to 63 sets of sources from a position on, each at the items of these. A set has positions of sources.
+/// The labels of up to 63 sets of sources from a position on, each at the items of its sources. A set has positions
+/// of sources.
 pub(crate) fn set_labels(
     alloc: Global,
     size: usize,

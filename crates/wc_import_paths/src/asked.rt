@@ -16,11 +16,11 @@ use wc_maps::{Seed, Set};
 use wc_read::Import;
 use wc_why::{unversioned, version_of};
 
-/// So many patterns, or fewer, are gone through one after another: that takes less time than to look for them by hashes.
+/// Up to this number of patterns are tried one after another, since that takes less time than a lookup by hashes.
 const FEW: usize = 8;
 
-/// A pattern as it is looked up: its key, cut at the first `@`, and its name. So a package with its version, which stands in
-/// no name of a module as it is, is made of parts of one.
+/// A pattern as it is looked up: its key, cut at the first `@`, and its name. So a package and its version, which are
+/// not adjacent in the name of a module, are compared with two parts of that name.
 #[derive(Clone, Copy, PartialEq, Eq, Hash)]
 struct PatternKey<'a> {
     /// The key without its version.

@@ -14,8 +14,8 @@ use crate::followed::Followed;
 use std::alloc::{AllocError, Global};
 use wc_paths::{Dominators, ModuleGraph, PathItem, roots_of, second_roots};
 
-/// The items that are marked: those through which each path to any import that is asked for goes. `None` where nothing is
-/// asked for. It takes time and memory linear in the module.
+/// The marked items: the items through which each path to any requested import goes. `None` if there are no patterns.
+/// It takes time and memory linear in the module.
 ///
 /// # Errors
 ///

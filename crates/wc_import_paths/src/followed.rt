@@ -52,13 +52,14 @@ pub struct Followed<'r> {
     pub names: OrderedMap<u32, &'r str>,
 }
 
-/// Why a module can't be followed, and where: `Read` of bytes that are no module, or of a section of segments that can't be
+/// Why a module can't be followed, and where: `Read`, if the bytes are no module or a section of segments can't be
 /// read; `MissingExport`; `LiveBody` of a function; or `Memory`.
 pub type Refusal = Refused<GcFault, TrimPlace>;
 
-/// Reads the module with these bytes, and finds the paths in it: from its exports of these names, in their order, or from
-/// all in the order of the module, where there are none, and from the start function; and only where none of these leads to
-/// an item, from the active segments (`wc_paths`). Of functions on the paths to imports that are asked for it finds the names.
+/// Reads the module with these bytes, and finds the paths in it (`wc_paths`). Paths begin at its exports of these
+/// names, in their order, or at all exports in the order of the module if no names are given; and at the start
+/// function. The active segments are roots only for an item to which none of these leads. It also finds the names of
+/// functions on the paths to requested imports.
 ///
 /// It takes time and memory linear in the module and in the names that are given.
 ///
@@ -66,8 +67,8 @@ pub type Refusal = Refused<GcFault, TrimPlace>;
 ///
 /// Of several causes the first in this order is named; `Memory` may come in place of any.
 ///
-/// - `Read`: the bytes are no module, with the byte at which they stop to be one; or a section of segments can't be read,
-///   with this section.
+/// - `Read`: the bytes are no module, with the byte at which they stop being one; or a section of segments can't be
+///   read, with this section.
 /// - `MissingExport`: a name is not exported; the first such, without a place.
 /// - `LiveBody`: the body of a function that a path reaches is no code, or names what is not there. Its place is this
 ///   function.

@@ -20,9 +20,10 @@ use wc_paths::{Callers, Path as ModulePath, PathItem, PathRoot};
 use wc_read::Import;
 use wc_why::{Path, Step, Target, push_path_items};
 
-/// The path to the import at a position: where it begins, and its items, functions with their names; after an active element
-/// segment those that may call the function that follows; `None` where none leads there. It takes time and memory for this path alone if the import is one of those for which the module was followed, and
-/// else linear in the module, since the names on its path have to be found.
+/// The path to the import at a position: its root, and its items. Functions have their names, and an active element
+/// segment has the functions that may call the next item. `None` if no path leads there. It takes time and memory for
+/// this path alone if the module was followed for this import. Otherwise it takes time and memory linear in the module,
+/// since the names on the path have to be found.
 ///
 /// # Errors
 ///

@@ -22,24 +22,25 @@ use wc_paths::Dominators;
 use wc_texts::Refused;
 use wc_why::{begin_paths, end_paths, put_marked_path};
 
-/// The paths to those imports of the module with these bytes that `imports` ask for, or to all, where there are none, as
-/// JSON in a line (`wc_why::begin_paths`). Of each import, in the order of the module, it is the one path to its item
-/// (`wc_paths`): where it begins, and its items, functions with the names that the module gives them. An import to which no
-/// path leads is left out; so is what the module does not import. Where imports are asked for, items have marks: whether
-/// each path to any of them goes through the item (`marks_for`).
+/// The paths to the requested imports of the module with these bytes, as JSON in one line (`wc_why::begin_paths`). If
+/// `imports` is empty, all imports are requested. Each import, in the order of the module, has the one path to its item
+/// (`wc_paths`): its root, and its items, functions with the names that the module gives them. An import to which no
+/// path leads is left out; so is a requested import that the module does not have. If `imports` is not empty, each item
+/// has a mark: whether each path to any requested import goes through it (`marks_for`).
 ///
-/// Paths begin at its exports of the names `exports`, in their order, or at all, where there are none, in the order of the
-/// module, and then at the start function; only where none of these leads to an import, they begin at an active segment.
+/// Paths begin at the module's exports of the names `exports`, in their order, or at all exports in the order of the
+/// module if `exports` is empty; and then at the start function. If none of these leads to an import, the path to it
+/// begins at an active segment.
 ///
-/// `seed`: the seed of the maps that are made. It takes time and memory linear in the module, in what is asked for, and in
-/// the text.
+/// `seed`: the seed of the maps that are made. It takes time and memory linear in the module, in `imports` and
+/// `exports`, and in the text.
 ///
 /// # Errors
 ///
 /// Of several causes the first in this order is named; `Memory` may come in place of any.
 ///
-/// - `Read`: the bytes are no module, with the byte at which they stop to be one; or a section of segments can't be read,
-///   with this section.
+/// - `Read`: the bytes are no module, with the byte at which they stop being one; or a section of segments can't be
+///   read, with this section.
 /// - `MissingExport`: a name of `exports` is not exported; the first such, without a place.
 /// - `LiveBody`: the body of a function that a path reaches is no code, or names what is not there. Its place is this
 ///   function.

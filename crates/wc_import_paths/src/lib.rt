@@ -1,8 +1,9 @@
 //! Why a module imports something: the paths to its imports, from its bytes to JSON.
 //!
-//! `follow` reads a module with its segments, and finds the paths in it (`wc_paths`). `reached_path` makes the path to one import
-//! (`wc_why::Path`), and `json_text` writes those to the imports that are asked for. `ImportPattern` says which these are;
-//! `patterns_of` makes patterns of texts, and `Asked` makes them ready to be looked up. `paths_to_json` does all of it.
+//! `follow` reads a module with its segments, and finds the paths in it (`wc_paths`). `reached_path` returns the path
+//! to one import (`wc_why::Path`), and `json_text` writes the paths to the requested imports. An `ImportPattern`
+//! requests imports; `patterns_of` makes patterns of texts, and `Asked` prepares them for lookups. `paths_to_json` does
+//! all of this.
 #![tactic(auto)]
 
 mod asked;

@@ -11,7 +11,8 @@ use std::alloc::{AllocError, Global};
 use wc_read::Import;
 use wc_why::asks_about;
 
-/// A pattern, which asks for imports: for those of the modules that a key asks about, or for those of them that have a name.
+/// A pattern that requests imports: all imports from the modules that its key asks about, or only the imports of one
+/// name from these modules.
 #[derive(Clone, Copy, Debug, PartialEq, Eq, Hash)]
 pub struct ImportPattern<'a> {
     /// The key: the name of a module or a package of interfaces; without a version it asks for each version
@@ -21,8 +22,8 @@ pub struct ImportPattern<'a> {
     pub name: Option<&'a str>,
 }
 
-/// The patterns of texts, in order: `KEY` asks for the imports of the modules that a key asks about, `KEY=NAME` for those of
-/// them that have a name. KEY ends at the first `=`.
+/// The patterns of texts, in order: `KEY` requests all imports from the modules that the key asks about, `KEY=NAME`
+/// only the imports of this name from them. KEY ends at the first `=`.
 ///
 /// # Errors
 ///

@@ -1,4 +1,4 @@
-//! The place where a text is not JSON. It is looked for after a fault alone.
+//! The offset at which a text is not JSON. It is searched only after a fault.
 
 ghost use Rattle.std.specs.Prelude.{◌≡◌, ◌++◌, [], None, IfOk, OnOk, Some, get_or, drop};
 ghost use Rattle.std.specs.Bool.{MatchBool};
@@ -11,8 +11,8 @@ use json::{MAX_DEPTH, Reader, Scratch, Token};
 use std::alloc::{AllocError, Global};
 use std::collections::VecDeque;
 
-/// The byte at which the first token begins, or the comma is, that a JSON text can't have there: the length of a text that
-/// is JSON, or only the beginning of one.
+/// The offset in bytes of the first token, or the first comma, that a JSON text can't have there. If the text is
+/// JSON, or only the beginning of a JSON text, it is the length of the text.
 ///
 /// # Errors
 ///
@@ -51,8 +51,8 @@ fn stop_of(
     Ok(place(text, rest, is_inside(&read)))
 }
 
-/// The byte at which the next lexeme begins, or where a value ended in a list or an object, that after a comma; the length
-/// of the text, if there is none. `starts`: the bytes at which lexemes begin that are left.
+/// The offset in bytes of the next lexeme; after a value in a list or an object, of the lexeme after a comma; the
+/// length of the text, if no lexeme is left. `starts`: the offsets of the lexemes that are left.
 fn place(text: &[u8], starts: &[usize], is_inside: bool) -> usize
     ensures { result ≡ place text.now starts.now is_inside }
 {
@@ -64,7 +64,7 @@ fn place(text: &[u8], starts: &[usize], is_inside: bool) -> usize
     }
 }
 
-/// Of the bytes at which lexemes begin the one of this index, or the end where there is none.
+/// The offset with this index among the offsets of lexemes; otherwise `end`.
 fn start_at(starts: &[usize], index: usize, end: usize) -> usize
     ensures { result ≡ get_or starts.now index end }
 {
@@ -142,7 +142,7 @@ fn lexemes(last: Last, token: Token<'_>) -> usize
 #[derive(Drop)]
 struct Read {
     last: Last,
-    /// Of each array and object that is open, from the innermost on, whether it is an object.
+    /// For each open array or object, from the innermost on, whether it is an object.
     opened: VecDeque<bool>,
 }
 
@@ -156,7 +156,7 @@ fn is_inside(read: &Read) -> bool
     }
 }
 
-/// Whether the innermost of what is open is an object.
+/// Whether the innermost open array or object is an object.
 fn innermost(opened: &VecDeque<bool>) -> Option<bool>
     ensures { result ≡ innermost opened.now.items }
 {
@@ -167,7 +167,7 @@ fn innermost(opened: &VecDeque<bool>) -> Option<bool>
 }
 
 impl Read {
-    /// Takes up a token. The answer is whether it may come next.
+    /// Takes the next token. The result is whether it may come next.
     fn take(&mut self, token: Token<'_>) -> Result<bool, AllocError>
         ensures { IfOk result (λ b. MatchBool b
             (take_token (read_view self.old) (token_of token.entry) ≡ Some (read_view self.new))
@@ -312,7 +312,7 @@ fn begins(mode: Mode, class: Class) -> bool
     }
 }
 
-/// Where the next byte is.
+/// The mode of the next byte, after a byte of this class.
 fn passed(mode: Mode, class: Class) -> Mode
     ensures { result ≡ passed mode class }
 {

@@ -3,11 +3,11 @@
 ghost use Rattle.wc_json.specs.Laws.{DocumentsReadBack, TextsReadBack};
 ghost use Rattle.wc_json.specs.RepeatedMembers.{RepeatsAreThere};
 
-/// A document that is written as a JSON value, in the form in which wit-parser writes it, is read
-/// back as the same document. Its ids have to be below 2^32, no two keys of a map spelled alike, an id that is a key
-/// that of its item, no plain key spelled as the id of its own interface, and the name of a package cut where it was put
-/// together. So the definition of what is read loses nothing of a document.
-/// It does nothing when it runs.
+/// A document that is written as a JSON value, in the form of wit-parser, is read back as the same document. So the
+/// definition of reading loses nothing of a document. The law requires that its ids are below 2^32, and that no two
+/// keys of a map have the same text. An id that is a key must be the id of its item, and no plain key may have the
+/// text of its own interface's id. The name of a package must be cut where it was put together. The law does nothing
+/// when it runs.
 pub fn documents_read_back()
     ensures { DocumentsReadBack }
 {}
@@ -18,8 +18,9 @@ pub fn texts_read_back()
     ensures { TextsReadBack }
 {}
 
-/// Where an object of a JSON value has two members of one name, there is a first member that is there again: so the path
-/// that [`repeated_member`](crate::repeated_member) answers is that of one. It does nothing when it runs.
+/// If an object of a JSON value has two members with one name, a first repeated member exists: so the path that
+/// [`repeated_member`](crate::repeated_member) gives is the path of a repeated member. The law does nothing when it
+/// runs.
 pub fn repeats_are_there()
     ensures { RepeatsAreThere }
 {}

@@ -1,5 +1,4 @@
-//! The members of objects: those that have to be there, those that may be missing, and the only one
-//! of a variant.
+//! The members of objects: required members, optional members, and the only member of a variant.
 
 ghost use Rattle.std.specs.Prelude.{◌≡◌, ◌≢◌, IfErr, IsErr, IsSomeAnd, OnErr};
 ghost use Rattle.std.specs.Option.{option_map};
@@ -18,8 +17,7 @@ use json::Value;
 use std::alloc::Global;
 use wc_maps::Seed;
 
-/// The value under a name; `None` where the object has no such member. A value of another kind is
-/// NotAnObject.
+/// The value under a name; `None` if the object has no such member. A value of another kind is NotAnObject.
 pub(crate) fn find_member<'v, 'a>(
     alloc: Global,
     object: &'v Value<'a>,
@@ -35,12 +33,12 @@ pub(crate) fn find_member<'v, 'a>(
     Ok(object.get(name))
 }
 
-/// Reads the member of this name of an object, which has to be there. `seed`: the seed of the maps that are made.
+/// Reads the required member with this name of an object. The maps that are made hash under `seed`.
 ///
 /// # Errors
 ///
-/// - `Wrong`: the value is no object, by the empty path; or it lacks the member, or the member has a fault, by a path that
-///   begins with the name.
+/// - `Wrong`: the value is no object, with the empty path; or it lacks the member, or the member has a fault, with a
+///   path that begins with the name.
 /// - `Memory`: an allocation failed, for a value that is an object.
 pub fn required_member<T: FromJson>(
     alloc: Global,
@@ -58,13 +56,14 @@ pub fn required_member<T: FromJson>(
     }
 }
 
-/// Reads the member of this name of an object; `None` where it is missing or null. `seed`: the seed of the maps that
-/// are made.
+/// Reads the member with this name of an object; `None` if it is missing or null. The maps that are made hash under
+/// `seed`.
 ///
 /// # Errors
 ///
-/// - `Wrong`: the value is no object, by the empty path; or the member has a fault, by a path that begins with the name.
-/// - `Memory`: an allocation failed, for a member that is there and isn't null.
+/// - `Wrong`: the value is no object, with the empty path; or the member has a fault, with a path that begins with
+///   the name.
+/// - `Memory`: an allocation failed, for a member that is present and isn't null.
 pub fn optional_member<T: FromJson>(
     alloc: Global,
     seed: Seed,

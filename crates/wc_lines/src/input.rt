@@ -1,7 +1,7 @@
 //! Bytes out of the lines of a row's input.
 //!
-//! A line is bytes in hex, two digits each, with spaces between them or not; a text in double quotes is its bytes. After
-//! `#` outside quotes comes a comment. `repeat N` at the front makes N copies of the line's bytes.
+//! A line is bytes in hex, two digits each, with or without spaces between them; a text in double quotes is its
+//! bytes. A comment begins at a `#` outside quotes. `repeat N` at the front makes N copies of the line's bytes.
 
 use crate::lines::Lines;
 use hex::FromHexError;
@@ -42,7 +42,7 @@ impl Display for Flaw<'_> {
     }
 }
 
-/// Ends an answer: it is short where memory ran out for the call. False where a row has another call.
+/// Ends an answer, which is short if memory ran out for the call. False if a row has another call.
 pub fn end_answer(answered: Result<bool, Stop>, out: &mut Lines) -> bool {
     match answered {
         Ok(is_answered) => is_answered,
@@ -60,7 +60,7 @@ pub fn bad_row(out: &mut Lines, what: &str, text: &str) -> Stop {
     Stop::BadRow
 }
 
-/// The number that a word is. Where it is none, the answer says so, by `what` and the word.
+/// The number that a word encodes. If it encodes none, the answer says so, with `what` and the word.
 pub fn number_of(out: &mut Lines, what: &str, word: &str) -> Result<u32, Stop> {
     match word.parse::<u32>() {
         Ok(number) => Ok(number),
@@ -68,7 +68,7 @@ pub fn number_of(out: &mut Lines, what: &str, word: &str) -> Result<u32, Stop> {
     }
 }
 
-/// The bytes that lines of hex say. Where there are none, the answer says why, or memory ran out.
+/// The bytes of lines of hex. If there are none, the answer says why, or memory ran out.
 pub fn bytes_of(alloc: Global, lines: &[&str], out: &mut Lines) -> Result<Vec<u8>, Stop> {
     let mut bytes = Vec::new(alloc);
     for line in lines {
@@ -103,7 +103,7 @@ pub fn texts_of(alloc: Global, lines: &[&str]) -> Result<Vec<String>, AllocError
     Ok(texts)
 }
 
-/// Appends the bytes of a line, or so many copies of bytes, as `repeat 3 00` says.
+/// Appends the bytes of a line, or copies of bytes: three for `repeat 3 00`.
 fn put_line(alloc: Global, bytes: &mut Vec<u8>, line: &str, out: &mut Lines) -> Result<(), Stop> {
     let Some(rest) = line.strip_prefix("repeat ") else {
         return put_hex(alloc, bytes, line, out);

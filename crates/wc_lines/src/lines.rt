@@ -3,8 +3,9 @@
 use std::alloc::{AllocError, Global};
 use std::fmt::Display;
 
-/// Lines that are appended to. Where memory runs out, a part is left out, and the whole is no longer handed out. The answer
-/// of a row that can't be read is one line that says so; what is appended before and after it is left out.
+/// Lines that are appended to. If memory runs out, a part is left out, and the whole is no longer available. The
+/// answer of a row that can't be read is one line that says so; lines that are appended before and after it are left
+/// out.
 #[derive(Drop)]
 pub struct Lines {
     text: String,
@@ -95,7 +96,7 @@ impl Lines {
         }
     }
 
-    /// Whether something was done. Where it was not, memory ran out for it, and so for a part of the answer.
+    /// Whether a step succeeded. If not, memory ran out for it, and so for a part of the answer.
     fn keep(&mut self, done: Result<(), AllocError>) -> bool {
         let is_done = done.is_ok();
         if !is_done {
@@ -109,7 +110,7 @@ impl Lines {
         self.is_short = true;
     }
 
-    /// The whole text; Err where memory ran out.
+    /// The whole text; Err if memory ran out.
     pub fn text(&self) -> Result<&str, AllocError> {
         if self.is_short {
             return Err(AllocError);

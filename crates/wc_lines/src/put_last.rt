@@ -1,4 +1,6 @@
-//! Answers that own much. What puts one and drops it doesn't know its type, and so none of its variants, which makes proofs
+//! Answers that own much memory.
+//!
+//! The function that puts one and drops it doesn't know its type, and so none of its variants, which makes proofs
 //! short.
 
 use crate::lines::Lines;
@@ -13,7 +15,7 @@ pub trait PutAbout<A> {
     fn put_about(&self, alloc: Global, about: &A, out: &mut Lines);
 }
 
-/// Appends an answer that nothing else is left of.
+/// Appends an answer, and drops it.
 pub fn put_last_about<A, V: PutAbout<A> + Drop>(
     alloc: Global,
     about: &A,
@@ -23,7 +25,7 @@ pub fn put_last_about<A, V: PutAbout<A> + Drop>(
     answer.put_about(alloc, about, out);
 }
 
-/// The text of a fault that nothing else is left of, on a line.
+/// Appends the text of a fault on a line, and drops the fault.
 pub fn put_last_fault<F: FaultText + Display + Drop>(alloc: Global, fault: F, out: &mut Lines) {
     put_fault_text(alloc, &fault, out);
 }

@@ -1,20 +1,21 @@
 //! Rows of tests, read out of the text of a file.
 //!
-//! A file is lines. Those that begin with `#` are comments. Its paragraphs are rows and fixtures: one ends at a blank line,
-//! and before a line that begins another. Each line of a paragraph begins with a word that says what the rest of it is:
+//! A file is lines. Lines that begin with `#` are comments. The paragraphs of a file are rows and fixtures. A
+//! paragraph ends at a blank line, and before a line that begins another. Each line of a paragraph begins with a word
+//! that says what the rest of it is:
 //!
 //! - `row NAME`: a row begins, which shows what its name says;
-//! - `fixture NAME`: lines of input begin that rows after it take up;
+//! - `fixture NAME`: lines of input begin that later rows use;
 //! - `call NAME ARGUMENT..`: the call;
 //! - `in TEXT`: a line of input;
-//! - `with NAME`: all lines of input of a fixture, in this line's place;
+//! - `with NAME`: all lines of input of a fixture, instead of this line;
 //! - `out TEXT`: a line of the answer.
 
 use crate::table::named;
 use std::alloc::{AllocError, Global};
 use std::mem;
 
-/// A row: a call, what it is asked with, and the answer that is wanted.
+/// A row: a call, its input, and the wanted answer.
 #[derive(Drop)]
 pub struct Row<'a> {
     /// The name of the row, which says what it shows.
@@ -23,7 +24,7 @@ pub struct Row<'a> {
     pub call: &'a str,
     /// The words after the call's name on its line.
     pub arguments: Vec<&'a str>,
-    /// The lines of input, those of fixtures among them.
+    /// The lines of input, with the lines of fixtures among them.
     pub input: Vec<&'a str>,
     /// The lines of the answer that is wanted.
     pub answer: Vec<&'a str>,
@@ -40,7 +41,7 @@ impl<'a> Row<'a> {
         }
     }
 
-    /// The argument at an index; the empty text where there are fewer.
+    /// The argument at an index; the empty text if there are fewer.
     pub fn argument(&self, index: usize) -> &'a str {
         self.arguments.get(index).copied().unwrap_or("")
     }
@@ -55,7 +56,7 @@ pub enum Flaw<'a> {
     Fixture(&'a str),
 }
 
-/// A paragraph. In a fixture all but the name and the lines of input is left as it was.
+/// A paragraph. In a fixture, only the name and the lines of input are set.
 #[derive(Drop)]
 pub struct Paragraph<'a> {
     pub row: Row<'a>,
@@ -93,7 +94,7 @@ impl<'a> Paragraph<'a> {
         }
     }
 
-    /// Takes up a line that is no comment and not blank. `fixtures` are those that came before.
+    /// Adds a line that is no comment and not blank. `fixtures` are the fixtures before it.
     fn add(&mut self, line: &'a str, fixtures: &[Paragraph<'a>]) -> Result<(), AllocError> {
         let (word, rest) = line.split_once(' ').unwrap_or((line, ""));
         match named(&PARTS, word) {

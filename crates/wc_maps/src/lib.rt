@@ -1,8 +1,8 @@
 //! Maps that no choice of keys makes slow: maps that hash under a seed, and a map that goes by the order of its keys.
 //!
-//! Where the hash of a map is known, keys can be chosen that collide, and each look-up takes as long as they are many.
-//! Here a map either hashes under a [`Seed`], which whoever chooses the keys doesn't know, or it compares keys. Lists of texts
-//! are searched by such sets.
+//! If the hash of a map is known, keys can be chosen that collide, and each look-up takes time in proportion to their
+//! number. Here a map either hashes under a [`Seed`], which whoever chooses the keys doesn't know, or it compares
+//! keys. Such sets also search lists of texts.
 #![tactic(auto)]
 
 mod ordered_map;

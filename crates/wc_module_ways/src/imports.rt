@@ -35,24 +35,25 @@ use wc_summary::{
     sort_entries,
 };
 
-/// The imports of modules by interfaces, as a text of lines: of each interface a line, in which its parts are after `INTERFACE: ` with
-/// `; ` between them. INTERFACE is the name of the module from which something is imported.
+/// The imports of modules by interface, as lines. Each interface has a line, `INTERFACE: ` and then its parts with `; `
+/// between them. INTERFACE is the name of the module that the imports are from. The parts are
 ///
-/// - `N imports of main by func I NAME, ..`: how many of the main module's imports are of the interface, and the functions that
-///   are reached there from an export, the start function or an active segment and name one, at most three, with
-///   `and N more`;
-/// - `N imports of adapter ADAPTER, B bytes with EXPORT ..`: how many of an adapter's, the required exports that lead to one
-///   of them, and how many bytes the bodies have that are live and aren't live for the other ones: where the main module
-///   imports none of these exports, the adapter's imports of the interface go, and these bytes;
-/// - `N imports of adapter ADAPTER, stays for EXPORT ..`, where exports lead to them that are required whatever the main
-///   module imports: these.
+/// - `N imports of main by func I NAME, ..`: the number of the main module's imports from the interface, and the
+///   functions that name one of them and that an export, the start function or an active segment reaches. At most three
+///   functions are listed, and then `and N more`;
+/// - `N imports of adapter ADAPTER, B bytes with EXPORT ..`: the number of an adapter's imports from the interface, the
+///   required exports that lead to one of them, and the bytes of the bodies that are live for these exports alone. If
+///   the main module imports none of these exports, the adapter's imports from the interface go, and these bytes too;
+/// - `N imports of adapter ADAPTER, stays for EXPORT ..`, if exports lead to them that are required whatever the main
+///   module imports: these exports.
 ///
-/// The imports are those of `Modules::imports`. First come the interfaces of which the main module imports something itself,
-/// then those that go with exports of adapters, and last those that stay; among these the ones with which more bytes go come
-/// first, and else the order is that of the imports. An interface that is used for its types alone is not known here.
+/// The imports are `Modules::imports`. First come the interfaces from which the main module itself imports, then the
+/// interfaces that go with exports of adapters, and last the interfaces that stay. In each group the interfaces with
+/// which more bytes go come first; otherwise the order is the order of the imports. An interface that is used for its
+/// types alone is not known here.
 ///
-/// It takes time linear in the modules for each 64 interfaces and each 64 required exports (`wc_graph::spread`), and in what
-/// is printed.
+/// It takes time linear in the modules for each 64 interfaces and each 64 required exports (`wc_graph::spread`), and
+/// time linear in the text.
 ///
 /// # Errors
 ///
@@ -68,9 +69,9 @@ pub fn imports_text<'r>(alloc: Global, modules: &Modules<'r>) -> Result<String, 
     Ok(lines_of(alloc, &names, &entries)?)
 }
 
-/// The imports of modules by interfaces, as JSON, in one line: an object whose member `imports` is a list of objects, in the
-/// order of `imports_text`, as `wc_summary::json_of` has them. `interface` is the name of the module from which something is
-/// imported.
+/// The imports of modules by interface, as JSON in one line: an object whose member `imports` is a list of objects, in
+/// the order of `imports_text`, as `wc_summary::json_of` writes them. `interface` is the name of the module that the
+/// imports are from.
 ///
 /// # Errors
 ///
@@ -173,8 +174,8 @@ fn main_tag(
     tag_if(alloc, is_of_main(names, import), import)
 }
 
-/// The interface of each of these imports of an adapter, if it stays, and is from no module of the component. Of each is
-/// given where its item is among those that stay.
+/// The interface of each of these imports of an adapter, if it stays and is from no module of the component.
+/// `positions`: for each import the position of its item among the items that stay.
 fn adapter_tags(
     alloc: Global,
     imports: &[Import<'_>],

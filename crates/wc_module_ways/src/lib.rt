@@ -1,11 +1,11 @@
-//! Why a component would import something, by its modules alone: the main module and its adapters, without a world. A path
-//! leads from where it begins in the main module to an import of it, or through its import of an export of an adapter to
-//! what the adapter imports.
+//! Why a component would import something, by its modules alone: the main module and its adapters, without a world. A
+//! path leads from its root in the main module to one of the main module's imports, or through its import of an
+//! adapter's export to an import of the adapter.
 //!
-//! `Modules::read` follows the main module (`wc_import_paths`) and reads its adapters, with the exports that a component
-//! may need of each. `put_ways` prints the paths to the imports that are asked for to any printer of paths
-//! (`wc_why::PathPrinter`), `ways_text` has them as lines, `ways_json` as a tree in JSON, and `ways_graph` as a graph of that.
-//! `imports_text` and `imports_json` say what the modules import, by interfaces.
+//! `Modules::read` follows the main module (`wc_import_paths`) and reads its adapters, with the exports of each that a
+//! component may need. `put_ways` prints the paths to the requested imports to any printer of paths
+//! (`wc_why::PathPrinter`). `ways_text` returns them as lines, `ways_json` as a tree in JSON, and `ways_graph` as a
+//! graph of this tree. `imports_text` and `imports_json` return the imports of the modules by interface.
 #![tactic(auto)]
 
 mod adapters;

@@ -34,12 +34,13 @@ pub enum MainModule<'r> {
 }
 
 impl<'r> MainModule<'r> {
-    /// The main module with these bytes, in which paths begin at its exports of these names, or at all, if there are none; at
-    /// its start function; and where none of these leads to an import, at its active segments.
+    /// The main module with these bytes. Its paths begin at its exports of these names, or at all exports if no names
+    /// are given; at its start function; and, if none of these leads to an import, at its active segments.
     ///
     /// # Errors
     ///
-    /// Those of `wc_import_paths::follow`, but that a section of segments can't be read, or the body of a function that is reached.
+    /// The faults of `wc_import_paths::follow`, except for a section of segments or a reachable body that can't be
+    /// read.
     pub fn read(
         alloc: Global,
         seed: Seed,
@@ -66,8 +67,8 @@ impl<'r> MainModule<'r> {
         }
     }
 
-    /// The steps to the import at a position: where the path to it begins, and its items; or why none is shown. It takes
-    /// time and memory for these steps alone.
+    /// The steps to the import at a position: the root of the path to it, and the items of the path; or why no path is
+    /// shown. It takes time and memory for these steps alone.
     pub(crate) fn steps<'p>(
         &'p self,
         alloc: Global,

@@ -52,12 +52,13 @@ pub struct Modules<'r> {
 impl<'r> Modules<'r> {
     /// The modules with these bytes. `seed`: the seed of the maps that are made.
     ///
-    /// An adapter has to export the functions that the main module imports under its name; the exports that a component may
-    /// need: functions of interfaces, which have a `#` in their names, names of the standard scheme, which begin with
-    /// `cm32p2`, reallocs (`cabi_realloc` of its type, `canonical_abi_realloc`, `cabi_import_realloc`, `cabi_export_realloc`,
-    /// `cabi_realloc_adapter`), `_initialize` without parameters and results, a memory `memory` and a table
-    /// `__indirect_function_table`; and those that are asked for. An adapter is left out from which the main module
-    /// imports no function, that exports no function of an interface, and of which no export is asked for.
+    /// These exports are required of an adapter: the functions that the main module imports under its name; the exports
+    /// that a component may need; and the exports that the caller asks for. A component may need functions of
+    /// interfaces, which have a `#` in their names; names of the standard scheme, which begin with `cm32p2`; reallocs
+    /// (`cabi_realloc` of its type, `canonical_abi_realloc`, `cabi_import_realloc`, `cabi_export_realloc`,
+    /// `cabi_realloc_adapter`); `_initialize` without parameters and results; a memory `memory`; and a table
+    /// `__indirect_function_table`. An adapter is left out if the main module imports no function of it, it exports no
+    /// function of an interface, and none of its exports is asked for.
     ///
     /// It takes time and memory linear in the modules and in the names.
     ///
@@ -65,8 +66,8 @@ impl<'r> Modules<'r> {
     ///
     /// Of several causes the first in this order is named; `Memory` may come in place of any.
     ///
-    /// - Of the main module: `Read`, with the byte at which it stops to be a module; `MissingExport`, an export that is not
-    ///   there. A section of segments, or a body, that can't be read is none.
+    /// - Of the main module: `Read`, with the byte at which it stops being a module; `MissingExport`, for an export
+    ///   that it lacks. A section of segments, or a body, that can't be read is no fault.
     /// - Of an adapter, in order: `Read`, with the byte at which it stops to be a module.
     /// - `Memory`: an allocation failed.
     pub fn read(
@@ -84,9 +85,9 @@ impl<'r> Modules<'r> {
         }
     }
 
-    /// The imports of the modules to which paths may be shown: those of the main module that are not from an adapter, and then
-    /// those of each adapter. What modules of a component share is none: what is imported from `__main_module__`, and the
-    /// `memory` that an adapter imports from `env`.
+    /// The imports of the modules to which paths may be shown: first the imports of the main module that are not from
+    /// an adapter, and then the imports of each adapter. Imports that modules of a component share are left out:
+    /// imports from `__main_module__`, and the `memory` that an adapter imports from `env`.
     ///
     /// # Errors
     ///

@@ -112,8 +112,8 @@ fn reached_path<'p>(
     Ok(Some(path))
 }
 
-/// The path to an import by a chain: the steps to the export that the chain begins with, the items of the chain, and the
-/// import.
+/// The path to an import by a chain: the steps to the export with which the chain begins, the items of the chain, and
+/// the import.
 fn chain_path<'p>(
     alloc: Global,
     walk: &'p Walk<'_, '_, '_>,
@@ -138,8 +138,8 @@ fn chain_path<'p>(
     })
 }
 
-/// The steps to an export of the adapter: if the main module imports it, the steps to the first such import, and that; and
-/// the export.
+/// The steps to an export of the adapter: if the main module imports it, the steps to the first such import, and this
+/// import; and then the export.
 fn first_steps<'p>(
     alloc: Global,
     walk: &'p Walk<'_, '_, '_>,

@@ -14,8 +14,8 @@ use std::alloc::{AllocError, Global};
 use wc_maps::{Seed, Set};
 use wc_read::{Export, Module};
 
-/// The exports that are required of an adapter: those of these names, which the main module imports; those that a component
-/// may need; and those that are asked for.
+/// The exports that are required of an adapter: the exports of these names, which the main module imports; the exports
+/// that a component may need; and the exports that the caller asks for.
 pub(crate) fn required_names(
     alloc: Global,
     seed: Seed,
@@ -57,8 +57,8 @@ fn name_set(alloc: Global, seed: Seed, names: &[&str]) -> Result<Set<String>, Al
     Ok(set)
 }
 
-/// Whether a component needs an adapter: the main module imports a function of it, it exports a function of an interface,
-/// or an export of it is asked for.
+/// Whether a component needs an adapter: the main module imports a function of it, it exports a function of an
+/// interface, or the caller asks for one of its exports.
 pub(crate) fn is_needed(imported: &[&str], code: &Module<'_>, asked: &[&str]) -> bool
     ensures { result ≡ is_needed (map text_of imported.now) (module_value code.now)
         (map text_of asked.now) }

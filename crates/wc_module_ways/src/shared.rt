@@ -59,7 +59,8 @@ fn push_if<'r>(
     Ok(())
 }
 
-/// Whether an import of the main module is shown: it is from no adapter, of which these are the names, and it is asked for.
+/// Whether an import of the main module is shown: it is requested, and it is from no adapter. `names`: the names of the
+/// adapters.
 pub(crate) fn is_main_shown(names: &Set<&str>, asked: &Asked<'_, '_>, import: &Import<'_>) -> bool
     ensures { (given : List Given) → HasNames given names.now.keys
         → result ≡ is_main_shown given asked.now (import_value import.now) }

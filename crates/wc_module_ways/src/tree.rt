@@ -53,14 +53,14 @@ struct OwnItems {
     places: Vec<Option<usize>>,
 }
 
-/// The paths of `ways_text` as a tree, which has each item of a module once, as JSON in one line (`wc_tree::tree_to_json`). Its
-/// modules are the main module and then each adapter of `Modules::adapters`, in order. A path through an adapter is read from its
-/// last item back to the export where it begins there, and, if the main module imports that, from its import back to where the path
-/// begins in the main module. An import of the main module to which no path is known is an item that says why where it begins:
-/// `unreached` or `unread`. No item is marked.
+/// The paths of `ways_text` as a tree, which has each item of a module once, as JSON in one line
+/// (`wc_tree::tree_to_json`). Its modules are the main module and then each adapter of `Modules::adapters`, in order.
+/// To read a path through an adapter, go from its last item back to the export at which it begins there. If the main
+/// module imports that export, go on from this import back to the root in the main module. An import of the main module
+/// to which no path is known is an item whose root says why: `unreached` or `unread`. No item is marked.
 ///
-/// Texts are escaped by the rules of JSON alone. It takes time and memory linear in the modules and in the text, however long the
-/// paths are.
+/// Texts are escaped only by the rules of JSON. It takes time and memory linear in the modules and in the text, however
+/// long the paths are.
 ///
 /// # Errors
 ///
@@ -79,8 +79,8 @@ pub fn ways_json<'r>(
     Ok(json_of(alloc, modules, asked, &found)?)
 }
 
-/// The tree of `ways_json` as a graph, in the language of Graphviz (`wc_tree::tree_to_graph`): a cluster for each module, with a box for
-/// each run of items, and a box for each module that something is imported from.
+/// The tree of `ways_json` as a graph, in the language of Graphviz (`wc_tree::tree_to_graph`). Each module is a cluster
+/// with a box for each run of items, and each module from which something is imported is a box.
 ///
 /// It takes time and memory linear in the modules and in the text, however long the paths are.
 ///
@@ -156,7 +156,8 @@ fn tree_of<'t>(
     })
 }
 
-/// The main module with the paths to its imports that are asked for, and to those functions of adapters at which paths there begin.
+/// The main module with the paths to its requested imports, and to the adapters' functions that it imports and at which
+/// paths in adapters begin.
 fn main_part<'t>(
     alloc: Global,
     modules: &'t Modules<'t>,
@@ -339,7 +340,8 @@ fn wanted_item(
     }
 }
 
-/// The paths to imports of the main module that are asked for, by where their items are and where the paths to these end.
+/// The paths to requested imports of the main module. `places`: for each requested import an index in `ends`; `ends`:
+/// the positions at which paths to items end.
 fn own_ways<'t>(
     alloc: Global,
     imports: &[Import<'t>],

@@ -31,15 +31,15 @@ pub(crate) struct Through<'m, 'r> {
     pub(crate) adapter: &'m AdapterModule<'r>,
 }
 
-/// The paths to the imports of modules that are asked for, as lines (`wc_why::push_path`). Imports of the main module come
-/// first, and then those of each adapter, in order; those of `Modules::imports` alone.
+/// The paths to the requested imports of modules, as lines (`wc_why::push_path`). Imports of the main module come
+/// first, and then the imports of each adapter, in order. Only imports in `Modules::imports` are shown.
 ///
-/// - The path to an import of the main module is where it begins there, the items of the shortest path to it (`wc_paths`),
-///   and `main imports MODULE NAME`. Where none leads there it is `main reaches it nowhere`, and where a part of the main
-///   module can't be read `main is not followed: PART`, before that line.
-/// - The path to an import of an adapter begins at an export that is required of it, by the shortest chain
-///   (`wc_gc::why_imports`). If the main module imports this function, the path to its first such import comes before. An
-///   import that no required export reaches is left out.
+/// - The path to an import of the main module is its root, the items of the shortest path to the import (`wc_paths`),
+///   and `main imports MODULE NAME`. If no path leads to the import, `main reaches it nowhere` comes before that line
+///   instead. If a part of the main module can't be read, `main is not followed: PART` does.
+/// - The path to an import of an adapter begins at an export that is required of the adapter, and follows the shortest
+///   chain (`wc_gc::why_imports`). If the main module imports this function, the path to its first such import comes
+///   before. An import that no required export reaches is left out.
 ///
 /// It takes time and memory linear in the modules and in the text.
 ///

@@ -14,18 +14,18 @@
 //! | exports the function `hello` of an interface | `my:demo/host@1.2.3#hello` | `\|my:demo/host@1\|hello` |
 //! | destroys a resource `file` of an interface | `my:demo/host@1.2.3#[dtor]file` | `\|my:demo/host@1\|file_dtor` |
 //!
-//! A module's text is looked up among what a world imports or exports (`NameMangling::module_to_interface`), and the
-//! names of functions and resources in an interface or in the world itself (`PayloadLookupContext`, and `keys` for each
-//! step of it). Which of several kinds a name is of is for the caller to decide; that an import means one thing at most,
-//! and what it names is there, is a law (`laws`), and the same of an export.
+//! The text of a module is looked up among the imports or exports of a world (`NameMangling::module_to_interface`).
+//! The names of functions and resources are looked up in an interface or in the world itself (`PayloadLookupContext`,
+//! and `keys` for each step of it). The caller decides which of several kinds a name has. Laws (`laws`) say that an
+//! import means at most one thing, and that this thing exists; and the same for an export.
 //!
-//! Exports are those of an export set, a set of keys of a world: `NameMangling::match_wit_export` and
+//! Exports are looked up in an export set, a set of keys of a world: `NameMangling::match_wit_export` and
 //! `match_wit_resource_dtor` look up one name.
 //!
 //! To look up many there are indexes, which both schemes make (`NameIndexes`): `InterfaceNames` of the interfaces of a
 //! world, and `ExportNames` of an export set.
 //!
-//! Where an allocation fails the answer is `AllocError`. A call that names a thing by its id requires that the id is in
+//! If an allocation fails, the result is `AllocError`. A call that names a thing by its id requires that the id is in
 //! range.
 //!
 //! ```rust

@@ -38,8 +38,9 @@ pub struct MaybeAsyncLowered<T> {
     pub async_lowered: bool,
 }
 
-/// A naming scheme: what the names of a core module's imports and exports mean. Each function knows one kind of names;
-/// which of several kinds a name is of, is not decided here. What a scheme has no names for is `None` or false.
+/// A naming scheme: the meanings of the names of a core module's imports and exports. Each function knows one kind of
+/// names; which of several kinds a name has, is not decided here. If a scheme has no names for a thing, the result is
+/// `None` or false.
 pub trait NameMangling {
     ghost use Rattle.wc_names.specs.Mangling.{Scheme};
 
@@ -216,11 +217,11 @@ pub trait NameMangling {
         ensures { IfOk result (λ found. Finds (option_map import_view found)
             (NamesImportIn (scheme self.now) context.now name.now)) };
 
-    /// The built-in that `payload_intrinsic` answers, by the index of the context's world: the parameters of a function
-    /// that the world itself imports or exports are not walked for each of its futures and streams.
+    /// The built-in of `payload_intrinsic`, by the index of the context's world: the parameters of a function that
+    /// the world itself imports or exports are not walked for each of its futures and streams.
     ///
-    /// The world must be in range of the `Resolve`, as each of its worlds is (`Resolve::well_formedness`), the interface
-    /// too (`has_interface`), and the index be that of the world.
+    /// The world must be in range of the `Resolve`, as each of its worlds is (`Resolve::well_formedness`), the
+    /// interface too (`has_interface`), and the index must be the world's.
     ///
     /// # Errors
     ///
@@ -240,9 +241,9 @@ pub trait NameMangling {
         ensures { IfOk result (λ found. Finds (option_map import_view found)
             (NamesImportIn (scheme self.now) context.now name.now)) };
 
-    /// The interface that a module's name is about, without what comes before it (`import_non_root_prefix`,
-    /// `import_exported_intrinsic_prefix`), among what a world imports or exports, and its key there. For many names of
-    /// one world there is `NameIndexes::interface_names`.
+    /// The interface that a module's name means among a world's imports or exports, and its key there. The name comes
+    /// without its prefix (`import_non_root_prefix`, `import_exported_intrinsic_prefix`). For many names of one
+    /// world, use `NameIndexes::interface_names`.
     ///
     /// The keys must be in range of the `Resolve` (`has_interface`).
     ///
@@ -272,10 +273,10 @@ pub trait NameMangling {
         ensures { Finds (option_copied result)
             (λ (returned : List ℕ). NamesPostReturn (scheme self.now) returned name.now) };
 
-    /// The function that an export of this name is for, among the exports of a world that are in an export set: the key
-    /// in the set, the interface, if the function is of one, and the function. A lift or what runs after a return is
-    /// named by what is after its own beginning, or before its own end (`async_lift_name`, `strip_post_return`). For
-    /// many names of one set there is `NameIndexes::export_names`.
+    /// The function that an export with this name is for, among the exports of a world that are in an export set: the
+    /// key in the set, the interface, if the function is in one, and the function. A lift is named by the part after
+    /// its own prefix, and a post-return by the part before its own end (`async_lift_name`, `strip_post_return`). For
+    /// many names of one set, use `NameIndexes::export_names`.
     ///
     /// The world must be in range (`has_world`). Keys that the world doesn't export have no names.
     ///

@@ -8,8 +8,8 @@ use crate::reading::pair;
 use std::alloc::{AllocError, Global};
 use std::path::Path;
 
-/// The names of adapters and the paths of their modules, of the values `[NAME=]FILE` of an option, in order. NAME ends at the
-/// first `=`. Without a `=` the value is FILE, and NAME is the name of this file up to its first `.`.
+/// The names of adapters and the paths of their modules, from the values `[NAME=]FILE` of an option, in order. NAME
+/// ends at the first `=`. Without a `=` the value is FILE, and NAME defaults to this file's name up to its first `.`.
 ///
 /// # Errors
 ///
@@ -28,7 +28,8 @@ pub fn adapters_of<'a>(
     Ok(found)
 }
 
-/// The texts before and after the first `=` of the values of an option, in order; of a value without a `=` all, and nothing.
+/// The texts before and after the first `=` of an option's values, in order; for a value without a `=`, the value and
+/// an empty text.
 ///
 /// # Errors
 ///
@@ -74,14 +75,14 @@ pub fn count_standard(adapters: &[(&str, &str)]) -> usize
         .count()
 }
 
-/// Whether a path stands for standard input.
+/// Whether a path means standard input.
 pub fn is_standard(path: &str) -> bool
     ensures { result ≡ is_standard path.now }
 {
     path == "-"
 }
 
-/// The texts before and after the first `=`; all and none, where there is no `=`.
+/// The texts before and after the first `=`; without a `=`, the whole text and an empty one.
 fn pair_or(value: &str) -> (&str, &str)
     ensures { (result.0.now, result.1.now) ≡ pair_or value.now }
 {
@@ -91,7 +92,8 @@ fn pair_or(value: &str) -> (&str, &str)
     }
 }
 
-/// The name and the file of an adapter: the texts before and after the first `=`; or else the file's own name.
+/// The name and the file of an adapter: the texts before and after the first `=`; without a `=`, the name comes from
+/// the file's name.
 fn adapter_file(value: &str) -> (&str, &str)
     ensures { (result.0.now, result.1.now) ≡ adapter_file_of value.now }
 {

@@ -1,4 +1,4 @@
-//! Options of programs: a table of them, by which arguments are read, and of which the usage text and the help are made.
+//! Options of programs, by a table: it reads the arguments, and makes the usage text and the help.
 #![tactic(auto)]
 
 mod adapters;

@@ -26,22 +26,22 @@ pub(crate) enum Mode<'a> {
 pub(crate) enum Token<'a> {
     /// A text that is no option.
     Plain(&'a str),
-    /// The option of this name with this value, which is empty where it has none.
+    /// The option with this name and this value, which is empty if it has none.
     Given(&'a str, &'a str),
 }
 
-/// Reads arguments by a table of options, the first argument the one after the program's name. What begins with `-` is an
-/// option, but `-` alone; `--` is none, and says that those after it are no options either. The value of an option that has
-/// one is the next argument, or comes after a `=` in the same one. `most`: how many arguments there may be that are no
-/// options; `None` for any number. Nothing is allocated.
+/// Reads arguments by a table of options; the first argument is the one after the program's name. An argument that
+/// begins with `-` is an option, except `-` alone. The argument `--` is skipped; arguments after it are no options.
+/// If an option has a value, it is the next argument, or follows a `=` in the same one. `most`: how many arguments
+/// may be no options; `None` for any number. Nothing is allocated.
 ///
 /// # Errors
 ///
-/// They are read in order, and the first of these is named:
+/// The arguments are read in order, and the first of these is named:
 ///
 /// - `Help`, `Version`: an option is `--help` or `-h`, or `--version`.
-/// - `Wrong`: an option is not in the table, or comes again, or its value isn't one; or there are too many arguments that are
-///   no options; or after the last the value of an option is missing.
+/// - `Wrong`: an option is not in the table, or is repeated, or its value is not allowed; or too many arguments are
+///   no options; or, after the last, the value of an option is missing.
 pub fn check<'a>(
     table: &[ProgramOption],
     most: Option<usize>,
@@ -108,7 +108,7 @@ fn is_full(table: &[ProgramOption], most: Option<usize>, before: &[String]) -> b
     }
 }
 
-/// Refuses an option that was given before, if it may come once.
+/// Refuses a repeated option, if it may come only once.
 fn check_given<'a>(
     table: &[ProgramOption],
     before: &[String],
@@ -123,7 +123,7 @@ fn check_given<'a>(
     Ok(())
 }
 
-/// Whether an option was given before, and may come once.
+/// Whether an option is repeated that may come only once.
 fn comes_again(table: &[ProgramOption], before: &[String], name: &str) -> bool
     ensures { result ≡ comes_again (lines_of table.now)
         (said_by (lines_of table.now) (texts_in before.now)) name.now }

@@ -16,8 +16,8 @@ pub(crate) type CallKey = (usize, usize);
 /// Functions by what they call.
 pub(crate) type CallLists = Map<CallKey, Vec<usize>>;
 
-/// Lists a function, of an index, under what its body calls through tables. `firsts`: for each type the index of the first
-/// that is equal to it.
+/// Lists a function, by its index, under each call through a table in its body. `firsts`: for each type the index of
+/// the first type that is equal to it.
 pub(crate) fn list_body(
     alloc: Global,
     firsts: &[usize],

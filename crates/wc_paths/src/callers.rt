@@ -19,9 +19,9 @@ use wc_maps::{Map, Seed};
 use wc_read::{Def, Func, Module, Space};
 use wc_segments::{ElementSegment, SegmentMode, Segments};
 
-/// Of the functions that two lists of roots reach, those that call through a table (WebAssembly core specification, 5.4.1,
-/// `call_indirect`, and the proposal of tail calls, `return_call_indirect`), by the table and the type of what they call. So
-/// they may call each function of that type that an active element segment puts there.
+/// The functions that two lists of roots reach and that call through a table, by the table and the type of these calls.
+/// The calls are `call_indirect` (WebAssembly core specification, 5.4.1) and `return_call_indirect` (proposal of tail
+/// calls). So such a function may call each function of that type that an active element segment puts in the table.
 #[derive(Drop)]
 pub struct Callers {
     /// For each element segment the table that it fills, if it is active.
@@ -37,8 +37,8 @@ impl Callers {
     ghost use Rattle.wc_paths.specs.CallLists.{listed};
     ghost use Rattle.wc_paths.specs.Paths.{graph_in};
 
-    /// Finds the functions that call through tables. `paths`: the paths in this module, with these segments; `seed`: that
-    /// of maps. It takes time and memory linear in the module: each body that is reached is read once.
+    /// Finds the functions that call through tables. `paths`: the paths in this module, with these segments; `seed`:
+    /// the seed of maps. It takes time and memory linear in the module: each reachable body is read once.
     ///
     /// # Errors
     ///
@@ -68,9 +68,9 @@ impl Callers {
         })
     }
 
-    /// The functions that may call `next`, a function that `item` puts in a table, by their indices: where `item` is an
-    /// active element segment, those that call through its table with the type of `next`, or one that is equal. Of other
-    /// items there are none.
+    /// The functions that may call `next`, a function that `item` puts in a table, by their indices. If `item` is an
+    /// active element segment, they are the functions that call through its table with the type of `next` or an equal
+    /// type. For any other item the list is empty.
     pub fn between(&self, item: PathItem, next: PathItem) -> &[usize]
         ensures { result.now ≡ calling_of self.now item next }
     {

@@ -18,8 +18,8 @@ use std::alloc::{AllocError, Global};
 use std::marker::Model;
 use wc_graph::{find_dominators, positions_of, up_to_first};
 
-/// The dominators of some targets: the items of a module through which each path from a root to any target goes. Without
-/// one of them no path is left to any target.
+/// The dominators of some targets: the items of a module through which each path from a root to any target goes.
+/// Without any one of them, no path would lead to a target.
 #[derive(Drop)]
 pub struct Dominators {
     counts: Counts,
@@ -44,8 +44,8 @@ impl Model for Dominators {
 }
 
 impl Dominators {
-    /// Finds the dominators of targets. `paths`: the paths from two lists of roots in this graph; `roots`: the items of both
-    /// lists. A root or a target that is not there is left out.
+    /// Finds the dominators of targets. `paths`: the paths from two lists of roots in this graph; `roots`: the items of
+    /// both lists. A root or a target that the module does not have is left out.
     ///
     /// It takes time and memory linear in the module, the roots and the targets.
     ///
@@ -131,8 +131,8 @@ impl Dominators {
         })
     }
 
-    /// Whether an item is a dominator: each path from a root to a target goes through it, and it is no target itself. No item
-    /// is one where no path leads to a target. It takes constant time.
+    /// Whether an item is a dominator: each path from a root to a target goes through it, and it is no target itself.
+    /// If no path leads to a target, no item is a dominator. It takes constant time.
     pub fn has(&self, item: PathItem) -> bool
         ensures { result ≡ is_marked self.now item }
     {

@@ -14,8 +14,8 @@ use crate::parts::Part;
 use crate::places::Place;
 use std::alloc::{AllocError, Global};
 
-/// Which items of a component's modules are marked: those through which each path from a root to any target goes, where there
-/// is such a path; but no targets. Without one of them no path is left to any target.
+/// The marked items of a component's modules. If a path leads from a root to a target, they are the items, other than
+/// targets, through which each such path goes. Without any one of them, no path would lead to a target.
 #[derive(Drop)]
 pub struct Marks {
     /// For each item of the component, by its number, whether it is marked.
@@ -25,8 +25,8 @@ pub struct Marks {
 }
 
 impl Marks {
-    /// Finds the marks of a component with these modules. Roots and targets are those of all. It takes time and memory linear
-    /// in the parts.
+    /// Finds the marks of a component with these modules. The roots and the targets of all modules count. It takes time
+    /// and memory linear in the parts.
     ///
     /// # Errors
     ///

@@ -152,8 +152,8 @@ fn put_elements(
     }
 }
 
-/// Appends the items that an element segment names: its table, if it is active, what its offset names, the type that its
-/// reference type names, and its elements or what they name.
+/// Appends the items that an element segment names: its table and the items that its offset names, if it is active; the
+/// type that its reference type names; and its elements, or the items that these name.
 pub fn put_element(
     names: &mut Vec<PathItem>,
     alloc: Global,

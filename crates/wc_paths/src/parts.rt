@@ -23,7 +23,8 @@ pub struct Part {
     pub roots: Vec<usize>,
     /// The items to which paths lead.
     pub targets: Vec<usize>,
-    /// Links from items of the first part: the number that the item has there, and the item of this part that it names too.
+    /// Links from items of the first part: for each, the number of the item there, and the number of the item of this
+    /// part that it also names.
     pub links: Vec<(usize, usize)>,
     ghost fits: { item_count (counts_value counts) < 2 ^ 64 },
 }
@@ -56,7 +57,7 @@ impl Part {
         })
     }
 
-    /// A module of which only its imports are known: one item, at which paths begin, and to which they lead if it is a target.
+    /// A module of which only the imports are known: one item, which is a root, and a target if `is_target`.
     ///
     /// # Errors
     ///

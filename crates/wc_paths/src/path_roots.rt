@@ -55,8 +55,8 @@ impl<'a> Model for PathRoots<'a> {
 }
 
 impl<'a> PathRoots<'a> {
-    /// Goes through exports once, so that where each path begins is found in constant time; `paths`: those in the module. It
-    /// takes time and memory linear in the exports and in the items of the module.
+    /// Goes through exports once, so that the root of each path is found in constant time. `paths`: the paths in the
+    /// module. It takes time and memory linear in the exports and in the items of the module.
     ///
     /// # Errors
     ///
@@ -84,9 +84,10 @@ impl<'a> PathRoots<'a> {
         self.exports.as_slice()
     }
 
-    /// Where a path begins, of which the first list of roots are the items of these exports, in their order, and then the start
-    /// function, and the second list are the active segments (`second_roots`): at the first of these exports that has the path's
-    /// first item, or else at the start function; and a path from the second list at what its first item fills.
+    /// The root at which a path begins. The first list of roots has the items of these exports, in their order, and
+    /// then the start function; the second list has the active segments (`second_roots`). A path from the first list
+    /// begins at the first of these exports that has its first item, or at the start function if none has it. A path
+    /// from the second list begins at the table or the memory that its first item fills.
     pub fn root(&self, segments: &Segments<'_>, path: &Path) -> PathRoot<'a>
         ensures { IsPathRoot self.now (segments_value segments.now) path.now.is_second
             path.now.items.items (root_view result) }

@@ -11,12 +11,12 @@ use crate::paths::Paths;
 use std::alloc::{AllocError, Global};
 use wc_graph::tree_to;
 
-/// The paths to some items as a tree, as [`Paths::tree`] finds it. A path is had by going from its last item to the one before
-/// it, and so on.
+/// The paths to some items as a tree, as [`Paths::tree`] finds it. To read a path, go from its last item to the item
+/// before it, and so on.
 #[derive(Drop)]
 pub struct PathTree {
-    /// The items on the paths, each once: those on the path to the first item that was asked for, in order, and then of each
-    /// other path those that are new.
+    /// The items on the paths, each once: the items on the path to the first requested item, in order, and then the new
+    /// items of each other path.
     pub items: Vec<PathItem>,
     /// For each of them the position here of the one before it on its path; `None` where a path begins with it.
     pub from: Vec<Option<usize>>,
@@ -27,8 +27,8 @@ pub struct PathTree {
 }
 
 impl Paths {
-    /// The paths to some items, as `path` returns them, as a tree. It takes time and memory linear in the module and in these
-    /// items, however long their paths are.
+    /// The paths to some items, as `path` returns them, as a tree. It takes time and memory linear in the module and in
+    /// these items, however long their paths are.
     ///
     /// # Errors
     ///

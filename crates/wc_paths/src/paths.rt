@@ -21,7 +21,8 @@ use wc_segments::Segments;
 pub enum PathFault {
     /// An allocation failed.
     Memory,
-    /// The function of this index is reached, and its body is no code, or names an item or a segment that is out of range.
+    /// A root reaches the function of this index, but its body is no code, or names an item or a segment that is out of
+    /// range.
     LiveBody(usize),
 }
 
@@ -35,8 +36,8 @@ impl From<AllocError> for PathFault {
     }
 }
 
-/// The paths from two lists of roots to all items that they reach, from which one path at a time is taken. They take memory
-/// linear in the module; the paths of n items together may be n² items.
+/// The paths from two lists of roots to all items that they reach. `path` returns one path at a time. The value takes
+/// memory linear in the module, while the paths of n items together may have n² items.
 #[derive(Drop)]
 pub struct Paths {
     pub(crate) counts: Counts,
@@ -64,11 +65,13 @@ impl Paths {
 
     /// Finds what two lists of roots reach in a module, with its segments. A root that is not there leads nowhere.
     ///
-    /// It takes time and memory linear in the module and the roots. Each body that is reached is read once for each list.
+    /// It takes time and memory linear in the module and the roots. For each list, each body that the list reaches is
+    /// read once.
     ///
     /// # Errors
     ///
-    /// - `LiveBody`: a body that a root of either list reaches is no code, or names an item or a segment that is out of range.
+    /// - `LiveBody`: a root of either list reaches a body that is no code, or that names an item or a segment out of
+    ///   range.
     /// - `Memory`: an allocation failed, or there are more items than a number of 64 bits counts.
     pub fn find(
         alloc: Global,
@@ -138,9 +141,10 @@ impl Paths {
         }
     }
 
-    /// The shortest path from a root of the first list to an item, and of several the first, by the order of the roots, and
-    /// then by that in which each item names others; where none leads there, that from the second list. `None` where none
-    /// does. It takes time and memory for the items of this path alone.
+    /// The shortest path from a root of the first list to an item, or, if none leads there, the shortest path from a
+    /// root of the second list. Among several it is the first, by the order of the roots, and then by the order in
+    /// which each item names others. `None` if no path leads there. It takes time and memory for the items of this path
+    /// alone.
     ///
     /// # Errors
     ///
@@ -187,8 +191,8 @@ impl Paths {
         self.first.has(number) || self.second.has(number)
     }
 
-    /// Which items are on the paths to some items, as `path` returns them. It takes time and memory linear in the module and in
-    /// these items, however long their paths are.
+    /// The items on the paths to some items, as `path` returns these paths. It takes time and memory linear in the
+    /// module and in these items, however long their paths are.
     ///
     /// # Errors
     ///

@@ -17,16 +17,16 @@ use wc_encoder::ComponentEncoder;
 use wc_world::laws::{recorded_functions_lowered, worlds_exclude_faults};
 use wc_world::{ComponentWorld, ImportOptions};
 
-/// The plan of the component's world that an encoder and options make (`ComponentWorld::new`). There is one such world at
-/// most (`laws::worlds_unique`), so the plan is that of each.
+/// The plan of the component's world that an encoder and options make (`ComponentWorld::new`). At most one such world
+/// exists (`laws::worlds_unique`), so the plan is that of each.
 ///
 /// # Errors
 ///
-/// `World` is before all others. `Memory` may come in place of any.
+/// `World` comes before all others. `Memory` may come instead of any.
 ///
-/// - `World`: `ComponentWorld::new` answers this fault, which is not its `Memory`. Where there is such a world, it is that
-///   an allocation failed.
-/// - `NoMemory`, `NoRealloc`: as of `plan`. `NoLowering` is never answered.
+/// - `World`: `ComponentWorld::new` gives this fault, which is not its `Memory`. If a world exists all the same, the
+///   fault says that an allocation failed.
+/// - `NoMemory`, `NoRealloc`: as in `plan`. `NoLowering` never comes.
 /// - `Memory`: an allocation failed.
 pub fn plan_encoder<O: ImportOptions>(
     alloc: Global,

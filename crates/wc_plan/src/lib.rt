@@ -1,7 +1,8 @@
-//! The plan of a component: what each function that its modules import needs, in the order in which an encoder serves
-//! it. `plan` makes it of a component's world (`wc_world::ComponentWorld`), `plan_encoder` of an encoder
-//! (`wc_encoder::ComponentEncoder`), and `write_plan` prints it. `plan_explained` says which module's function a fault is
-//! about.
+//! The plan of a component: the needs of each function that its modules import, in the order of an encoder.
+//!
+//! `plan` makes it from a component's world (`wc_world::ComponentWorld`), `plan_encoder` from an encoder
+//! (`wc_encoder::ComponentEncoder`), and `write_plan` prints it. `plan_explained` says which module's function a
+//! fault is about.
 #![tactic(auto)]
 
 mod calls;

@@ -81,7 +81,7 @@ fn copy_of(alloc: Global, call: &Call) -> Result<Call, AllocError>
     Ok((interface, (name, call.1.1)))
 }
 
-/// The realloc that a lowered function needs, of those that its module exports.
+/// The realloc that a lowered function needs, among the exports of its module.
 fn realloc_for(
     alloc: Global,
     exports: &ExportMap,
@@ -196,7 +196,7 @@ fn push_use(planner: &mut Planner<'_>, one: Use) -> Result<(), AllocFailed<Use>>
     Ok(())
 }
 
-/// Adds what a function needs, unless it was found before.
+/// Adds the use of a function, unless it was added before.
 fn add_call<'a>(
     alloc: Global,
     context: Context<'_, '_>,
@@ -249,7 +249,7 @@ fn add_import<'a>(
     }
 }
 
-/// Adds what the imports of a module need.
+/// Adds the uses of a module's imports.
 fn add_module<'a>(
     alloc: Global,
     context: Context<'_, '_>,
@@ -279,7 +279,7 @@ fn add_module<'a>(
     Ok(())
 }
 
-/// Adds what the imports of the adapters need.
+/// Adds the uses of the adapters' imports.
 fn add_adapters<'a>(
     alloc: Global,
     context: Context<'a, '_>,
@@ -300,7 +300,7 @@ fn add_adapters<'a>(
     Ok(())
 }
 
-/// Adds what the imports of the main module and of the adapters need.
+/// Adds the uses of the imports of the main module and of the adapters.
 fn add_modules<'a>(
     alloc: Global,
     context: Context<'a, '_>,
@@ -318,16 +318,17 @@ fn add_modules<'a>(
     add_adapters(alloc, context, planner)
 }
 
-/// The uses of all functions that the main module and the adapters of a component's world import: first those of the
-/// main module, and then those of each adapter, in order. A function that a module imports twice, of one interface and called
-/// in one way, is there once.
+/// The uses of all functions that the main module and the adapters of a component's world import: first the uses of
+/// the main module, and then the uses of each adapter, in order. If a module imports a function of one interface
+/// twice, and calls it in one way, it is listed once.
 ///
-/// The interfaces of these functions must be in range and have names (`Resolve::name_world_key`); those of a world that
-/// `ComponentWorld::new` makes are and do.
+/// The interfaces of these functions must be in range and have names (`Resolve::name_world_key`). In a world that
+/// `ComponentWorld::new` makes, they are and do.
 ///
 /// # Errors
 ///
-/// The fault of the first function that has one, and of this the first in this order. `Memory` may come in place of any.
+/// The fault of the first function that has one; if this function has several, the first in this order. `Memory` may
+/// come instead of any.
 ///
 /// - `NoLowering`: the world has no lowering for it.
 /// - `NoMemory`: its options have a memory, and the main module neither imports nor exports one.
@@ -345,13 +346,13 @@ pub fn plan(alloc: Global, world: &ComponentWorld<'_>) -> Result<Plan, PlanFault
     }
 }
 
-/// As [`plan`]; but a call that fails says which function of which module its fault is about. It requires what `plan`
-/// does.
+/// Like [`plan`]; if the call fails, the result also says which function of which module its fault is about. It
+/// requires the same as `plan`.
 ///
 /// # Errors
 ///
-/// As those of `plan`. `Memory`, and no other fault, is about no function. Where there is no memory for what a fault is
-/// about, it is `Memory`.
+/// The faults of `plan`. Only `Memory` is about no function. If an allocation for the function of a fault fails, the
+/// fault is `Memory`.
 pub fn plan_explained(
     alloc: Global,
     world: &ComponentWorld<'_>,

@@ -20,7 +20,7 @@ pub trait FileStore {
     // and the kind of the error.
     ghost write_fails: { Self → Self → List ℕ → List ℕ → ErrorKind → Type 0 } = { λ _ _ _ _ _. ⊤ };
 
-    /// All bytes of the file of this path.
+    /// All bytes of the file at this path.
     ///
     /// # Errors
     ///
@@ -29,12 +29,12 @@ pub trait FileStore {
         ensures read { IfOk result (λ v. Holds (held self.now) path.now v.items) }
         ensures cause { IfErr result (λ e. read_fails self.now path.now (error_kind e)) };
 
-    /// Replaces the bytes of the file of this path by these, or creates that file with them. Every other file stays
+    /// Replaces the bytes of the file at this path by these, or creates the file with them. Every other file stays
     /// the same.
     ///
     /// # Errors
     ///
-    /// The file could not be written. What bytes it has then is left open, and only the implementation's `write_fails` says
+    /// The file could not be written. It may have any bytes then, and only the implementation's `write_fails` says
     /// why; every other file stays the same.
     fn write(&mut self, path: &str, bytes: &[u8]) -> io::Result<()>
         ensures written { OnOk result (Writes (held self.old) (held self.new) path.now bytes.now) }
@@ -52,21 +52,20 @@ pub trait DirectoryStore: FileStore {
     // the kind of the error.
     ghost make_fails: { Self → Self → List ℕ → ErrorKind → Type 0 } = { λ _ _ _ _. ⊤ };
 
-    /// Makes the directory of this path, and those that it is in, where they are not there. All files stay the same.
+    /// Creates the directory at this path, and its parents, if they don't exist. All files stay the same.
     ///
     /// # Errors
     ///
-    /// A directory could not be made. Which of them are there then is left open, and only the implementation's `make_fails`
-    /// says why; all files stay the same.
+    /// A directory could not be made. Any of them may exist then, and only the implementation's `make_fails` says
+    /// why; all files stay the same.
     fn make_directory(&mut self, path: &str) -> io::Result<()>
         ensures made { OnOk result (makes self.old path.now) }
         ensures files { Self.held self.new ≡ Self.held self.old }
         ensures cause { IfErr result (λ e.
             make_fails self.old self.new path.now (error_kind e)) };
 
-    /// Replaces the file of this path by one that has these bytes, or creates it. Every other file stays the same. If the
-    /// path is that of a link, the link is replaced. Who reads the file meanwhile reads the old one or the new one, as a
-    /// whole.
+    /// Replaces the file at this path by one that has these bytes, or creates it. Every other file stays the same. If
+    /// the path is a link, the link is replaced. Concurrent readers see the old file or the new one, in full.
     ///
     /// # Errors
     ///
@@ -92,7 +91,7 @@ pub enum FileProblem {
     NotADirectory,
     /// It may not be read, written or made.
     PermissionDenied,
-    /// It is there already, and is no directory.
+    /// It exists already, and is no directory.
     AlreadyExists,
     /// There is no space left for it.
     StorageFull,
@@ -102,7 +101,7 @@ pub enum FileProblem {
     Other,
 }
 
-/// The text after the path of the file or directory: `: `, and what the problem is; nothing for `Other`.
+/// The text after the path of the file or directory: `: `, and the problem; empty for `Other`.
 impl FaultText for FileProblem {
     ghost text = { problem_text };
 
@@ -128,11 +127,11 @@ pub fn problem_text(problem: FileProblem) -> &'static str
     }
 }
 
-/// All bytes of the file of this path.
+/// All bytes of the file at this path.
 ///
 /// # Errors
 ///
-/// The store's read of this path failed, with an error of the kind that the problem stands for.
+/// The store's read of this path failed, with an error of the problem's kind.
 pub fn read_file<F: FileStore>(files: &F, path: &str) -> Result<Vec<u8>, FileProblem>
     ensures read { IfOk result (λ v. Holds (F.held files.now) path.now v.items) }
     ensures problem { IfErr result (FailsBy (F.read_fails files.now path.now)) }
@@ -143,7 +142,7 @@ pub fn read_file<F: FileStore>(files: &F, path: &str) -> Result<Vec<u8>, FilePro
     }
 }
 
-/// The problem that an error of a store stands for; `Other`, where there is none of its own for its kind.
+/// The problem for an error of a store; `Other`, if its kind has no problem of its own.
 pub fn problem_of(e: &io::Error) -> FileProblem
     ensures { IsProblemOf (error_kind e.now) result }
 {

@@ -1,9 +1,9 @@
 //! The shell of a program of the command line: files, outputs, arguments and exit statuses. `wctrim_command` and
-//! `wcplan` stand on it.
+//! `wcplan` are built on it.
 //!
-//! A `Shell` has what a program needs: files (`FileStore`, `DirectoryStore`) and outputs (`Output`, `Screen`). `run` runs
-//! any `Program` in one, with its arguments or without. `print` is how a program ends by printing a text, and
-//! `system_shell` is the shell of the system.
+//! A `Shell` has files (`FileStore`, `DirectoryStore`) and outputs (`Output`, `Screen`) for a program. `run` runs any
+//! `Program` in one, with its arguments or without. `print` ends a program by printing a text, and `system_shell` is
+//! the shell of the system.
 #![tactic(auto)]
 
 mod files;

@@ -1,4 +1,4 @@
-//! A run of a program: its arguments, what it prints, and its exit status.
+//! A run of a program: its arguments, its output, and its exit status.
 
 ghost use Rattle.std.specs.Prelude.{◌≡◌, ℕ, List, IfErr, IfOk, IsErr, map, string_bytes};
 ghost use Rattle.std.specs.IoError.{error_kind};
@@ -18,13 +18,13 @@ pub const SUCCESS: u8 = 0;
 /// The exit status of a program that failed.
 pub const FAILURE: u8 = 1;
 
-/// The exit status of a program whose arguments are those of no command.
+/// The exit status of a program whose arguments make no command.
 pub const WRONG_ARGUMENTS: u8 = 2;
 
 /// Why a program has no arguments.
 #[derive(Clone, Copy, Debug, PartialEq, Eq)]
 pub enum NoArguments {
-    /// There are none.
+    /// No arguments were passed.
     Empty,
     /// There was no memory for them.
     NoMemory,
@@ -32,7 +32,7 @@ pub enum NoArguments {
     NoText,
 }
 
-/// A program, by what it does with its arguments in a shell.
+/// A program, which runs in a shell with its arguments.
 pub trait Program<F, O, E> {
     // Its run with arguments: of these, the shell before and after, and the exit status.
     ghost ends_with: { List (List ℕ) → Shell F O E → Shell F O E → ℕ → Type 0 };
@@ -40,18 +40,18 @@ pub trait Program<F, O, E> {
     // Its run without arguments.
     ghost ends_without: { NoArguments → Shell F O E → Shell F O E → ℕ → Type 0 };
 
-    /// Runs the program with these arguments, the first of them the one after its name. The answer is the exit status.
+    /// Runs the program with these arguments; the first is the one after its name. The result is the exit status.
     fn run_with(&self, arguments: &[String], shell: &mut Shell<F, O, E>) -> u8
         ensures { ends_with (map string_bytes arguments.now) shell.old shell.new result };
 
-    /// Runs the program without arguments. The answer is the exit status.
+    /// Runs the program without arguments. The result is the exit status.
     fn run_without(&self, why: NoArguments, shell: &mut Shell<F, O, E>) -> u8
         ensures ends { ends_without why shell.old shell.new result }
         ensures files { shell.new.files ≡ shell.old.files };
 }
 
-/// Runs a program: with its arguments, if they are known and there is one; else without. The answer is its exit status.
-/// Without arguments all files stay the same.
+/// Runs a program: with its arguments, if they are known and not empty; otherwise without. The result is its exit
+/// status. Without arguments all files stay the same.
 pub fn run<F, O, E, P: Program<F, O, E>>(
     program: &P,
     arguments: &io::Result<Vec<String>>,
@@ -92,7 +92,8 @@ fn run_known<F, O, E, P: Program<F, O, E>>(
     }
 }
 
-/// Prints a text, as a program does at its end. The answer is `status`, or the status of a failure where the output fails.
+/// Prints a text, as a program does at its end. The result is `status`, or the status of a failure if the output
+/// fails.
 pub fn print<O: Screen, T: FaultText>(out: &mut O, text: &T, status: u8) -> u8
     ensures { Prints (T.text text.now) status (Becomes O.ends out.old out.new) result }
 {

@@ -24,7 +24,7 @@ pub struct SystemFiles<'r, R> {
 impl<R: Files + AllocGlobal> FileStore for SystemFiles<'_, R> {
     ghost held = { λ _. None };
 
-    /// Room for the file's size is taken before its bytes are read, which are then not moved any more.
+    /// Memory for the file's size is allocated before its bytes are read, so that they are not moved later.
     fn read(&self, path: &str) -> io::Result<Vec<u8>> {
         let mut file = File::open(self.rt, path)?;
         let mut bytes = Vec::new(self.rt.alloc());
@@ -47,8 +47,9 @@ impl<R: Files + RandomSource + AllocGlobal> DirectoryStore for SystemFiles<'_, R
         fs::create_dir_all(self.rt, path)
     }
 
-    /// As a whole: the bytes go to a new file beside the one of this path, `.new-N` with a drawn number, which then takes its
-    /// name. Where that fails the new file is removed. A program that is stopped meanwhile leaves it.
+    /// Replaces the file as a whole. The bytes go to a new file in the same directory, `.new-N` with a random number,
+    /// which then takes the file's name. If that fails, the new file is removed. If the program is stopped meanwhile,
+    /// the new file remains.
     fn replace(&mut self, path: &str, bytes: &[u8]) -> io::Result<()> {
         let (beside, file) = create_beside(self.rt, path)?;
         let written = write_and_close(file, bytes);
@@ -63,14 +64,14 @@ impl<R: Files + RandomSource + AllocGlobal> DirectoryStore for SystemFiles<'_, R
     }
 }
 
-/// How many bytes of room are taken at most for a file before it is read: 64 MiB.
+/// The most bytes that are allocated for a file before it is read: 64 MiB.
 const MOST_ROOM: u64 = 1 << 26;
 
 /// How many numbers are drawn at most for the name of one new file.
 const MOST_DRAWS: u32 = 100;
 
-/// A new file in the directory of the file of this path, and its path: `.new-N` with the first drawn number for which there
-/// is none, also not as a link.
+/// A new file in the directory of the file at this path, and the new file's path: `.new-N` with the first random
+/// number for which no file or link exists.
 fn create_beside<R: Files + RandomSource + AllocGlobal>(
     rt: &R,
     path: &str,

@@ -53,17 +53,17 @@ impl<'a> Spelled<'a> for Import<'a> {
 
 /// Reads the content of an import section (WebAssembly core specification, 5.5.5).
 ///
-/// Names are slices of the content. The index of a function's type is not checked, all else of an import is.
+/// Everything of an import is checked, except the index of a function's type. Names are slices of the content.
 ///
 /// # Errors
 ///
 /// - `Truncated`: the bytes end inside an import, or before the last one that is counted.
 /// - `BadNumber`: a count, a length, an index, a bound or an exponent does not fit its bits in LEB128.
 /// - `BadName`: a name is not UTF-8.
-/// - `BadType`: a byte is no kind of import, no value type, no mutability, or no reference type in a table, or the index
-///   of a type in a reference is negative.
+/// - `BadType`: a byte is no kind of import, no value type, no mutability, or no reference type in a table; or the
+///   index of a type in a reference is negative.
 /// - `BadLimits`: flags that no table or memory has, a maximum below the minimum, a shared memory without a maximum,
-///   an exponent of a page size that is neither 0 nor 16, or pages past 2^32 bytes of a 32-bit memory.
+///   an exponent of a page size other than 0 and 16, or pages past 2^32 bytes of a 32-bit memory.
 /// - `SectionSize`: bytes follow the last import.
 /// - `Memory`: an allocation failed.
 pub fn read_imports(alloc: Global, content: &[u8]) -> Result<Vec<Import<'_>>, ReadFault>

@@ -88,8 +88,8 @@ impl<'a> Reader<'a> {
         }
     }
 
-    /// The bytes of an initialiser of one operator that names an item, and the `end`; where another one is next, nothing
-    /// is read.
+    /// The bytes of an initialiser with one operator that names an item, and the `end`; if another initialiser is
+    /// next, nothing is read.
     #[inline(always)]
     fn one_index_init(&mut self) -> Option<&'a [u8]>
         ensures read { IfSome result (λ b. init_bytes_at self.old.rest.now
@@ -187,7 +187,7 @@ impl<'a> Reader<'a> {
     }
 }
 
-/// Whether an operator may stand in an initialiser: it is constant, or the end.
+/// Whether an operator may be in an initialiser: it is constant, or the `end`.
 #[inline(always)]
 fn is_init_opcode(opcode: Opcode) -> bool
     ensures { result ≡ (is_end opcode || is_constant opcode) }

@@ -30,19 +30,19 @@ use std::alloc::{AllocError, Global};
 ///
 /// - `Component`: the bytes begin with the header of a component.
 /// - `NotWasm`: the bytes begin with the header of neither a module nor a component.
-/// - `Truncated`: the bytes, or those of a section, end inside an item.
+/// - `Truncated`: the bytes, or the bytes of a section, end inside an item.
 /// - `BadNumber`: a number does not fit its bits in LEB128, or an immediate of an initialiser is `BadNumber` in a body.
 /// - `BadName`: a name is not UTF-8, that of a custom section included.
 /// - `UnknownSection`: the id of a section is above 12.
-/// - `SectionOrder`: a section is out of order, or is there twice.
+/// - `SectionOrder`: a section is out of order, or occurs twice.
 /// - `SectionSize`: bytes of a section follow its last item.
 /// - `BadType`: a byte is no type, not the type that is needed, no mutability, or no kind of import or export, or the
 ///   index of a type in a reference is negative.
-/// - `BadLimits`: limits are those that `read_imports` refuses.
+/// - `BadLimits`: `read_imports` refuses these limits.
 /// - `CountMismatch`: there are not as many bodies as defined functions.
 /// - `TooLarge`: an index space has 2^32 items or more.
-/// - `BadIndex`: the type of a function, the type that a reference names, the item of an export or the start function is
-///   out of range.
+/// - `BadIndex`: the type of a function, the type that a reference names, the item of an export or the start function
+///   is out of range.
 /// - `DuplicateExport`: two exports have one name.
 /// - `UnknownOperator`: an opcode of an initialiser is not assigned, or the byte of a fence there is not 0.
 /// - `BadInitialiser`: an operator of an initialiser is not constant, or it does not leave one value of the type of its

@@ -71,8 +71,8 @@ pub fn global_names<'a>(
 /// specification, 7.4.1): of the functions that have one there. Indices are in the order of their first pairs; of
 /// several names for one index the last is. An index may be past the last function.
 ///
-/// A fault in a name section refuses nothing. It ends the names of its section; pairs before it stay. Of other
-/// sections nothing is read but their sizes.
+/// A fault in a name section refuses nothing. It ends the names of its section; pairs before it stay. Other sections
+/// are skipped by their sizes.
 ///
 /// # Errors
 ///
@@ -91,13 +91,13 @@ pub fn function_names(alloc: Global, bytes: &[u8]) -> Result<OrderedMap<u32, &st
     names_under(alloc, &frames.sections, FUNCTION_NAMES)
 }
 
-/// The names of the wanted functions alone: those of `function_names` whose index is among the wanted ones, in the order
-/// that they have there. The wanted indices come in any order, repeated or not, and may be past the last function. The
-/// name sections are read once, with no map of all names.
+/// The names of the wanted functions: the names in `function_names` whose index is wanted, in their order there. The
+/// wanted indices come in any order, repeated or not, and may be past the last function. The name sections are read
+/// once, without a map of all names.
 ///
 /// # Errors
 ///
-/// Those of `function_names`.
+/// The faults of `function_names`.
 pub fn function_names_at<'a>(
     alloc: Global,
     bytes: &'a [u8],

@@ -8,9 +8,10 @@ ghost use Rattle.wc_read.specs.Types.{type_indices};
 use crate::operators::{BlockType, Immediates, Index, IndexKind, Instr, Refs, Space};
 use crate::types::ValType;
 
-/// The types, functions, tables, memories and globals that an operator names by index, in the order in which it
-/// names them (5.4). One index is the first, and where only the second of two names such an item, that is the first.
-/// Locals, labels and segments are none. An access of memory names its memory, 0 where it is left out.
+/// The types, functions, tables, memories and globals that an operator names by index, in the order in which it names
+/// them (5.4). One index is the first; if an operator has two indices and only the second names such an item, that is
+/// the first. Locals, labels and segments don't count. An access of memory names its memory, which is 0 if it is left
+/// out.
 pub fn refs(instr: &Instr<'_>) -> Refs
     ensures { result ≡ refs_of (immediates_value instr.now.immediates) }
 {
@@ -102,8 +103,8 @@ impl<'a> Iterator for TypeRefs<'a> {
     }
 }
 
-/// The types named by the value types of a `select` (5.4.3), in order. `refs` gives none of these; of any other operator
-/// this gives none.
+/// The types named by the value types of a `select` (5.4.3), in order; for any other operator none. `refs` gives none
+/// of these types.
 pub fn type_refs<'a>(instr: &'a Instr<'_>) -> TypeRefs<'a>
     ensures { type_refs_left result ≡ type_refs_of (immediates_value instr.now.immediates) }
 {

@@ -64,8 +64,8 @@ pub fn read_section_contents<'a>(
     })
 }
 
-/// The items of the section with an id, which is a vector of them up to its end (WebAssembly core specification, 5.5.2);
-/// none where there is no such section.
+/// The items of the section with this id, whose whole content is a vector of them (WebAssembly core specification,
+/// 5.5.2); none if no section has the id.
 ///
 /// # Errors
 ///

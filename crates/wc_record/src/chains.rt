@@ -71,12 +71,13 @@ fn put_chains(out: &mut Writer, chains: &ImportChains<'_>) -> Result<(), AllocEr
     end_object(out)
 }
 
-/// Chains to imports as JSON: an object with `items`, the items that required exports reach, in the order of
-/// `ImportChains`, each an object with `space` (`type`, `func`, `table`, `memory` or `global`) and `index`; `finders`, for
-/// each of them the position among them of the item that first names it, or its own, if an export does; `exports`, for
-/// each item that an export names, which are the first, the name of that export; and `imports`, for each import of the
-/// module, in the order of the file, the position of its item, or null where it is not reached. The text is linear in the
-/// chains' tree: whoever reads it goes from an import's position to that of its finder, until it is that of an export.
+/// Chains to imports as JSON: an object with four members. `items` has the items that required exports reach, in the
+/// order of `ImportChains`, each an object with `space` (`type`, `func`, `table`, `memory` or `global`) and `index`.
+/// `finders` has for each item the position in `items` of the item that first names it, or its own position if an
+/// export names it. `exports` has for each item that an export names, which are the first items, the name of that
+/// export. `imports` has for each import of the module, in the order of the file, the position of its item, or null
+/// if it is not reached. The length of the text is linear in the tree of the chains. To read a chain, go from an
+/// import's position to the position of its finder, and so on up to an item that an export names.
 ///
 /// # Errors
 ///

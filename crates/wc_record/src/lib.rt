@@ -1,7 +1,8 @@
-//! A component's world, a plan, and what faults are about, as JSON: what `ComponentWorld::new` of `wc_world` and `plan` of
-//! `wc_plan` answer, and what these crates' explanations of faults do, for programs that share no types. The texts have no
-//! spaces, and the same order for the same input. All maps are lists of objects, so that every reader of JSON keeps their
-//! order.
+//! Writes a component's world, a plan, and the places of faults as JSON, for programs that share no types.
+//!
+//! These are the results of `ComponentWorld::new` of `wc_world` and of `plan` of `wc_plan`, and the explanations of
+//! faults by these crates. The texts have no spaces, and the same order for the same input. All maps are lists of
+//! objects, so that every reader of JSON keeps their order.
 //!
 //! Ids are indices, as in the JSON that worlds are read from (`wc_json`).
 #![tactic(auto)]

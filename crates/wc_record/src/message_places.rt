@@ -1,5 +1,6 @@
-//! The places of faults of messages beside those in modules: parts of worlds, functions of plans, adapters as a whole,
-//! keys of exports, names of worlds, and pieces of JSON.
+//! The places of faults of messages that are not in modules.
+//!
+//! These are parts of worlds, functions of plans, whole adapters, keys of exports, names of worlds, and pieces of JSON.
 
 ghost use Rattle.std.specs.Prelude.{◌≡◌, IfOk, None, OnOk, map, string_bytes};
 ghost use Rattle.std.specs.Str.{IsUtf8};
@@ -113,7 +114,7 @@ fn put_worlds(out: &mut Writer, name: &str, worlds: &[String]) -> Result<(), All
 }
 
 /// The place of a fault of worlds, interfaces, types and packages, as JSON: an object with `kind`, which is `world`,
-/// `interface`, `type` or `package`, and with `index`, the index in its list.
+/// `interface`, `type` or `package`, and `index`, the index in its list.
 ///
 /// # Errors
 ///
@@ -127,9 +128,9 @@ pub fn part_to_json(alloc: Global, part: Part) -> Result<Vec<u8>, AllocError>
     Ok(out.into_inner())
 }
 
-/// The function that a fault of a plan is about, as JSON: an object with `kind`, which is `function`, and with `adapter`, the
-/// name of the adapter or the library that imports it, or null for the main module; `interface`, null for a function of the
-/// world itself; `name`; and `abi`.
+/// The function that a fault of a plan is about, as JSON: an object with `kind`, which is `function`, and `adapter`,
+/// `interface`, `name` and `abi`. `adapter` is the name of the adapter or the library that imports the function, or
+/// null for the main module. `interface` is null for a function of the world itself.
 ///
 /// # Errors
 ///
@@ -157,8 +158,8 @@ pub fn adapter_to_json(alloc: Global, adapter: &str) -> Result<Vec<u8>, AllocErr
     Ok(out.into_inner())
 }
 
-/// Which adapter a fault of trimming without a place is about, as JSON: of a missing export an object of the kind
-/// `missing-export` as of `world_place_to_json`; else the adapter, as of `adapter_to_json`.
+/// The adapter that a fault of trimming without a place is about, as JSON: for a missing export an object of the kind
+/// `missing-export`, as in `world_place_to_json`; otherwise the adapter, as in `adapter_to_json`.
 ///
 /// # Errors
 ///
@@ -207,8 +208,9 @@ pub fn worlds_to_json(alloc: Global, name: &str, worlds: &[String]) -> Result<Ve
     Ok(out.into_inner())
 }
 
-/// The place of a fault of JSON, as JSON: an object with `kind`, which is `json-byte`, and with `byte`, of a text that is not
-/// JSON; or with `kind`, which is `json-path`, and with `path`, the path to what is wrong.
+/// The place of a fault of JSON, as JSON. For a text that is not JSON it is an object with `kind`, which is
+/// `json-byte`, and `byte`. Otherwise it is an object with `kind`, which is `json-path`, and `path`, the path to the
+/// wrong part.
 ///
 /// # Errors
 ///

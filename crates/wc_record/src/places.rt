@@ -101,7 +101,7 @@ fn put_missing_function(
     end_object(out)
 }
 
-/// Writes what a fault of validation is about.
+/// Writes the import or the export that a fault of validation is about.
 fn put_subject(out: &mut Writer, about: Context<'_>, subject: &Subject) -> Result<(), AllocError>
     ensures { OnOk result (PutsJson out.old out.new
         (json_in about.entry (subject_view subject.now))) }
@@ -151,7 +151,7 @@ fn put_body(
     end_object(out)
 }
 
-/// Writes a place of kind `bytes`: where the bytes of a module stop to be right.
+/// Writes a place of kind `bytes`: the offset at which the bytes of a module are malformed.
 fn put_bytes(out: &mut Writer, adapter: &Option<String>, place: ReadPlace) -> Result<(), AllocError>
     ensures { OnOk result (PutsJson out.old out.new
         (bytes_json (option_map string_bytes adapter.now) place)) }
@@ -164,7 +164,7 @@ fn put_bytes(out: &mut Writer, adapter: &Option<String>, place: ReadPlace) -> Re
     end_object(out)
 }
 
-/// Writes a place of kind `page-sizes`: how many bytes a page has.
+/// Writes a place of kind `page-sizes`: the sizes of pages in bytes.
 fn put_page_sizes(
     out: &mut Writer,
     adapter: &Option<String>,
@@ -182,7 +182,7 @@ fn put_page_sizes(
     end_object(out)
 }
 
-/// Writes what a fault of trimming is about.
+/// Writes the part of an adapter that a fault of trimming is about.
 fn put_trim_place(
     out: &mut Writer,
     adapter: &Option<String>,
@@ -221,19 +221,20 @@ impl ToJson for WorldPlace {
     }
 }
 
-/// The place of a fault of a component's world, as JSON: an object whose first member, `kind`, says what it is.
+/// The place of a fault of a component's world, as JSON: an object whose first member, `kind`, is one of these:
 ///
 /// - `import`: with `adapter`, `module`, `name`, `index` among all imports, and `types`;
 /// - `export`, `missing-export`: with `adapter`, `name` and `types`;
 /// - `missing-function`: with `adapter`, `module` (the text of the interface's key), `name` and `types`;
 /// - `section`: with `adapter` and `id`;
 /// - `body`: with `adapter`, `function` (its index) and `operator` (its number in the body, or null);
-/// - `bytes`: with `adapter`, `offset` (how many bytes of the module are right) and `section` (the id of the section in whose
-///   content they end, or null);
-/// - `page-sizes`: with `adapter`, and how many bytes a page has in its memory, `own`, and in the main module's, `main`.
+/// - `bytes`: with `adapter`, `offset` (how many bytes of the module are right) and `section` (the id of the section
+///   in whose content they end, or null);
+/// - `page-sizes`: with `adapter`, `own`, the bytes of a page in its memory, and `main`, the bytes of a page in the
+///   main module's memory.
 ///
-/// `adapter` is the name of the adapter or the library that it is in, or null for the main module; `types` is null, or an
-/// object with the function types `wanted` and `found`, each with `params` and `results`.
+/// `adapter` is the name of the adapter or the library of the place, or null for the main module. `types` is null, or
+/// an object with the function types `wanted` and `found`, each with `params` and `results`.
 ///
 /// # Errors
 ///
@@ -247,7 +248,7 @@ pub fn world_place_to_json(alloc: Global, place: &WorldPlace) -> Result<Vec<u8>,
     Ok(out.into_inner())
 }
 
-/// The place of a fault of trimming, as JSON: as of `world_place_to_json`, and `adapter` is null.
+/// The place of a fault of trimming, as JSON: as in `world_place_to_json`, and `adapter` is null.
 ///
 /// # Errors
 ///
@@ -261,8 +262,8 @@ pub fn trim_place_to_json(alloc: Global, place: TrimPlace) -> Result<Vec<u8>, Al
     Ok(out.into_inner())
 }
 
-/// Where the bytes of a module stop to be right, as JSON: as of `world_place_to_json`, of kind `bytes`, and `adapter` is
-/// null.
+/// The offset at which the bytes of a module are malformed, as JSON: as in `world_place_to_json`, of kind `bytes`,
+/// and `adapter` is null.
 ///
 /// # Errors
 ///

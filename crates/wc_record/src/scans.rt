@@ -240,14 +240,15 @@ fn put_scan(
     end_object(out)
 }
 
-/// The imports and exports of a module as JSON, with the names of its functions: an object with `imports`, in the order of
-/// the file, each an object with `module`, `name`, `kind` (`func`, `table`, `memory` or `global`) and `type`; `exports`,
-/// in the order of the file, each with `name`, `kind`, `index`, the item's in the space of its kind, and `type`; and
-/// `function_names`, all that `names` has in its order, each with `index` and `name`.
+/// The imports and exports of a module as JSON, with the names of its functions: an object with three members.
+/// `imports` has the imports in the order of the file, each an object with `module`, `name`, `kind` (`func`, `table`,
+/// `memory` or `global`) and `type`. `exports` has the exports in the order of the file, each with `name`, `kind`,
+/// `index` (the item's index in the space of its kind) and `type`. `function_names` has all entries of `names` in
+/// their order, each with `index` and `name`.
 ///
-/// A type of functions has `params` and `results`, that of a table `element_type`, `table64`, `initial` and `maximum`, that
-/// of a memory `memory64`, `shared`, `initial`, `maximum` and `page_size_log2`, and that of a global `content_type` and
-/// `mutable`. A type is null only in a module that `read_module` refuses.
+/// A function type has `params` and `results`; a table type has `element_type`, `table64`, `initial` and `maximum`; a
+/// memory type has `memory64`, `shared`, `initial`, `maximum` and `page_size_log2`; and a global type has
+/// `content_type` and `mutable`. A type is null only in a module that `read_module` refuses.
 ///
 /// # Errors
 ///

@@ -1,5 +1,6 @@
-//! The trait of what is written as JSON values, and its impls for numbers, texts, values that may be missing, shared values, and
-//! lists.
+//! The trait of values that are written as JSON.
+//!
+//! Its impls are for numbers, texts, optional values, shared values, and lists.
 
 ghost use Rattle.std.specs.Prelude.{OnOk, [], map, ◌∷◌};
 ghost use Rattle.json.specs.Json.{Json};
@@ -21,11 +22,11 @@ pub(crate) trait ToJson {
     // The JSON value that it is written as.
     ghost json: { View → Json };
 
-    /// Writes the value after what is written.
+    /// Writes the value after the text so far.
     ///
     /// # Errors
     ///
-    /// `AllocError`: an allocation failed. How much is written then is left open.
+    /// `AllocError`: an allocation failed. Any part of the value may then have been written.
     fn write(&self, out: &mut Writer) -> Result<(), AllocError>
         ensures { OnOk result (PutsJson out.old out.new (json (view self.now))) };
 }

@@ -1,5 +1,6 @@
-//! The types that contain strings, and those that contain strings or lists: found once for all types, of each from
-//! those that it refers to.
+//! The types that contain strings, and the types that contain strings or lists.
+//!
+//! They are found once for all types, each from the types that it refers to.
 
 ghost use Rattle.std.specs.Prelude.{◌≡◌, ◌<◌, ◌||◌, ◌&&◌, IfOk, false, length, map};
 ghost use Rattle.std.specs.List.{list_any};
@@ -102,8 +103,8 @@ fn has_text_at(flags: &[bool], types: &[TypeDef], index: usize, lists: bool) -> 
     kind_has_text(flags, &types[index].kind, lists)
 }
 
-/// For each type whether it has text, and whether lists are text too. In `order` each type is after those that it refers
-/// to.
+/// For each type whether it contains text, and whether it does if lists count as text. In `order` each type is after
+/// the types that it refers to.
 pub(crate) fn find_texts(
     alloc: Global,
     types: &[TypeDef],

@@ -25,9 +25,9 @@ pub enum FunctionKind {
 /// imports and "canon lift" for exports).
 #[derive(Clone, Copy, Debug, PartialEq, Eq, Hash)]
 pub enum AbiVariant {
-    /// A synchronous import: the result is there when the call returns.
+    /// A synchronous import: the result is available when the call returns.
     GuestImport,
-    /// A synchronous export: the result is there when the call returns.
+    /// A synchronous export: the result is available when the call returns.
     GuestExport,
     /// An asynchronous import: the call returns a state, and the result may be written to memory later.
     GuestImportAsync,
@@ -38,8 +38,8 @@ pub enum AbiVariant {
 }
 
 /// A function: its name, its kind, its parameters in order, each a name and a type, and the type of its result, if it
-/// has one. The name is the key under which it is listed: of a method `[method]file.read`. Copies of a function share its
-/// parameters.
+/// has one. The name is the key under which it is listed, such as `[method]file.read` for a method. Copies of a
+/// function share its parameters.
 #[derive(Debug, Drop)]
 pub struct Function {
     pub name: String,
@@ -48,7 +48,7 @@ pub struct Function {
     pub result: Option<WitType>,
 }
 
-/// Where a `Resolve` has a function: among those of an interface, or among the items that a world imports or exports;
+/// The position of a function in a `Resolve`: in an interface, or among the items that a world imports or exports;
 /// with its index there, from 0.
 #[derive(Clone, Copy, Debug, PartialEq, Eq)]
 pub enum FunctionPlace {
@@ -78,7 +78,7 @@ impl Function {
         })
     }
 
-    /// The name of the core export for this function: its name, and after `interface` and `#` where that is passed
+    /// The name of the core export for this function: its name, after `interface` and `#` if `interface` is passed
     /// (the name of the interface that has the function): `run`, `my:demo/host#run`.
     ///
     /// # Errors

@@ -24,7 +24,7 @@ pub(crate) struct FuturesEntry {
     pub(crate) parts: Vec<TypeId>,
     /// How many there are up to each of `parts` and with it, at most `u64::MAX`.
     pub(crate) ends: Vec<u64>,
-    /// Whether the type is a future or a stream, which comes after those of its parts.
+    /// Whether the type is a future or a stream, which comes after the futures and streams of its parts.
     pub(crate) is_carrier: bool,
     /// How many they are, at most `u64::MAX`.
     pub(crate) count: u64,
@@ -46,7 +46,7 @@ fn carried_ids(alloc: Global, kind: &TypeDefKind) -> Result<Vec<TypeId>, AllocEr
     Ok(ids)
 }
 
-/// The type whose futures and streams are those of a type that has some.
+/// The type that has the same futures and streams as a type that has some.
 fn only_part(parts: &[TypeId], is_carrier: bool, id: TypeId) -> TypeId
     ensures { result ≡ only_part parts.now is_carrier id }
 {
@@ -59,7 +59,7 @@ fn only_part(parts: &[TypeId], is_carrier: bool, id: TypeId) -> TypeId
     }
 }
 
-/// The type whose futures and streams are those of a type, if this has any.
+/// The type that has the same futures and streams as a type, if this has any.
 fn part_for(entries: &[FuturesEntry], id: TypeId) -> Option<TypeId>
     ensures { result ≡ part_for (map entry_view entries.now) id }
 {
@@ -117,7 +117,7 @@ fn with_itself(is_carrier: bool, count: u64) -> u64
     }
 }
 
-/// The types whose futures and streams are those of these types, one type's after another's.
+/// The types that have the same futures and streams as these types, type by type.
 pub(crate) fn parts_for(
     alloc: Global,
     entries: &[FuturesEntry],
@@ -173,7 +173,7 @@ fn entry_from(
     })
 }
 
-/// The entry of the type at an index, by those of the types that it contains by value.
+/// The entry of the type at an index, made from the entries of the types that it contains by value.
 fn entry_for(
     alloc: Global,
     entries: &[FuturesEntry],
@@ -190,7 +190,7 @@ fn entry_for(
     Ok(entry)
 }
 
-/// A list of so many entries without futures and streams.
+/// A list of entries, as many as requested, without futures and streams.
 fn empty_entries(alloc: Global, count: usize) -> Result<Vec<FuturesEntry>, AllocError>
     ensures { IfOk result (λ v. map entry_view v.items ≡ replicate count no_futures) }
 {
@@ -206,7 +206,7 @@ fn empty_entries(alloc: Global, count: usize) -> Result<Vec<FuturesEntry>, Alloc
     Ok(entries)
 }
 
-/// The entries of all types. In `order` each type is after those that it refers to.
+/// The entries of all types. In `order` each type is after the types that it refers to.
 pub(crate) fn futures_entries(
     alloc: Global,
     types: &[TypeDef],
@@ -224,7 +224,7 @@ pub(crate) fn futures_entries(
     Ok(entries)
 }
 
-/// Appends the step that adds the type itself, where it is a future or a stream.
+/// Appends the step that adds the type itself, if it is a future or a stream.
 fn leave_carrier(is_carrier: bool, id: TypeId, steps: &mut Vec<TypeStep>) -> Result<(), AllocError>
     ensures { OnOk result (steps.new.items ≡ steps.old.items
         ++ (if is_carrier then TypeStep.Leave id ∷ [] else [])) }
@@ -235,7 +235,7 @@ fn leave_carrier(is_carrier: bool, id: TypeId, steps: &mut Vec<TypeStep>) -> Res
     Ok(())
 }
 
-/// The futures and streams of types, those of one type after those of another.
+/// The futures and streams of types, type by type.
 fn list(alloc: Global, resolve: &Resolve, roots: Vec<TypeId>) -> Result<Vec<TypeId>, AllocError>
     requires { (x : ℕ) → Contains (indices roots.items) x → x < length resolve.now.types }
     ensures { IfOk result (λ v. indices v.items ≡
@@ -284,8 +284,8 @@ pub(crate) fn count_before(ends: &[u64], index: usize) -> u64
     if index == 0 { 0 } else { ends[index - 1] }
 }
 
-/// Of the parts of a type the one that has the future or stream at index `n` of the type, and its index there; `None`
-/// if the parts have no more than `n` together.
+/// The part of a type that has the future or stream at index `n` of the type, and its index in that part; `None` if
+/// the parts have no more than `n` together.
 fn part_with(resolve: &Resolve, id: TypeId, n: u64) -> Option<(TypeId, u64)>
     requires there { id.0 < length resolve.now.types }
     requires small { n < 2 ^ 32 }
@@ -321,8 +321,8 @@ fn target_with(resolve: &Resolve, id: TypeId, n: u64) -> Option<(TypeId, u64)>
     }
 }
 
-/// A type below a type that has the future or stream at index `n` of it, and its index there; `None` if the parts have no
-/// more than `n` together.
+/// A type inside a type that has the future or stream at index `n` of the outer type, and its index in the inner
+/// type; `None` if the parts have no more than `n` together.
 fn step_with(resolve: &Resolve, id: TypeId, n: u64) -> Option<(TypeId, u64)>
     requires there { id.0 < length resolve.now.types }
     requires small { n < 2 ^ 32 }
@@ -382,7 +382,7 @@ fn count_in(resolve: &Resolve, ty: WitType) -> u64
     }
 }
 
-/// The future or stream at index `n` among those of parameters, and after them of a result, if they have more than `n`.
+/// The future or stream at index `n` of parameters followed by a result, if they have more than `n`.
 fn nth_passed(
     resolve: &Resolve,
     params: &[(String, WitType)],
@@ -408,9 +408,9 @@ fn nth_passed(
 }
 
 impl Function {
-    /// The futures and streams in this function's parameters, and after them those in its result, in order. Those in
-    /// the payload of a future or a stream are before it. Each is listed as often as it occurs; aliases have those of
-    /// their targets, handles have none.
+    /// The futures and streams in this function's parameters, and then in its result, in order. The futures and
+    /// streams in the payload of a future or a stream come before it. Each is listed as often as it occurs; aliases
+    /// have the futures and streams of their targets, handles have none.
     ///
     /// The ids of the function must be in range (`has_function`).
     ///

@@ -102,14 +102,15 @@ fn add<K: KnownTypes>(
 
 /// Types that are in use, in the order in which they were added: each after the types that it refers to.
 ///
-/// The *listing* of a type is the listings of the types that it refers to (what it contains by value, a handle's
-/// resource, an alias's target), in order, and after them the type itself. A call that adds a type appends its listing
-/// without repeats: the types that are not there yet. What is there stays at the front, as it is. This is so where all
-/// types were added from one `Resolve`; of types from several, only what is there is sure to stay.
+/// The *listing* of a type has the listings of the types that it refers to, in order, and then the type itself. A
+/// type refers to the types that it contains by value, a handle's resource, or an alias's target. A call that adds a
+/// type appends its listing without repeats: the types that are not in the list yet. Types in the list stay at the
+/// front, unchanged. This holds if all types were added from one `Resolve`; if they are from several, only the types
+/// in the list are sure to stay.
 ///
-/// Beside the types in order a list has one byte for each index up to the largest that was added. To ask for a type, and
-/// to append one, is one access, whatever the ids are. A call that adds types takes time linear in the references of what
-/// it adds and of the types that it appends, and in the bytes for larger indices.
+/// Besides the types in order, a list has one byte for each index up to the largest that was added. Looking up a
+/// type, and appending one, takes one access, whatever the ids are. A call that adds types takes time linear in the
+/// references of the types that it adds and appends, and in the bytes for larger indices.
 ///
 /// ```ignore
 /// let mut live = LiveTypes::new(alloc);
@@ -242,9 +243,9 @@ impl LiveTypes {
         add(resolve, &NoTypes, roots, self)
     }
 
-    /// Adds the types of an item of a world: of an interface its types and then those of its functions, of a function
-    /// as `add_func` does, of a type as `add_type_id` does. The ids of the item must be in range (`has_interface`,
-    /// `has_type`, `has_function`).
+    /// Adds the types of an item of a world: of an interface its types and then the types of its functions, of a
+    /// function as `add_func` does, of a type as `add_type_id` does. The ids of the item must be in range
+    /// (`has_interface`, `has_type`, `has_function`).
     ///
     /// # Errors
     ///
@@ -262,9 +263,10 @@ impl LiveTypes {
         add(resolve, &NoTypes, roots, self)
     }
 
-    /// Adds the types of an item of a world as `add_world_item` does, but for those that are known: the types of the item
-    /// are appended without repeats to what is known and to this list after it. All types to which known ones refer have
-    /// to be known too, as in each list that was made from this `Resolve`; so the types below known ones are not visited.
+    /// Adds the types of an item of a world as `add_world_item` does, except known types: the types of the item are
+    /// appended without repeats to the known types and this list after them. All types to which known types refer
+    /// must be known too, as in each list that was made from this `Resolve`; so the types below known types are not
+    /// visited.
     ///
     /// # Errors
     ///

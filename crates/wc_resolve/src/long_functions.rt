@@ -1,5 +1,7 @@
-//! Functions by their places, and the caches of those that have more than a few parameters: which types their futures
-//! and streams are of, and how many there are up to each; and the flat types of the parameters.
+//! Functions by their positions, and the caches of functions with more than a few parameters.
+//!
+//! A cache has the types that the futures and streams are of, how many there are up to and with each, and the flat
+//! types of the parameters.
 
 ghost use Rattle.std.specs.Prelude.{◌≡◌, ◌<◌, ◌^◌, All, IfOk, IfSome, Some, length, map, slice_get};
 ghost use Rattle.std.specs.Option.{option_and_then, option_map};
@@ -30,7 +32,7 @@ const FEW_PARAMETERS: usize = 16;
 /// The cache of a function with many parameters: its futures and streams, and the flat types of its parameters.
 #[derive(Drop)]
 pub(crate) struct LongFunction {
-    /// Where the function is.
+    /// The position of the function.
     pub(crate) place: FunctionPlace,
     /// The types whose futures and streams these are, one type's after another's; each has some.
     pub(crate) parts: Vec<TypeId>,
@@ -149,8 +151,7 @@ fn push_places_of_interfaces(
     Ok(())
 }
 
-/// Appends the places of the functions that worlds import or export, of those that have more than a few parameters, in
-/// order.
+/// Appends the places of the functions with more than a few parameters that worlds import or export, in order.
 fn push_places_of_worlds(
     places: &mut Vec<FunctionPlace>,
     parts: &Parts,
@@ -344,9 +345,9 @@ fn nth_of_kept(resolve: &Resolve, kept: &LongFunction, n: u64) -> Option<TypeId>
 }
 
 impl Resolve {
-    /// The future or stream at an index, from 0, in the list of `Function::find_futures_and_streams` of the function at a
-    /// place; `None` if the list ends before it, or if there is no function. The list is not made. As
-    /// `Function::nth_future_or_stream`, but a function of many parameters is not walked.
+    /// The future or stream at an index, from 0, in the list of `Function::find_futures_and_streams` for the function
+    /// at a place; `None` if the list ends before it, or if no function is there. The list is not made. The result is
+    /// that of `Function::nth_future_or_stream`, but a function with many parameters is not walked.
     pub fn nth_future_or_stream_at(&self, place: FunctionPlace, n: u32) -> Option<TypeId>
         ensures { option_map id_index result ≡ option_and_then
             (λ f. slice_get (function_futures self.now f) n) (function_at_place self.now place) }
@@ -357,8 +358,8 @@ impl Resolve {
         }
     }
 
-    /// The core signature of the function at a place, as `wasm_signature` makes it; `None` if there is no function. A
-    /// function of many parameters is not walked.
+    /// The core signature of the function at a place, as `wasm_signature` makes it; `None` if no function is there. A
+    /// function with many parameters is not walked.
     ///
     /// # Errors
     ///

@@ -41,7 +41,7 @@ use wc_texts::Refused;
 /// The tables that the check of parts makes on its way.
 #[derive(Drop)]
 pub(crate) struct Checked {
-    /// The indices of all types, each after those that it refers to.
+    /// The indices of all types, each after the types that it refers to.
     order: Vec<usize>,
     /// For each type whether it is a resource, or an alias of one.
     resources: Vec<bool>,
@@ -63,7 +63,7 @@ pub(crate) struct FuturesTables {
 /// The tables that a `Resolve` keeps beside its parts.
 #[derive(Drop)]
 pub(crate) struct Tables {
-    /// The indices of all types, each after those that it refers to.
+    /// The indices of all types, each after the types that it refers to.
     pub(crate) order: Vec<usize>,
     /// For each type whether it is a resource, or an alias of one.
     pub(crate) resources: Vec<bool>,
@@ -105,7 +105,7 @@ fn first_breach(
     }
 }
 
-/// Checks the rule of a fault, of all parts. Only that of `ByValueResource` reads the flags of the types that are resources.
+/// Checks the rule of one fault, for all parts. Only the rule of `ByValueResource` reads the flags of resources.
 fn check_rule(
     alloc: Global,
     parts: &Parts,
@@ -125,7 +125,7 @@ fn check_rule(
     }
 }
 
-/// The indices of all types, each after those that it refers to.
+/// The indices of all types, each after the types that it refers to.
 pub(crate) fn order_of(alloc: Global, parts: &Parts) -> Result<Vec<usize>, OrderFault>
     requires { AreIdsInRange (parts_view parts.now) }
     ensures order { IfOk result (λ order. IsOrder (parts_view parts.now).types order.items) }
@@ -217,7 +217,7 @@ fn texts_of_parts(alloc: Global, parts: &Parts, order: &[usize]) -> Result<Vec<b
 ///
 /// # Errors
 ///
-/// The first fault of `Resolve::build`, and what it is about.
+/// The first fault of `Resolve::build`, and the part that it is about.
 pub(crate) fn well_formed(
     alloc: Global,
     parts: &Parts,
@@ -245,7 +245,7 @@ pub(crate) fn well_formed(
 ///
 /// # Errors
 ///
-/// The first fault of `Resolve::build`, and what it is about.
+/// The first fault of `Resolve::build`, and the part that it is about.
 pub(crate) fn check(alloc: Global, parts: &Parts) -> Result<Tables, Refused<ResolveFault, Part>>
     ensures kept { IfOk result (AreTables (parts_view parts.now)) }
     ensures refusal { IfErr result (IsRefusal (parts_view parts.now)) }

@@ -10,8 +10,8 @@ use wc_lines::values::put_fault;
 use wc_maps::Set;
 use wc_read::Space;
 
-/// `call_chain COUNT`: how many of so many functions are live, each of which calls the next, and the turns; and how long
-/// the chain to the last one is. The first is exported, and the last is empty.
+/// `call_chain COUNT`: of COUNT functions, each of which calls the next, how many are live, and the turns; and the
+/// length of the chain to the last one. The first is exported, and the last is empty.
 pub(crate) fn answer_call_chain(alloc: Global, row: &Row<'_>, out: &mut Lines) -> Result<(), Stop> {
     let count = number_of(out, "no count", row.argument(0))?;
     let bytes = chain_of(alloc, count)?;
@@ -54,7 +54,8 @@ fn put_count(found: &Liveness<RangeSet>, count: u32, out: &mut Lines) {
     out.push_str(" turns\n");
 }
 
-/// A module of so many functions, each of which calls the next; the first is exported as `a`, and the last is empty.
+/// A module of a number of functions, each of which calls the next; the first is exported as `a`, and the last is
+/// empty.
 fn chain_of(alloc: Global, count: u32) -> Result<Vec<u8>, AllocError> {
     let mut out = Vec::new(alloc);
     out.extend_from_slice(b"\0asm\x01\0\0\0\x01\x04\x01\x60\0\0")?;

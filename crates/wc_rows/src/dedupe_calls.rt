@@ -1,4 +1,4 @@
-//! Calls of `wc_dedupe`, and of it with the reader: what was renamed is read.
+//! Calls of `wc_dedupe`, and calls that also read the renamed module.
 
 use crate::modules::put_module;
 use std::alloc::Global;
@@ -43,7 +43,8 @@ fn put_renames(out: &mut Lines, map: &Option<ModuleImportMap>) {
     }
 }
 
-/// `read_deduped`: the module that bytes are once it is renamed. `dedupe_imports`: its imports, with their original names.
+/// `read_deduped`: the module that the bytes encode after renaming. `dedupe_imports`: its imports, with their
+/// original names.
 pub(crate) fn put_reread(alloc: Global, call: &str, bytes: &[u8], out: &mut Lines) {
     match ModuleImportMap::new(alloc, CowSlice::Borrowed(bytes)) {
         Ok((deduped, map)) => match read_module(alloc, deduped.as_slice()) {
@@ -55,7 +56,7 @@ pub(crate) fn put_reread(alloc: Global, call: &str, bytes: &[u8], out: &mut Line
     }
 }
 
-/// A line for each import, with its original name where it was renamed.
+/// A line for each import, with its original name if it was renamed.
 fn put_originals(out: &mut Lines, map: &Option<ModuleImportMap>, imports: &[Import<'_>]) {
     for import in imports {
         put_import(out, import);
@@ -68,8 +69,8 @@ fn put_originals(out: &mut Lines, map: &Option<ModuleImportMap>, imports: &[Impo
     }
 }
 
-/// `original_names BYTES`: the original names of the imports that the content of a section lists, by the map of a module.
-/// The bytes of the module are the arguments.
+/// `original_names BYTES`: the original names of the imports in the content of a section, by the map of a module. The
+/// arguments are the bytes of the module.
 pub(crate) fn answer_originals(alloc: Global, row: &Row<'_>, out: &mut Lines) -> Result<(), Stop> {
     let bytes = bytes_of(alloc, &row.arguments, out)?;
     let content = bytes_of(alloc, &row.input, out)?;

@@ -13,7 +13,7 @@ use wc_read::{
     read_init, read_module, refs, type_refs,
 };
 
-/// Reads bytes as what the call names, and answers a line for each of its items; or the fault.
+/// Reads bytes as the value that the call names, and answers a line for each of its items; or the fault.
 pub(crate) fn put_read(alloc: Global, call: &str, bytes: &[u8], out: &mut Lines) {
     match call {
         "frames" => match frames(alloc, bytes) {
@@ -53,8 +53,8 @@ pub(crate) fn answer_names_at(alloc: Global, row: &Row<'_>, out: &mut Lines) -> 
     Ok(())
 }
 
-/// `refs`: the items that a body's first operator refers to; `type_refs`: the types that it lists; `count_operators`: how
-/// many operators a body has, and how many runs of locals; `read_body`: a line for each.
+/// `refs`: the items that a body's first operator refers to; `type_refs`: the types that it lists; `count_operators`:
+/// the number of operators in a body, and the number of its runs of locals; `read_body`: a line for each.
 fn put_of_body(call: &str, body: &Body<'_>, out: &mut Lines) {
     if call == "refs" {
         if let Some(operator) = body.operators.first() {
@@ -98,7 +98,7 @@ fn opcode_of(family: Family, code: u32) -> Opcode {
     }
 }
 
-/// The codes below 512 of a family that are operators', in runs of one form; `forms byte` those of one byte.
+/// The codes below 512 in a family that are operators, in runs of one form; for `forms byte`, codes of one byte.
 pub(crate) fn answer_forms(row: &Row<'_>, out: &mut Lines) {
     match named(&FAMILIES, row.argument(0)) {
         Some(Family::Byte) => put_runs(Family::Byte, 0x100, out),
@@ -131,7 +131,7 @@ fn put_runs(family: Family, codes: u32, out: &mut Lines) {
     }
 }
 
-/// A line for a run of codes, where they are operators'.
+/// A line for a run of codes, if they are codes of operators.
 fn put_forms(out: &mut Lines, first: Opcode, last: Opcode, form: Option<Form>) {
     let Some(form) = form else {
         return;

@@ -9,7 +9,7 @@ use wc_lines::lines::Lines;
 use wc_lines::rows::Row;
 use wc_maps::Seed;
 
-/// Bytes for what is random elsewhere.
+/// Fixed bytes instead of random ones.
 #[derive(Clone, Copy)]
 struct GivenBytes<'a> {
     bytes: &'a [u8],
@@ -25,8 +25,8 @@ impl RandomSource for GivenBytes<'_> {
     }
 }
 
-/// `drawn_seed NUMBER`: the hash of a number of 64 bits under the seed that is drawn from a source with the bytes of the
-/// input, or that the source failed.
+/// `drawn_seed NUMBER`: the hash of a number of 64 bits under the seed that is drawn from a source with the bytes of
+/// the input, or that the source failed.
 pub(crate) fn answer_drawn(alloc: Global, row: &Row<'_>, out: &mut Lines) -> Result<(), Stop> {
     let word = row.argument(0);
     let Ok(number) = word.parse::<u64>() else {

@@ -42,7 +42,7 @@ impl Write for FailingWriter {
     }
 }
 
-/// Does what a line says, `put TEXT` or `flush`, and puts what came of it.
+/// Executes a line, `put TEXT` or `flush`, and puts the result.
 fn put_step(sink: &mut WriterSink<FailingWriter>, line: &str, out: &mut Lines) {
     let done = match line.strip_prefix("put ") {
         Some(text) => sink.put(text.as_bytes()),
@@ -56,8 +56,8 @@ fn put_step(sink: &mut WriterSink<FailingWriter>, line: &str, out: &mut Lines) {
     out.end();
 }
 
-/// The sink is over a writer that fails at the write and the flush that the arguments name, and at no other: it has room
-/// for 4,096 bytes.
+/// The sink's writer fails at the write and the flush that the arguments name, and at no other; it has room for 4,096
+/// bytes.
 pub(crate) fn answer_writer(alloc: Global, row: &Row<'_>, out: &mut Lines) {
     match Vec::with_capacity(alloc, 4096) {
         Ok(taken) => put_steps(row, taken, out),
@@ -125,8 +125,8 @@ fn named_command(row: &Row<'_>) -> Option<Command<'static>>
     }
 }
 
-/// `each_put_failing COMMAND`: the command, over sinks that fail after no put, after one, after two, and so on, until all
-/// puts pass. A line for each, and the answer.
+/// `each_put_failing COMMAND`: the command, over sinks that fail after no put, after one, after two, and so on, until
+/// all puts succeed. A line for each, and the answer.
 pub(crate) fn answer_each_failing(
     alloc: Global,
     row: &Row<'_>,
@@ -152,7 +152,7 @@ fn put_each_failing(alloc: Global, command: &Command<'_>, input: &[u8], out: &mu
     }
 }
 
-/// Whether the sink fails that takes so many puts.
+/// Whether a sink fails that takes this number of puts.
 fn put_fails(alloc: Global, command: &Command<'_>, input: &[u8], puts: u32, out: &mut Lines) -> bool
     requires { IsExecutable (command_view command.now) }
 {

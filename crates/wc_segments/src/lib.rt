@@ -1,7 +1,8 @@
-//! Reads the segments of a core WebAssembly module that `wc_read` has read: the contents of its sections of elements, data
-//! counts and data (`read_segments`).
+//! Reads the segments of a core WebAssembly module that `wc_read` has read (`read_segments`).
 //!
-//! `read_module` passes over these sections by their sizes. What is read here is a value that they spell; offsets,
+//! They are the contents of its sections of elements, data counts and data.
+//!
+//! `read_module` skips these sections by their sizes. The sections encode the value that is read here; offsets,
 //! expressions and data are slices of the bytes.
 #![tactic(auto)]
 

@@ -51,25 +51,26 @@ impl SegmentSection {
     }
 }
 
-/// Reads the segments of a module (5.5.12, 5.5.14 and 5.5.15) out of its bytes: those of elements in all eight forms, and
-/// those of data. `module` is what `read_module` has read of the bytes.
+/// Reads the segments of a module (5.5.12, 5.5.14 and 5.5.15) from its bytes: element segments in all eight forms,
+/// and data segments. `module` is the module that `read_module` has read from the bytes.
 ///
-/// Each index is one of the module, an offset leaves an i32, or an i64 where the table or the memory has addresses of 64
-/// bits, and an expression leaves a value of the segment's type, null or not. Whether that type is the table's, and
-/// whether a segment fits into its table or memory, is not checked. It takes time and memory linear in the bytes.
+/// Each index is in range in the module. An offset leaves an i32, or an i64 if the table or the memory has addresses
+/// of 64 bits. An expression leaves a value of the segment's type, null or not. Whether that type is the table's, and
+/// whether a segment fits into its table or memory, is not checked. Reading takes time and memory linear in the
+/// bytes.
 ///
 /// # Errors
 ///
-/// The place is the section at fault: that of elements first, then that of the data count, then that of data; where all
-/// three are right by themselves, and the count isn't that of the data segments, that of the data count.
+/// The place is the section at fault. The section of elements comes first, then the data count, then the data. If all
+/// three are right by themselves, but the count differs from the number of data segments, it is the data count.
 ///
 /// - `Truncated`, `BadNumber`: as of any section.
 /// - `SectionSize`: bytes of a section follow its last item.
 /// - `BadType`: flags are of no form, a kind of elements is not that of functions, or a type no reference type.
-/// - `UnknownOperator`, `BadInitialiser`: those of initialisers of globals.
+/// - `UnknownOperator`, `BadInitialiser`: as for initialisers of globals.
 /// - `BadIndex`: a table, a memory, a function of elements, or the type that a reference type names is out of range.
 /// - `CountMismatch`: the data count is another than the number of data segments.
-/// - Those of `frames`, without a place: the bytes are no module.
+/// - The faults of `frames`, without a place: the bytes are no module.
 /// - `Memory`, without a place: an allocation failed.
 pub fn read_segments<'a>(
     alloc: Global,
@@ -152,7 +153,7 @@ fn data_segments<'a>(
     Ok(data)
 }
 
-/// The count of data segments, where there is a section of it.
+/// The count of data segments, if a section has it.
 #[tactic(auto, unfolding(wc_read::specs::Reading::Contents::content_in))]
 fn data_count(sections: &[Section<'_>]) -> Result<Option<u32>, ReadFault>
     ensures { AnswersWithoutMemory (λ n. n) result
@@ -177,7 +178,7 @@ fn count_in(content: &[u8]) -> Result<u32, ReadFault>
     Ok(count)
 }
 
-/// Whether a count, where there is one, is that of data segments.
+/// Whether a count, if present, is the number of data segments.
 fn is_count_of(count: Option<u32>, data: &[DataSegment<'_>]) -> bool
     ensures { IsTrue result ↔ IsCountOf count (map data_value «data».now) }
 {
@@ -187,7 +188,7 @@ fn is_count_of(count: Option<u32>, data: &[DataSegment<'_>]) -> bool
     }
 }
 
-/// A fault, and its section where it has a place.
+/// A fault, and its section if it has a place.
 fn refused(fault: ReadFault, section: SegmentSection) -> Refused<ReadFault, SegmentSection>
     ensures fault { result.fault ≡ fault }
     ensures place { MatchOption result.place (fault ≡ ReadFault.Memory)

@@ -37,7 +37,7 @@ fn list_under<'k, V: Drop>(
     Ok(())
 }
 
-/// The positions of keys under their texts. `seed`: the seed of the map.
+/// The positions of keys under their texts. The map hashes under `seed`.
 fn positions_by_text<'k>(
     alloc: Global,
     seed: Seed,
@@ -67,7 +67,7 @@ fn add_listed(
     }
 }
 
-/// The positions that are listed under these texts, those of one text after those of another.
+/// The positions that are listed under these texts, text by text.
 fn listed_positions(
     alloc: Global,
     positions: &Map<&str, Vec<usize>>,
@@ -148,9 +148,9 @@ impl<'k> Model for KeyIndex<'k> {
 }
 
 impl<'k> KeyIndex<'k> {
-    /// The index of these keys, which it takes by their texts. `seed`: the seed of its map, and of the sets that it gives.
+    /// The index of these keys by their texts. Its map, and the sets that it gives, hash under `seed`.
     ///
-    /// No key may be there twice, as in the answer of `request_keys`.
+    /// No key may occur twice, as in the result of `request_keys`.
     ///
     /// # Errors
     ///
@@ -182,7 +182,7 @@ impl<'k> KeyIndex<'k> {
     }
 }
 
-/// The second texts of pairs under their first ones. `seed`: the seed of the map.
+/// The second texts of pairs under their first ones. The map hashes under `seed`.
 fn texts_by_name<'a>(
     alloc: Global,
     seed: Seed,
@@ -198,7 +198,7 @@ fn texts_by_name<'a>(
     Ok(texts)
 }
 
-/// The keys that adapters have to export, as a request says.
+/// The keys that adapters must export by a request.
 #[derive(Drop)]
 pub struct AdapterKeys<'k, 'a> {
     index: KeyIndex<'k>,
@@ -207,10 +207,10 @@ pub struct AdapterKeys<'k, 'a> {
 }
 
 impl<'k, 'a> AdapterKeys<'k, 'a> {
-    /// The keys of a request for adapters, among these keys of a world's exports. `seed`: the seed of the maps, and of the
-    /// sets that they give.
+    /// The keys of a request for adapters, among these keys of a world's exports. The maps, and the sets that they
+    /// give, hash under `seed`.
     ///
-    /// No key may be there twice, as in the answer of `request_keys`.
+    /// No key may occur twice, as in the result of `request_keys`.
     ///
     /// # Errors
     ///
@@ -230,8 +230,8 @@ impl<'k, 'a> AdapterKeys<'k, 'a> {
         Ok(AdapterKeys { index, texts })
     }
 
-    /// The keys that the adapter of this name has to export, in the order of the keys: those of `required_keys`. They take
-    /// time for the texts of this adapter alone.
+    /// The keys that the adapter with this name must export, in the order of the keys, as `required_keys` gives them.
+    /// The time depends only on the texts of this adapter.
     ///
     /// # Errors
     ///

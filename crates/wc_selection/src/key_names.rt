@@ -14,9 +14,9 @@ use std::alloc::{AllocError, Global};
 use wc_maps::{Map, Seed, Set, is_in_set, text_set};
 use wc_resolve::{Resolve, WorldId, WorldKey};
 
-/// The keys of a world's exports, in order, each with the text by which the request gives it: for the key of an interface
-/// its text without a version, if the request gives this and not the whole text, and no other key has it; else its text
-/// (`Resolve::name_world_key`). `seed`: the seed of the maps that are made.
+/// The keys of a world's exports, in order, each with the text that the request uses for it. For an interface this is
+/// the text without a version, if the request has that text and not the whole one, and no other key has it. Otherwise
+/// it is the key's own text (`Resolve::name_world_key`). The maps that are made hash under `seed`.
 ///
 /// The world must be in range (`Resolve::has_world`).
 ///
@@ -40,12 +40,12 @@ pub fn request_keys(
     keys_as_given(alloc, seed, &given, &keys)
 }
 
-/// The keys of a world's exports, as [`request_keys`] has them, but that the key of an interface which the request gives by
-/// its index has that text: `interface-3`, as a document has the key of the interface 3 under its own id. So another
-/// export of the same text is not given by it. `own`: the keys with their own texts, as [`export_keys`] has them. `seed`:
-/// the seed of the maps that are made.
+/// The keys of a world's exports with the texts of [`request_keys`], except for interfaces that the request names by
+/// their index. Such a key has the text `interface-3`, as a document has the key of the interface 3 under its own id.
+/// So the same text does not name another export. `own`: the keys with their own texts, as [`export_keys`] gives
+/// them. The maps that are made hash under `seed`.
 ///
-/// No key may be there twice, as in the answer of `export_keys`.
+/// No key may occur twice, as in the result of `export_keys`.
 ///
 /// # Errors
 ///
@@ -116,7 +116,7 @@ fn text_or_index(
     }
 }
 
-/// The text of an index, if it is in the set; else this one.
+/// The text of an index, if it is in the set; otherwise this text.
 fn index_or_text(
     alloc: Global,
     given: &Set<&str>,
@@ -140,7 +140,7 @@ fn index_text(alloc: Global, index: u32) -> Result<String, AllocError>
     format!(in alloc; "interface-{index}")
 }
 
-/// Keys, in order, each with the one of these texts by which it is given, or with its own.
+/// Keys, in order, each with the one of these texts that names it, or with its own.
 fn keys_as_given(
     alloc: Global,
     seed: Seed,
@@ -158,7 +158,7 @@ fn keys_as_given(
     keys_found(alloc, &set, &own, &short, keys)
 }
 
-/// The texts of keys without their versions, each with whether it is that of one key alone. `seed`: the seed of the map.
+/// The texts of keys without their versions, each with whether exactly one key has it. The map hashes under `seed`.
 fn short_texts<'k>(
     alloc: Global,
     seed: Seed,
@@ -175,8 +175,8 @@ fn short_texts<'k>(
     Ok(short)
 }
 
-/// Keys, in order, each with the text by which it is given, among the texts that are given, the keys' own and those
-/// without their versions.
+/// Keys, in order, each with the text that names it, by the request's texts, the keys' own texts, and these without
+/// their versions.
 fn keys_found(
     alloc: Global,
     given: &Set<&str>,
@@ -198,7 +198,7 @@ fn keys_found(
     Ok(named)
 }
 
-/// The text by which a key is given, among the texts that are given, the keys' own and those without their versions.
+/// The text that names a key, by the request's texts, the keys' own texts, and these without their versions.
 fn text_found<'k>(
     given: &Set<&str>,
     own: &Set<&str>,
@@ -217,7 +217,7 @@ fn text_found<'k>(
     }
 }
 
-/// Whether the first of two texts is given, and the second is not.
+/// Whether the request has the first of two texts, and not the second.
 fn is_given_as(given: &Set<&str>, short: &str, whole: &str) -> bool
     ensures { result ≡ (is_in (map text_of given.now.keys) short.now
         && not (is_in (map text_of given.now.keys) whole.now)) }
@@ -255,7 +255,7 @@ fn count_having(keys: &[(WorldKey, String)], text: &str) -> usize
     keys.iter().filter(|key| unversioned(key) == text).count()
 }
 
-/// The text of a key without its version: of an interface's key what is before its first `@`.
+/// The text of a key without its version: for an interface's key, the part before its first `@`.
 fn unversioned(key: &(WorldKey, String)) -> &str
     ensures { result.now ≡ unversioned (named_key key.now) }
 {
@@ -265,7 +265,7 @@ fn unversioned(key: &(WorldKey, String)) -> &str
     }
 }
 
-/// The part of a text before its first `@`; without one the whole text.
+/// The part of a text before its first `@`; without a `@` the whole text.
 fn unversioned_text(text: &str) -> &str
     ensures { result.now ≡ unversioned_text text.now }
 {

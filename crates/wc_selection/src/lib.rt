@@ -1,11 +1,13 @@
-//! The parts of a document that a request names: the world that is encoded, by its name (`select_world`), or the one
-//! that has all others for parts (`whole_world`); the keys of its imports (`import_keys`) and of its exports
-//! (`export_keys`), by their texts (`request_keys`, `check_keys`) or by the indices of their interfaces
-//! (`indexed_keys`); and the keys that the main module and each adapter have to export (`required_keys`). And the main
-//! module with its repeated imports renamed (`MainModule`), and the name that stands for no task hook (`no_task_hook`).
+//! The parts of a document that a request names.
 //!
-//! Texts are looked up in sets and maps that hash under the seed that is handed in (`wc_maps::Seed`): whoever chooses the
-//! names and doesn't know the seed can't make them slow.
+//! `select_world` finds the world by its name, `whole_world` the world that includes all others. `import_keys` and
+//! `export_keys` give the keys of its imports and exports. A request names keys by their texts (`request_keys`,
+//! `check_keys`) or by the indices of their interfaces (`indexed_keys`); `required_keys` gives the keys that the main
+//! module and each adapter must export. `MainModule` is the main module with its repeated imports renamed, and
+//! `no_task_hook` a name that means that there is no task hook.
+//!
+//! Texts are looked up in sets and maps that hash under the passed seed (`wc_maps::Seed`): names that are chosen
+//! without knowing the seed can't make them slow.
 #![tactic(auto)]
 
 mod fault;

@@ -18,20 +18,20 @@ pub struct MainModule {
     pub wasm: Vec<u8>,
     /// The original names of its renamed imports, where some were renamed.
     pub import_map: Option<ModuleImportMap>,
-    /// The bytes as they were given, where some imports were renamed.
+    /// The bytes as they were passed, if some imports were renamed.
     pub given: Option<Vec<u8>>,
 }
 
 impl MainModule {
-    /// The main module of these bytes, with its repeated imports renamed (`ModuleImportMap::new`); and where they stop to
-    /// be right, if they can't be read. Owned bytes are not copied; borrowed ones are.
+    /// The main module of these bytes, with its repeated imports renamed (`ModuleImportMap::new`); or, if they can't
+    /// be read, the offset at which they are malformed. Owned bytes are not copied; borrowed ones are.
     ///
     /// # Errors
     ///
-    /// - `Read`: the bytes are no component, and can't be cut into sections or have a malformed import section. It
-    ///   carries the reader's fault, never `Memory` or `Component`. It has a place, and no other fault has one.
+    /// - `Read`: the bytes are no component, and can't be split into sections or have a malformed import section. It
+    ///   carries the reader's fault, never `Memory` or `Component`. Only this fault has a position.
     /// - `TooLarge`: an import repeats, and a section of the renamed module has a content of 2^32 bytes or more.
-    /// - `Memory`: an allocation failed, also that for the place.
+    /// - `Memory`: an allocation failed, the one for the position included.
     ///
     /// `wasm` is dropped on an error.
     pub fn new_explained(
@@ -88,7 +88,7 @@ fn renamed(
     Ok(Some((bytes, map)))
 }
 
-/// The bytes, copied where they are borrowed.
+/// The bytes, copied if they are borrowed.
 fn owned(alloc: Global, bytes: CowSlice<'_, u8>) -> Result<Vec<u8>, AllocError>
     ensures { IfOk result (λ v. v.items ≡ cow_slice_items bytes.entry) }
 {

@@ -1,4 +1,4 @@
-//! The keys that modules have to export.
+//! The keys that modules must export.
 
 ghost use Rattle.std.specs.Prelude.{◌≡◌, All, Contains, IfErr, IfNone, IfOk, IfSome, None, OnOk, map};
 ghost use Rattle.std.specs.Str.{bytes_eq};
@@ -18,19 +18,19 @@ use std::alloc::{AllocError, Global};
 use wc_maps::{Seed, Set, first_outside, first_repeated, is_in_set, text_set};
 use wc_resolve::WorldKey;
 
-/// Checks the keys of a request against a world's exports: `keys`, each with the text by which the request gives it. `own`:
-/// the same exports with their own texts, or `keys` again where none is given by its index. `seed`: the seed of the sets
-/// that are made.
+/// Checks the keys of a request against a world's exports: `keys`, each with the text that the request uses for it.
+/// `own`: the same exports with their own texts, or `keys` again if the request names none by its index. The sets
+/// that are made hash under `seed`.
 ///
 /// # Errors
 ///
-/// Of several causes, the first in this order is named, and of one in the order of the keys; `Memory` may come in place of
-/// any. Keys of the main module are before those of adapters.
+/// If several causes apply, the first in this order is named, and its first occurrence in the order of the keys;
+/// `Memory` may come instead of any. Keys of the main module come before keys of adapters.
 ///
-/// - A text is that of none of `keys`. `RepeatedKey`: it is that of one of `own`, which is given by its index, or that of
-///   one of them alone without its version, which is given with it too. `SeveralKeys`: it is that of several without their
-///   versions. `UnknownKey`: it is that of none.
-/// - `RepeatedKey`: a key is given twice, for one module or for two.
+/// - A text matches none of `keys`. `RepeatedKey`: it matches one of `own` that the request also names by its index,
+///   or, without versions, exactly one of `own` that the request also names with its version. `SeveralKeys`: without
+///   versions, it matches several of `own`. `UnknownKey`: it matches none.
+/// - `RepeatedKey`: a key is repeated, for one module or for two.
 /// - `Memory`: an allocation failed.
 pub fn check_keys<'a>(
     alloc: Global,
@@ -54,8 +54,8 @@ pub fn check_keys<'a>(
     }
 }
 
-/// The fault of a text by which a request gives none of these keys: it is that of one, or of one alone without its version,
-/// which is given otherwise; or that of several without their versions; or that of none.
+/// The fault of a text that matches none of these keys. It matches a key that the request also names in another way,
+/// by itself or, without versions, as its only match; or several without versions; or none.
 fn unknown_key<'a>(own: &[(WorldKey, String)], text: &'a str) -> RequestFault<'a>
     ensures { IsUnknownKey (map named_key own.now) text.now result }
 {
@@ -69,7 +69,7 @@ fn unknown_key<'a>(own: &[(WorldKey, String)], text: &'a str) -> RequestFault<'a
     }
 }
 
-/// The first text that is the text of none of these keys. `seed`: the seed of the set of their texts.
+/// The first text that is the text of none of these keys. The set of their texts hashes under `seed`.
 fn first_unknown<'a>(
     alloc: Global,
     seed: Seed,
@@ -85,9 +85,9 @@ fn first_unknown<'a>(
     Ok(first_outside(texts, &set))
 }
 
-/// The keys that a module has to export, in the order of the world's exports: an adapter those that the request says,
-/// and so the main module; or, if the request says none of it, all that no adapter has to export. `seed`: the seed of the
-/// sets that are made.
+/// The keys that a module must export, in the order of the world's exports. For an adapter these are the keys that
+/// the request lists for it. So they are for the main module; if the request lists none for it, they are all keys
+/// that no adapter must export. The sets that are made hash under `seed`.
 ///
 /// # Errors
 ///
@@ -109,8 +109,8 @@ pub fn required_keys(
     required_in(alloc, seed, &set, gives_keys(request, exporter), keys)
 }
 
-/// The texts that decide what a module has to export: those of an adapter; and those of the main module or, if the request
-/// says none of it, those of all adapters, whose keys it doesn't export.
+/// The texts that decide which keys a module must export: for an adapter, its own texts. For the main module they are
+/// its own texts; or, if the request lists none for it, the texts of all adapters, whose keys it doesn't export.
 fn exporter_texts<'a>(
     alloc: Global,
     request: &KeyRequest<'_, 'a>,
@@ -173,7 +173,7 @@ fn is_under(pair: &(&str, &str), first: &str) -> bool
     pair.0 == first
 }
 
-/// Whether a module has to export what these texts are of, and not what they are not of.
+/// Whether a module must export the keys with these texts, rather than the keys without them.
 fn gives_keys(request: &KeyRequest<'_, '_>, exporter: Exporter<'_>) -> bool
     ensures { result ≡ gives_keys (request_value request.now) (exporter_name exporter.entry) }
 {
@@ -183,7 +183,8 @@ fn gives_keys(request: &KeyRequest<'_, '_>, exporter: Exporter<'_>) -> bool
     }
 }
 
-/// The keys whose texts are in a set; or, if `gives` is false, those whose texts are not. `seed`: the seed of their set.
+/// The keys whose texts are in a set; or, if `gives` is false, the keys whose texts are not. Their set hashes under
+/// `seed`.
 fn required_in(
     alloc: Global,
     seed: Seed,

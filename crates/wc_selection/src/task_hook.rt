@@ -1,13 +1,13 @@
-//! The name that an encoder is given where there is no task hook.
+//! The name for an encoder without a task hook.
 
 ghost use Rattle.std.specs.Prelude.{◌≡◌, IfOk, string_bytes};
 ghost use Rattle.wc_selection.specs.TaskHook.{NoExportIsHook, no_task_hook};
 
 use std::alloc::{AllocError, Global};
 
-/// A name by which no export is taken for the task hook: that of the initialiser, `_initialize`. An exported function of
-/// this name is the initialiser, whatever its type and whatever the name of the hook (`no_export_is_hook`). An encoder whose
-/// `task_hook` is this name has none.
+/// A name that makes no export the task hook: the name of the initialiser, `_initialize`. An exported function with
+/// this name is the initialiser, whatever its type and whatever the name of the hook (`no_export_is_hook`). An
+/// encoder whose `task_hook` is this name has no task hook.
 ///
 /// # Errors
 ///
@@ -18,8 +18,8 @@ pub fn no_task_hook(alloc: Global) -> Result<String, AllocError>
     String::from_str(alloc, "_initialize")
 }
 
-/// Where the task hook has the name of [`no_task_hook`], no export of any name and type is the task hook, nor has to have
-/// its type. A law: it does nothing when it runs.
+/// If the task hook has the name of [`no_task_hook`], no export of any name and type is the task hook, and none needs
+/// its type. A law: the function does nothing when it runs.
 pub fn no_export_is_hook()
     ensures { NoExportIsHook }
 {}

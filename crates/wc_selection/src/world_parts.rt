@@ -10,9 +10,9 @@ use wc_json::Document;
 use wc_maps::Map;
 use wc_resolve::{World, WorldId, WorldItem, WorldKey};
 
-/// The world of a document that has all its other worlds for parts: by their keys, it imports what each of them imports, and
-/// exports what it exports, and is no part of it in turn. Where the document has one world, it is this one. `None` where no
-/// world is so.
+/// The world of a document that includes all its other worlds: by their keys, it imports what each of them imports,
+/// and exports what each exports, and none of them includes it in turn. If the document has one world, it is this
+/// one. `None` if no world is such.
 ///
 /// It allocates nothing, and takes time linear in the worlds' keys.
 pub fn whole_world(document: &Document) -> Option<WorldId>
@@ -47,7 +47,7 @@ fn index_of_whole(worlds: &[World]) -> Option<usize>
     }
 }
 
-/// The index of the world that has all others for proper parts, if one has; else that of any.
+/// The index of the world that properly includes all others, if one does; otherwise the index of any world.
 fn likely_whole(worlds: &[World]) -> usize
     requires { 0 < length worlds.now }
     ensures there { result < length worlds.now }

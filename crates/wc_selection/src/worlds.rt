@@ -16,19 +16,19 @@ use wc_resolve::{PackageId, PackageName, WorldId};
 /// The forms of a world's name.
 #[derive(Clone, Copy, PartialEq, Eq)]
 enum NameForm {
-    /// `namespace:package/world`, with `@version` where the package has one.
+    /// `namespace:package/world`, with `@version` if the package has one.
     Full,
     /// `world`, or `namespace:package/world` without a version.
     Short,
 }
 
-/// The world of a document that a text names: the one whose full name it is, `namespace:package/world` with `@version`
-/// where the package has one; or, if it is no full name, the one whose name it is, `world` or `namespace:package/world`
-/// without a version. The package of a world is the one that the world itself says to be of.
+/// The world of a document that a text names. The text is the world's full name, `namespace:package/world` with
+/// `@version` if the package has one; or, if no world has this full name, the name `world` or
+/// `namespace:package/world` without a version. The package of a world is the package that the world itself names.
 ///
 /// # Errors
 ///
-/// - `PackageRange`: a world says to be of a package that isn't there. It is before all others.
+/// - `PackageRange`: a world names a package that does not exist. It comes before all others.
 /// - `UnknownWorld`: no world has this name, or none below index 2^32.
 /// - `SeveralWorlds`: several worlds have it.
 /// - `Memory`: an allocation failed.
@@ -51,8 +51,8 @@ pub fn select_world<'a>(
     only_world(&short, name)
 }
 
-/// The full name of the world at an index: `namespace:package/world`, with `@version` where the package has one. It is the
-/// world's own name where it says to be of no package, or of one that isn't there.
+/// The full name of the world at an index: `namespace:package/world`, with `@version` if the package has one. It is
+/// the world's own name if it names no package, or one that does not exist.
 ///
 /// # Errors
 ///
@@ -69,21 +69,21 @@ pub fn world_name(alloc: Global, document: &Document, index: usize) -> Result<St
     }
 }
 
-/// Whether the packages that worlds say to be of are there.
+/// Whether the packages that worlds name exist.
 fn are_packages_in(document: &Document) -> bool
     ensures { IsTrue result ↔ ArePackagesIn (document_view document.now) }
 {
     are_ids_in(&document.world_packages, document.parts.packages.len())
 }
 
-/// Whether those of some packages that there are, are among so many.
+/// Whether the package ids among these are less than this number.
 fn are_ids_in(ids: &[Option<PackageId>], count: usize) -> bool
     ensures { IsTrue result ↔ All (λ id. IsPackageIn count (option_map (λ i. i.0) id)) ids.now }
 {
     ids.iter().all(|id| is_package_in(*id, count))
 }
 
-/// Whether a package, if there is one, is one of so many.
+/// Whether the id of a package, if present, is less than a number.
 #[tactic(auto, unfolding(crate::specs::Worlds::IsPackageIn))]
 fn is_package_in(id: Option<PackageId>, count: usize) -> bool
     ensures { IsTrue result ↔ IsPackageIn count (option_map (λ i. i.0) id) }
@@ -195,7 +195,7 @@ fn is_short_name(
     Ok(unversioned.as_str() == name)
 }
 
-/// `namespace:package/world`, with `@version` where the package has one.
+/// `namespace:package/world`, with `@version` if the package has one.
 fn full_name(alloc: Global, package: &PackageName, world: &str) -> Result<String, AllocError>
     ensures { IfOk result (λ text. string_bytes text
         ≡ member_text parts_text (package_name_view «package».now) world.now) }

@@ -67,8 +67,8 @@ pub fn number_if(counts: &Counts, item: PathItem) -> Option<usize>
     }
 }
 
-/// The numbers of the items that are exported by these names, in their order; `None` where the module exports none of the name, or
-/// the item isn't there.
+/// The numbers of the items that these names export, in the order of the names; `None` for a name that the module does
+/// not export, or whose item is out of range.
 ///
 /// # Errors
 ///

@@ -1,10 +1,10 @@
-//! The imports of a component's modules, by interfaces: of each interface which modules import something of it, and what has
-//! to go for it to go.
+//! The imports of a component's modules by interface: which modules import from each interface, and which calls must be
+//! removed to drop it.
 //!
-//! Modules are noted one after another, in `Entries`, which begin empty: the main module by `note_main_module`, each adapter
-//! that is trimmed by `note_adapter_module`, and each library by `note_library`; of each import is known to which interface it
-//! belongs, if it belongs to one. `place_of` and `set_types` note an interface that is imported for its types.
-//! `sort_entries` brings interfaces into the order in which they are listed, and `lines_of` and `json_of` print them.
+//! `Entries` begin empty, and note one module after another: the main module by `note_main_module`, each trimmed
+//! adapter by `note_adapter_module`, and each library by `note_library`. Callers pass the interface of each import, if
+//! it belongs to one. `place_of` and `set_types` note an interface that is imported for its types. `sort_entries` puts
+//! the interfaces in the order of the list, and `lines_of` and `json_of` print them.
 #![tactic(auto)]
 
 mod entries;

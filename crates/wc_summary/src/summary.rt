@@ -11,7 +11,7 @@ use wc_maps::Map;
 pub struct MainPart {
     /// How many of its imports are of the interface.
     pub imports: usize,
-    /// The functions that are reached and name such an import, by their indices. None, where the module can't be followed.
+    /// The reachable functions that name such an import, by their indices. It is empty if the module can't be followed.
     pub by: Vec<u32>,
 }
 
@@ -119,8 +119,8 @@ fn bytes_of(parts: &[AdapterPart<'_>]) -> usize
     bytes
 }
 
-/// The condition for an interface to go, by whether the main module imports it, whether no adapter does, and whether one
-/// does whatever the main module imports.
+/// The condition for an interface to go. `has_main`: the main module imports it; `has_none`: no adapter does;
+/// `has_staying`: an adapter does, whatever the main module imports.
 fn kind_by(has_main: bool, has_none: bool, has_staying: bool) -> Kind
     ensures { result ≡ kind_by has_main has_none has_staying }
 {

@@ -35,10 +35,11 @@ pub struct AdapterImports<'a, 'm, 'c, T> {
     pub required: Required<'m, T>,
 }
 
-/// Notes what an adapter that is trimmed imports: of each interface how many imports are of it, the required exports that
-/// lead to one, and how many functions are live for these alone, with the bytes of their bodies, as far as a number counts.
-/// An export leads to an import that a path leads to from its item; a function is live that a path leads to from the item of a
-/// required export. Interfaces that weren't listed are listed last, in the order of the imports.
+/// Notes the imports of a trimmed adapter. For each interface it notes the number of its imports, and the required
+/// exports that lead to one of them. It also notes how many functions are live for these exports alone, and the bytes
+/// of their bodies, at most 2^64 - 1. An export leads to an import if a path leads there from the export's item. A
+/// function is live if a path leads to it from the item of a required export. Interfaces that weren't listed are added
+/// at the end, in the order of the imports.
 ///
 /// It takes time linear in the module for each 64 interfaces and each 64 required exports (`wc_graph::spread`).
 ///
@@ -68,9 +69,9 @@ pub fn note_adapter_module<'a, T>(
     )
 }
 
-/// Notes what a library imports, of which only its imports are known: how many are of each interface. It stays whatever the
-/// main module imports. `tags` has of each import, in order, the interface to which it belongs, if there is one. Interfaces
-/// that weren't listed are listed last, in the order of the imports.
+/// Notes the imports of a library, of which nothing else is known: for each interface the number of its imports. They
+/// stay, whatever the main module imports. `tags`: for each import, in order, the interface to which it belongs, if it
+/// belongs to one. Interfaces that weren't listed are added at the end, in the order of the imports.
 ///
 /// It takes time linear in the imports.
 ///

@@ -25,12 +25,12 @@ use wc_paths::{Counts, ModuleGraph, PathItem, first_roots, has_item, number_of, 
 use wc_read::{Module, Space};
 use wc_segments::Segments;
 
-/// Notes what the main module imports: of each interface how many imports are of it, and the functions that are reached and
-/// name one, by their indices. `tags` has of each import, in order, the interface to which it belongs, if there is one.
-/// Interfaces that weren't listed are listed last, in the order of the imports.
+/// Notes the imports of the main module: for each interface the number of its imports, and the reachable functions that
+/// name one of them, by their indices. `tags`: for each import, in order, the interface to which it belongs, if it
+/// belongs to one. Interfaces that weren't listed are added at the end, in the order of the imports.
 ///
-/// A function is reached that a path leads to from an export, the start function or an active segment. `segments`: those of
-/// the module; where there are none given, it can't be followed, and no function is noted.
+/// A function is reachable if a path leads to it from an export, the start function or an active segment. `segments`:
+/// the segments of the module; `None` if it can't be followed, and then no function is noted.
 ///
 /// It takes time and memory linear in the module.
 ///
@@ -93,8 +93,8 @@ fn note_followed(
     note_namers(alloc, &graph, &owners, &reached, entries)
 }
 
-/// For each item of a module a word whose first bit says whether a root leads there: an export, the start function, or an active
-/// segment.
+/// For each item of a module a word whose first bit says whether a root leads to the item: an export, the start
+/// function, or an active segment.
 ///
 /// # Errors
 ///

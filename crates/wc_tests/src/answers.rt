@@ -61,7 +61,7 @@ fn answer_here(alloc: Global, row: &Row<'_>, out: &mut Lines) -> Result<bool, St
     Ok(true)
 }
 
-/// Appends the answer of a call for the texts of faults, in the order of their enum. False where a row has another call.
+/// Appends the answer of a call for the texts of faults, in the order of their enum. False if a row has another call.
 fn put_faults(alloc: Global, call: &str, out: &mut Lines) -> Result<bool, Stop> {
     match call {
         "json_faults" => put_json_faults(alloc, out)?,
@@ -76,8 +76,8 @@ fn put_faults(alloc: Global, call: &str, out: &mut Lines) -> Result<bool, Stop> 
     Ok(true)
 }
 
-/// Whether the lines of an answer are those that a row wants. Where memory may fail, an answer may stop at a line that
-/// says so.
+/// Whether the lines of an answer are the lines that a row wants. If memory may fail, an answer may stop at a line
+/// that says so.
 pub(crate) fn is_wanted(row: &Row<'_>, answer: &str, may_fail: bool) -> bool {
     let mut lines = answer.lines();
     for wanted in &row.answer {

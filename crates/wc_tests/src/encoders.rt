@@ -13,14 +13,14 @@ use wc_lines::seeds::row_seed;
 use wc_maps::{Map, Set};
 use wc_resolve::{Resolve, WorldKey};
 
-/// A row, which says what is asked about an answer.
+/// A row, with its questions about an answer.
 #[derive(Clone, Copy)]
 pub(crate) struct Asked<'a> {
     pub(crate) row: &'a Row<'a>,
 }
 
-/// Builds the encoder of a row: of the message that is its JSON, of the main module in the lines `module BYTES`, and of
-/// adapters in lines `adapter NAME BYTES`. The lengths in the message are not looked at. Where an argument of the call is
+/// Builds the encoder of a row from the message in its JSON, the main module in the lines `module BYTES`, and the
+/// adapters in the lines `adapter NAME BYTES`. The lengths in the message are ignored. If an argument of the call is
 /// `deduped`, the repeated imports of the main module are renamed first.
 pub(crate) fn encoder_of(
     alloc: Global,

@@ -72,7 +72,8 @@ fn put_name(out: &mut Lines, name: &Option<String>) {
     }
 }
 
-/// An example on the bytes of a module: `exports_memory`, `import_section`, `reaches_memory NAME..` or `trim_unedited NAME..`.
+/// An example on the bytes of a module: `exports_memory`, `import_section`, `reaches_memory NAME..` or `trim_unedited
+/// NAME..`.
 fn answer_of_bytes(alloc: Global, row: &Row<'_>, out: &mut Lines) -> Result<(), Stop> {
     let bytes = bytes_of(alloc, &row.input, out)?;
     let required = names_from(alloc, row, 1)?;
@@ -98,8 +99,8 @@ fn answer_of_bytes(alloc: Global, row: &Row<'_>, out: &mut Lines) -> Result<(), 
     Ok(())
 }
 
-/// The last line of input is the content of a section of imports, of which the first is meant; the lines before it are the
-/// module.
+/// The last line of input is the content of a section of imports, whose first import is used; the lines before it are
+/// the module.
 fn answer_original_name(alloc: Global, row: &Row<'_>, out: &mut Lines) -> Result<(), Stop> {
     let Some((last, lines)) = row.input.as_slice().split_last() else {
         return Err(bad_row(out, "no import", ""));
@@ -210,8 +211,8 @@ fn answer_trim_both(alloc: Global, row: &Row<'_>, out: &mut Lines) -> Result<(),
     Ok(())
 }
 
-/// `example encoder_for WORLD`, `example imported_memory`, `example can_use_slot_1`: of the module, as the main module of a
-/// world that imports and exports nothing.
+/// `example encoder_for WORLD`, `example imported_memory`, `example can_use_slot_1`: on the module, as the main
+/// module of a world that imports and exports nothing.
 fn answer_empty(alloc: Global, row: &Row<'_>, asked: &Asked, out: &mut Lines) -> Result<(), Stop> {
     let world = match asked {
         Asked::Fields => number_of(out, "no number", row.argument(1))?,
@@ -226,8 +227,8 @@ fn answer_empty(alloc: Global, row: &Row<'_>, asked: &Asked, out: &mut Lines) ->
     Ok(())
 }
 
-/// `example summary`, `example printed_plan`: of the component of a main module and an adapter. A line `adapter` is between
-/// their bytes.
+/// `example summary`, `example printed_plan`: on the component of a main module and an adapter. A line `adapter`
+/// separates their bytes.
 fn answer_demo(alloc: Global, row: &Row<'_>, asked: &Asked, out: &mut Lines) -> Result<(), Stop> {
     let main = bytes_beside(alloc, row, "adapter", false, out)?;
     let adapter = bytes_beside(alloc, row, "adapter", true, out)?;

@@ -70,8 +70,8 @@ fn put_required(
     Ok(())
 }
 
-/// The answers that a row asks of a module: of the exports those to lines `do ask QUESTION`, after the word `ask`; of the
-/// imports `required ADAPTER`, or all that is recorded.
+/// The answers to a row's questions about a module: for the exports, answers to lines `do ask QUESTION`, after the
+/// word `ask`; for the imports, `required ADAPTER`, or all that is recorded.
 fn put_asked(
     alloc: Global,
     validated: &ValidatedModule,
@@ -91,7 +91,7 @@ fn put_asked(
 }
 
 impl<'a> PutAbout<Asked<'a>> for Result<ValidatedModule, ValidateFault> {
-    /// Puts what is asked of a validated module, or why it was refused.
+    /// Puts the answers about a validated module, or why it was refused.
     fn put_about(&self, alloc: Global, asked: &Asked<'a>, out: &mut Lines) {
         match self {
             Ok(validated) => {
@@ -155,7 +155,7 @@ struct AdapterModule<'a> {
 }
 
 impl AdapterModule<'_> {
-    /// Validates the adapter by interfaces that are made for so many modules.
+    /// Validates the adapter by interfaces that are made for a number of modules.
     fn put_among(
         &self,
         alloc: Global,
@@ -187,8 +187,8 @@ impl AdapterModule<'_> {
     }
 }
 
-/// `validate_adapter_module NAME ..`: the adapter of a name, of which the functions are required that the main module
-/// imports. After `among N`: by interfaces that are made for so many modules; else for one.
+/// `validate_adapter_module NAME ..`: the adapter with this name, for the functions that the main module imports from
+/// it. After `among N`, interfaces are made for N modules; otherwise for one.
 pub(crate) fn put_adapter(
     alloc: Global,
     encoder: &ComponentEncoder,

@@ -61,7 +61,7 @@ fn put_fault(fault: &PlanFault, out: &mut Lines) {
     }
 }
 
-/// The lines of a plan, over a sink that fails after so many puts.
+/// The lines of a plan, over a sink that fails after a number of puts.
 fn put_lines(alloc: Global, plan: &Plan, puts: u32, out: &mut Lines) {
     let mut printed = Printed {
         lines: Lines::new(alloc),
@@ -85,7 +85,7 @@ impl PutAbout<Printed> for Result<(), PlanFault> {
     }
 }
 
-/// The plan of the encoder's world, all of whose lowerings are taken away.
+/// The plan of the encoder's world without its lowerings.
 fn plan_without_lowerings(alloc: Global, encoder: &ComponentEncoder) -> Result<Plan, PlanFault> {
     let mut world = ComponentWorld::new(alloc, encoder, &PlainOptions)?;
     // So what is imported can be named.
@@ -130,8 +130,8 @@ impl PutAbout<Puts> for Result<Plan, PlanFault> {
     }
 }
 
-/// `plan_failing PUTS`: the lines of the plan, over a sink that fails after so many puts; `plan_without_lowerings`: the plan
-/// of the world, all of whose lowerings are taken away.
+/// `plan_failing PUTS`: the lines of the plan, over a sink that fails after PUTS puts; `plan_without_lowerings`: the
+/// plan of the world without its lowerings.
 pub(crate) fn put_planned(alloc: Global, row: &Row<'_>, out: &mut Lines) -> Result<(), Stop> {
     let encoder = encoder_of(alloc, row, out)?;
     if row.call == "plan_without_lowerings" {

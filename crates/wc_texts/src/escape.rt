@@ -7,11 +7,12 @@ ghost use Rattle.wc_texts.specs.Escape.{code_text, escaped, escaped_char, is_esc
 use std::alloc::{AllocError, Global};
 use ucd_category::GeneralCategory;
 
-/// The text with some characters escaped, in the form of Rust's `escape_debug`: a backslash is doubled; a line feed, a
-/// carriage return, a tab and a zero are `\n`, `\r`, `\t` and `\0`; and each other character whose general category in
-/// Unicode 18 is Cc, Cf, Cn, Co, Cs, Zl, Zp or Zs, but the blank U+0020, is `\u{..}`. Those are controls, formats (what
-/// turns the direction of text, joins or separates letters, or has no width), code points that are not assigned or are for
-/// private use, separators of lines and paragraphs, and spaces. All others are as they were, quotes too.
+/// The text with some characters escaped, in the form of Rust's `escape_debug`. A backslash is doubled; a line feed,
+/// a carriage return, a tab and a zero become `\n`, `\r`, `\t` and `\0`. Each other character whose general category
+/// in Unicode 18 is Cc, Cf, Cn, Co, Cs, Zl, Zp or Zs, except the blank U+0020, becomes `\u{..}`. These are controls;
+/// formats, which turn the direction of text, join or separate letters, or have no width; code points that are
+/// unassigned or for private use; separators of lines and paragraphs; and spaces. All others stay as they are, quotes
+/// too.
 ///
 /// # Errors
 ///
@@ -23,8 +24,8 @@ pub fn escaped(alloc: Global, text: &str) -> Result<String, AllocError>
     escaped_characters(alloc, &characters)
 }
 
-/// The text in double quotes, escaped as by [`escaped`], and each double quote in it as `\"`: so what is between the
-/// first quote and the next that no backslash escapes is one text.
+/// The text in double quotes, escaped as by [`escaped`], with each double quote in it as `\"`. So the part between
+/// the first quote and the next one that no backslash escapes is one text.
 ///
 /// # Errors
 ///

@@ -15,7 +15,7 @@ pub const OUT_OF_MEMORY: &str = "out of memory";
 /// The factor of a fault's number in the number of a fault that carries it.
 pub const CARRIED: u32 = 256;
 
-/// A fault with a text that is known: its name; where it carries another fault, its name, `: `, and the text of that.
+/// A fault with a known text: its name; if it carries another fault, its name, `: `, and the text of that fault.
 pub trait FaultText {
     // The text of the fault.
     ghost text: { Self → List ℕ };
@@ -83,11 +83,12 @@ pub fn put_about<P: Pieces, F: FaultText>(
     fault.put_pieces(out)
 }
 
-/// Puts the text of a fault, and answers as a `Display` does: put to a formatter it is what `Display` of the fault writes.
+/// Puts the text of a fault, with the result of a `Display`: put to a formatter, it is the text that `Display` of the
+/// fault writes.
 ///
 /// # Errors
 ///
-/// `fmt::Error`: a put failed, which of a formatter is a write of its writer. How much was written is left open.
+/// `fmt::Error`: a put failed; for a formatter, a write of its writer. Any part of the text may have been written.
 pub fn show<P: Pieces, F: FaultText>(fault: &F, out: &mut P) -> fmt::Result
     ensures { IsPut P.puts P.fails out.old out.new (F.text fault.now) result }
 {

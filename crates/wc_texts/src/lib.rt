@@ -1,8 +1,10 @@
-//! Texts, below all that reads or writes modules: where they go (`Sink`, `Pieces`), those of faults (`FaultText`), what a
-//! fault is about (`Refused`), prefixes, and texts from outside, escaped (`escaped`).
+//! Texts, for all crates that read or write modules.
 //!
-//! A `Sink` takes bytes of output until a write fails, and none from then on. A fault puts its text piece by piece, to a
-//! sink or to a formatter, so its crate says it once.
+//! The crate has outputs (`Sink`, `Pieces`), texts of faults (`FaultText`), faults with their places (`Refused`),
+//! prefixes, and escaped texts from outside (`escaped`).
+//!
+//! A `Sink` takes bytes of output until a write fails, and none from then on. A fault puts its text piece by piece,
+//! to a sink or to a formatter, so its crate defines the text once.
 #![tactic(auto)]
 
 mod escape;

@@ -28,8 +28,8 @@ pub struct FoundModule<'a> {
     pub ways: Vec<Option<FoundWay<'a>>>,
     /// For each of them the position of the last item of the path to it, if one leads there; none of the main module.
     pub ends: Vec<Option<usize>>,
-    /// The imports of an adapter that need types for which something is imported, each with the position of the last item of the
-    /// path to it, if one leads there.
+    /// The imports of an adapter that need types for which an interface is imported. Each has the position of the last
+    /// item of the path to it, if a path leads there.
     pub cited: Map<ImportKey<'a>, Option<usize>>,
 }
 

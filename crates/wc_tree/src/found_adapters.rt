@@ -45,8 +45,8 @@ struct FoundItems<'a> {
     items: Vec<TreeItem<'a>>,
 }
 
-/// The paths in an adapter to its imports that are asked about (`ways`) or cited, and are reached: as a tree. `ways` and `cited` have
-/// an entry for each import. It takes time and memory linear in the items of the chains and in the imports.
+/// The paths in an adapter to its reachable imports that are requested (`ways`) or cited, as a tree. `ways` and `cited`
+/// have an entry for each import. It takes time and memory linear in the items of the chains and in the imports.
 ///
 /// # Errors
 ///

@@ -16,9 +16,9 @@ use crate::{Tree, TreeImport, TreeModule, TreeRoot, TreeWay};
 use std::alloc::{AllocError, Global};
 use wc_maps::{Map, Set};
 
-/// The tree of a main module and of what was found in each adapter, in order, by where the paths to imports of the main module
-/// end. Ways are to what is asked about in all of `found`, which has an entry for the main module first. It takes time and memory
-/// linear in what was found.
+/// The tree of a main module and of the paths that were found in each adapter, in order. `places`: the position at
+/// which the path to each import of the main module ends. The tree has a way to each requested import of `found`, whose
+/// first entry is for the main module. It takes time and memory linear in `found`.
 ///
 /// # Errors
 ///

@@ -12,7 +12,8 @@ use wc_maps::{Map, Seed};
 /// The paths by interfaces: under each interface those to what is imported from it, in their order.
 pub(crate) type Groups<'a> = Map<&'a str, Vec<TreeWay<'a>>>;
 
-/// The interfaces of these paths, in the order in which they come, each with its paths. It takes time and memory linear in them.
+/// The interfaces of these paths, in the order in which they occur, each with its paths. It takes time and memory
+/// linear in the paths.
 pub(crate) fn groups_of<'a>(
     alloc: Global,
     seed: Seed,

@@ -1,12 +1,14 @@
-//! The paths to imports as a tree, which has each item once: as a value, as JSON, and as a graph in the language of Graphviz.
+//! The paths to imports as a tree in which each item occurs once: as a value, as JSON, and as a graph in the language
+//! of Graphviz.
 //!
-//! A `Tree` has modules with the items that are on paths, and ways, each of which is the end of a path. A path is read by going
-//! from the way's item back to the item before it, and so on.
+//! A `Tree` has modules with the items that are on paths, and ways, each of which is the end of a path. To read a path,
+//! go from the way's item to the item before it, and so on.
 //!
-//! The tree of a component has the main module with the items on paths to its imports, and each adapter with the items on the
-//! chains to its own, each once. Who asks, and about which imports, is settled above: for a component's world, or for modules
-//! alone. `found_by_chains` makes of the chains in an adapter (`wc_gc`) what was found in it; `tree_of_main` makes of the paths in
-//! the main module (`wc_paths`) a module with the ends of some of them; and `tree_of_found` puts these together.
+//! The tree of a component has the main module with the items on paths to its imports, and each adapter with the items
+//! on the chains to its imports. Callers of this crate choose the requested imports, for a component's world or for
+//! modules alone. `found_by_chains` turns the chains in an adapter (`wc_gc`) into the paths found in it. `tree_of_main`
+//! turns the paths in the main module (`wc_paths`) into a module, with the ends of some of them. `tree_of_found` joins
+//! these.
 #![tactic(auto)]
 
 mod found;

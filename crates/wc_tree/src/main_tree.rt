@@ -1,4 +1,5 @@
-//! The main module of a component as a part of the tree: its items that are on paths, and where its imports are among them.
+//! The main module of a component as a part of the tree: its items on paths, and the positions of its imports among
+//! them.
 
 ghost use Rattle.std.specs.Prelude.{◌≡◌, ◌≤◌, IfOk, None, OnOk, length, replicate};
 ghost use Rattle.wc_tree.specs.Tree.{tree_module_view};
@@ -52,9 +53,9 @@ pub struct MainTree<'a> {
     pub ends: Vec<usize>,
 }
 
-/// The main module with the paths to some items, of which none repeats: the items on the paths, each once, in the order of
-/// their first use; and after these each item to which no path is known. It takes time and memory linear in the module and in
-/// these items.
+/// The main module with the paths to some items without repeats. First come the items on the paths, each once, in the
+/// order of their first use, and then each item to which no path is known. It takes time and memory linear in the
+/// module and in these items.
 ///
 /// # Errors
 ///
@@ -203,8 +204,8 @@ fn why_unfollowed(main: &MainSource<'_, '_>) -> Unfollowed
     }
 }
 
-/// The positions at which the paths to imports end, by the imports: that of the import at each index, which has an end. `seed`:
-/// that of the map. It takes time and memory linear in the imports.
+/// The positions at which the paths to imports end, by the imports. The import at each index has the position in `ends`
+/// at this index. `seed`: the seed of the map. It takes time and memory linear in the imports.
 ///
 /// # Errors
 ///

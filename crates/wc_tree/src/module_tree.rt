@@ -51,8 +51,8 @@ pub struct ShownImport<'r> {
     pub item: PathItem,
 }
 
-/// The paths to some imports of a module that stands alone, in order, as a tree. An import to which no path leads is left out.
-/// An item that an active element segment puts in a table has the functions that may call it, if any may.
+/// The paths to some imports of a module that stands alone, in order, as a tree. An import to which no path leads is
+/// left out. An item that an active element segment puts in a table has the functions that may call it, if any may.
 ///
 /// It takes time and memory linear in the module and in these imports.
 ///
@@ -93,7 +93,8 @@ fn shown_item(import: ShownImport<'_>) -> PathItem
     import.item
 }
 
-/// The ends of the paths to these imports, each of which ends at the item of the position beside it, if one leads there.
+/// The ends of the paths to these imports. Each import has the position in `ends` at its own index: the position of the
+/// path's last item, if a path leads there.
 fn ways_of<'r>(
     alloc: Global,
     imports: &[ShownImport<'r>],
@@ -199,8 +200,8 @@ fn put_item<'r>(
     Ok(())
 }
 
-/// Appends where the path begins that begins with the item at a position, and returns its position; `None` where none begins
-/// there.
+/// Appends the root of the path that begins with the item at a position, and returns the root's position; `None` if no
+/// path begins there.
 fn put_root<'r>(
     alloc: Global,
     source: Source<'_, 'r>,

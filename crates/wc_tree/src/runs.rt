@@ -37,8 +37,8 @@ pub(crate) fn first_in(runs: &Runs, module: usize, item: usize) -> usize
     }
 }
 
-/// The items with which runs end, though others may follow, by the positions of their modules and their own: those at which
-/// paths end, and those that lead to another item than the next.
+/// The items at which a run ends even if another item follows, by the positions of their modules and their own. They
+/// are the items at which paths end, and the items that lead to an item other than the next.
 fn tree_ends(alloc: Global, tree: &Tree<'_>) -> Result<Vec<(usize, usize)>, AllocError>
     ensures { IfOk result (λ v. v.items ≡ tree_ends (tree_view tree.now)) }
 {
@@ -139,8 +139,8 @@ fn is_before(from: (usize, usize), item: (usize, usize)) -> bool
     item.1 > 0 && from.0 == item.0 && from.1 == item.1 - 1
 }
 
-/// The item that leads to an item of a module: the one before it on its path; or the import of the main module at which a path
-/// goes on in an adapter.
+/// The item that leads to an item of a module: the item before it on its path; or the import of the main module from
+/// which a path goes on in an adapter.
 pub(crate) fn source(
     index: usize,
     roots: &[TreeRoot<'_>],

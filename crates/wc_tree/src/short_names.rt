@@ -12,11 +12,11 @@ use std::alloc::{AllocError, Global};
 /// How many characters of a name are shown.
 const SHOWN: usize = 40;
 
-/// A name as it is in a box: the last two parts of a mangled one, without a hash; and of what has more than 40 characters the
-/// first 40 and `..`.
+/// A name as a box shows it. A mangled name is cut to its last two parts, not counting a hash. Then a name of more than
+/// 40 characters is cut to its first 40, and `..` follows.
 ///
-/// A mangled name is `_ZN`, parts with their lengths, and `E`. A hash is a last part of `h` and 16 hexadecimal digits. A name
-/// that has no other part stays as it is.
+/// A mangled name is `_ZN`, parts with their lengths, and `E`. A hash is a last part of `h` and 16 hexadecimal digits.
+/// A mangled name that has no part other than a hash stays as it is.
 pub(crate) fn short_name(alloc: Global, name: &str) -> Result<String, AllocError>
     ensures { IfOk result (λ s. string_bytes s ≡ short_name name.now) }
 {
@@ -103,7 +103,8 @@ fn part_after<'c>(length: usize, rest: &'c [char]) -> Option<(&'c [char], &'c [c
     }
 }
 
-/// The number that a text begins with, and what is after its digits; `None` where the number is larger than the text is long.
+/// The number at the start of a text, and the text after its digits; `None` if the number is larger than the text is
+/// long.
 fn number_at<'c>(text: &'c [char]) -> Option<(usize, &'c [char])>
     ensures found { IfSome result (λ n. (n.0, n.1.now) ≡ number_at 0 text.now) }
     ensures large { IfNone result (length text.now < (number_at 0 text.now).0) }

@@ -89,8 +89,8 @@ pub struct TreeWay<'a> {
     pub module: Option<usize>,
     /// The position of its last item there, if an item leads to its end.
     pub item: Option<usize>,
-    /// The import at its end, if it ends at one: of a module; or, where it ends in none, of `world imports` or `world exports`,
-    /// what the world itself imports or exports.
+    /// The import at the end of the path, if it ends at one: an import of a module. If the path ends in no module, it
+    /// is an import from `world imports` or `world exports`: an item that the world itself imports or exports.
     pub import: Option<TreeImport<'a>>,
     /// The first type of the interface that is needed there, if the path is for types alone.
     pub ty: Option<&'a str>,

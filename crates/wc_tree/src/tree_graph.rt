@@ -28,15 +28,17 @@ use wc_why::{
 /// How many names a box has for an interface.
 const NAMES: usize = 6;
 
-/// The tree as a graph in the language of Graphviz: from left to right, a cluster for each module, with a box for each run of
-/// items, and a box for each interface.
+/// The tree as a graph in the language of Graphviz, from left to right. Each module is a cluster with a box for each
+/// run of items, and each interface is a box.
 ///
-/// An item is in the box of the one before it, if that leads to it and to no other item, and no path ends there. A box has a
-/// line for where a path begins, if it begins there, and a line for each item, after those for its callers. A line that begins
-/// with `* ` is that of an item that is marked. Names are short: of a name `_ZN`, parts with their lengths, `E`, the last two
-/// parts, without a last one of `h` and 16 hexadecimal digits; and then the first 40 characters and `..`.
+/// An item is in the box of the item before it, if that leads to no other item and no path ends there. A box has a line
+/// for its root, if a path begins with it, and a line for each item, after the lines for its callers. The line of a
+/// marked item begins with `* `. Names are short. A name of `_ZN`, parts with their lengths, and `E` is cut to its last
+/// two parts, not counting a last part of `h` and 16 hexadecimal digits. Then a name of more than 40 characters is cut
+/// to its first 40, and `..` follows.
 ///
-/// The box of an interface has at most six names, and how many there are more. An arrow to it is dashed if it is for types.
+/// The box of an interface has at most six names, and the number of further names. An arrow to it is dashed if the path
+/// is for types.
 ///
 /// # Errors
 ///

@@ -26,20 +26,21 @@ use wc_why::{
 
 /// The tree as JSON in a line: an object with `modules` and `ways`.
 ///
-/// A module has `adapter`, which is null for the main module or a module that stands alone, `roots` and `items`. A root is an
-/// object whose first member is `kind`:
+/// A module has `adapter`, which is null for the main module or a module that stands alone, `roots` and `items`. A root
+/// is an object whose first member is `kind`:
 ///
-/// - `export`, with `name`; of an adapter also with `main`, the position of the main module's import among the items of the first
-///   module, or null;
+/// - `export`, with `name`; of an adapter also with `main`, the position of the main module's import of it among the
+///   items of the first module, or null;
 /// - `start`; `fills`, with `space` (`table` or `memory`) and `index`;
 /// - `unreached`; `unread`, with `body`: what can't be read.
 ///
-/// An item has `space` (`type`, `func`, `table`, `memory`, `global`, `elem` or `data`), `index`, `name` or null; `root`, the
-/// position of its root, and `from`, that of the item before it, each or null; `callers`: null, or an object with `first`, a list
-/// of functions by `index` and `name`, and `count`; and `only`, whether it is marked, where something is asked for.
+/// An item has `space` (`type`, `func`, `table`, `memory`, `global`, `elem` or `data`), `index`, and `name` or null.
+/// Then come `root`, the position of its root, and `from`, the position of the item before it, each or null. `callers`
+/// is null, or an object with `first`, a list of functions by `index` and `name`, and `count`. If imports are
+/// requested, `only` says whether the item is marked.
 ///
-/// A way has `interface`, `name`, which is null for types alone, `module` and `item`, where it ends, each or null, `import`: an object
-/// with `module` and `name`, or null; and `type`, or null.
+/// A way has `interface`; `name`, which is null for types alone; `module` and `item`, the positions at which it ends,
+/// each or null; `import`, an object with `module` and `name`, or null; and `type`, or null.
 ///
 /// # Errors
 ///

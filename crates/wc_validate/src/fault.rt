@@ -14,7 +14,7 @@ use wc_texts::{
     CARRIED, FaultText, OUT_OF_MEMORY, Pieces, PutFailed, put_carried, put_quoted, show,
 };
 
-/// That an adapter doesn't export what it has to, by the name of that.
+/// The fault that an adapter lacks a required export, which has this name.
 #[derive(Debug, Drop)]
 pub struct AdapterModuleDidNotExport(String);
 
@@ -38,7 +38,7 @@ impl AdapterModuleDidNotExport {
     }
 }
 
-/// The fault that an adapter doesn't export what has this name.
+/// The fault that an adapter lacks an export with this name.
 pub(crate) fn not_exported(alloc: Global, name: &str) -> Result<ValidateFault, AllocError>
     ensures { IfOk result (λ f. (e : AdapterModuleDidNotExport)
         × (f ≡ ValidateFault.AdapterModuleDidNotExport e)
@@ -68,9 +68,10 @@ impl StdError for AdapterModuleDidNotExport {}
 
 /// Why a core module is refused.
 ///
-/// Of several causes the first is named. The module is read; then come imports in the order of the module, and for
-/// each import the faults in this order, but `SeveralMemoryImports` before `Mixed`; then exports in the order of the
-/// module, and what is missing among them, in this order. `Memory` may come in place of any.
+/// If several causes apply, the first is named. The module is read first. Then come imports in the order of the
+/// module, and for each import the faults in this order, but `SeveralMemoryImports` before `Mixed`. Then come exports
+/// in the order of the module, and then missing exports, with the faults in this order. `Memory` may come instead of
+/// any.
 #[derive(Debug, Drop, Error)]
 pub enum ValidateFault {
     /// An allocation failed.
@@ -143,8 +144,8 @@ pub enum ValidateFault {
     #[error("AdapterExportType")]
     AdapterExportType,
     /// A function's type names a type of its module by an index, which means nothing in another module: that of a
-    /// function which is imported from an adapter, or is imported from it by another module; or the type that a function
-    /// of `env` reads or writes.
+    /// function which is imported from an adapter, or is imported from it by another module; or the type that a
+    /// function of `env` reads or writes.
     #[error("TypedReference")]
     TypedReference,
 }

@@ -1,7 +1,8 @@
-//! Core modules, validated for an encoder by their imports and exports. `validate_module` and `validate_adapter_module`
-//! classify each import by its module, its name and its type, and record it after the others of its module in an
-//! `ImportMap`; then each export by its name and its type, and record it in an `ExportMap`; and then check that what the
-//! module has to export is there.
+//! Validates core modules for an encoder by their imports and exports.
+//!
+//! `validate_module` and `validate_adapter_module` classify each import by its module, its name and its type, and
+//! record it after the other imports of its module in an `ImportMap`. Then they classify each export by its name and
+//! its type, and record it in an `ExportMap`. At last they check that no required export is missing.
 //!
 //! ```rust
 //! use std::alloc::Global;

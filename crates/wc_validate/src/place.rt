@@ -29,7 +29,7 @@ pub enum Subject {
     },
     /// An export that is not there, by its name.
     MissingExport(String),
-    /// The bytes of the module, by where they stop to be right.
+    /// The bytes of the module, by the offset at which they are malformed.
     Bytes(ReadPlace),
 }
 
@@ -39,8 +39,8 @@ impl fmt::Display for Subject {
 
     ghost output = { λ subject. Some (subject_text (subject_view subject)) };
 
-    /// `import "m" "f"`, `export "f"`, `missing "m" "f"`, `missing export "f"`, or `byte 57, in the import section`. Names
-    /// are printed as they are.
+    /// Prints `import "m" "f"`, `export "f"`, `missing "m" "f"`, `missing export "f"`, or `byte 57, in the import
+    /// section`. Names are printed as they are.
     fn fmt<W: fmt::Write>(&self, f: &mut fmt::Formatter<W>) -> fmt::Result {
         match self {
             Subject::Import {
@@ -73,9 +73,10 @@ impl fmt::Display for TypeDifference {
 
     ghost output = { λ d. Some (difference_text (difference_view d)) };
 
-    /// `wanted T, found T`, where a type `T` is as `(i32, i64) -> i32`, with several results, or none, in parentheses too.
-    /// A type that is wanted and that names types by their indices, as `((ref 1)) -> ()`, is that of another module, which
-    /// imports the function: `wanted T by the types of the importing module, found T`.
+    /// Prints `wanted T, found T`. A type `T` looks like `(i32, i64) -> i32`; several results, or none, are in
+    /// parentheses too. If the wanted type names types by their indices, as `((ref 1)) -> ()`, it is a type of
+    /// another module, which imports the function. The line then is `wanted T by the types of the importing module,
+    /// found T`.
     fn fmt<W: fmt::Write>(&self, f: &mut fmt::Formatter<W>) -> fmt::Result {
         let wanted = Signature(&self.wanted);
         let owner = TypeOwner(&self.wanted);
@@ -84,7 +85,7 @@ impl fmt::Display for TypeDifference {
     }
 }
 
-/// The place of a fault: its subject, and the core types that differ, where it compares types.
+/// The place of a fault: its subject, and the core types that differ, if it compares types.
 #[derive(Debug, PartialEq, Eq, Drop)]
 pub struct Place {
     pub subject: Subject,

@@ -38,7 +38,7 @@ use wc_read::{FuncType, Module, read_module_explained};
 use wc_resolve::WorldKey;
 use wc_texts::Refused;
 
-/// A core module that is validated for an encoder: what it imports, and what it exports.
+/// A core module that is validated for an encoder: its imports and its exports.
 #[derive(Drop)]
 pub struct ValidatedModule {
     /// The module's imports.
@@ -48,7 +48,7 @@ pub struct ValidatedModule {
 }
 
 impl ValidatedModule {
-    /// A module that imports and exports nothing. `seed`: the seed of the maps that are made.
+    /// A module that imports and exports nothing. The maps that are made hash under `seed`.
     pub fn new(alloc: Global, seed: Seed) -> ValidatedModule
         ensures imports { result.imports ≡ [] }
         ensures exports { result.exports ≡ [] }
@@ -76,9 +76,8 @@ fn names_of(encoder: &ComponentEncoder) -> Names<'_>
     }
 }
 
-/// The input of a validation: an encoder, with the interfaces of its world, where they were made for several modules;
-/// what the module is passed, if it is a library; the original names of its imports, if some were renamed; and what it has to
-/// export.
+/// The input of a validation: an encoder, with the interfaces of its world, if they were made for several modules;
+/// the items that a library is passed; the original names of renamed imports; and the module's required exports.
 #[derive(Clone, Copy)]
 pub(crate) struct ValidationInput<'a> {
     pub(crate) encoder: &'a ComponentEncoder,
@@ -303,7 +302,7 @@ fn validate_read(
     Ok(ValidatedModule { imports, exports })
 }
 
-/// The record of the module that bytes spell.
+/// The record of the module that bytes encode.
 pub(crate) fn validate_bytes(
     alloc: Global,
     validation_input: ValidationInput<'_>,
@@ -377,15 +376,15 @@ pub(crate) fn without_place<T: Drop>(answer: Result<T, RefusedModule>) -> Result
     }
 }
 
-/// Validates the main module of an encoder. Each import is classified as what it names, or as what its original name
-/// names where it was renamed, and recorded under its name. Each export is recorded as what it is for, among the exports
-/// of the world that the main module has to have (`main_module_exports`); exports that are for nothing are left out.
+/// Validates the main module of an encoder. Each import is recorded under its name, with the meaning of this name, or
+/// of its original name if it was renamed. Each export is recorded with its meaning, among the exports of the world
+/// that the main module must have (`main_module_exports`); exports without a meaning are left out.
 ///
 /// # Errors
 ///
-/// `Read` and `NotAModule` come before all other faults, then those of imports, then those of exports, and then those
-/// of what is missing. Of several imports with a fault the first is named; of one import the fault that is first in
-/// this order. `Memory` may come in place of any.
+/// `Read` and `NotAModule` come before all other faults. Then come faults of imports, then faults of exports, and
+/// then missing exports. If several imports have a fault, the first import is named; if one import has several
+/// faults, the first in this order. `Memory` may come instead of any.
 ///
 /// - `Read`: the bytes are no module.
 /// - `NotAModule`: they are a component.
@@ -393,8 +392,8 @@ pub(crate) fn without_place<T: Drop>(answer: Result<T, RefusedModule>) -> Result
 /// - `TypedReference`: the type of an adapter's function, or of a function of `env`, names a type of the module by an
 ///   index.
 /// - `SignatureMismatch`: a function's type is not the one that its name fixes; of an export too.
-/// - `NoRootImport`: the world imports nothing of the name.
-/// - `RootNotFunction`: what the world imports by the name is no function.
+/// - `NoRootImport`: the world imports nothing with this name.
+/// - `RootNotFunction`: the world's import with this name is no function.
 /// - `BadSyntax`: the module's name doesn't begin as the standard scheme's names do.
 /// - `UnknownInterface`: the module's name is about no interface that the world imports or exports.
 /// - `UnknownIntrinsic`: the name is none of the built-ins for an exported interface.
@@ -405,9 +404,9 @@ pub(crate) fn without_place<T: Drop>(answer: Result<T, RefusedModule>) -> Result
 /// - `AdapterTypesDiffer`: the adapter's function was imported with another type before.
 /// - `SeveralMemoryExports`: two memories are recorded among the exports.
 /// - `MissingCallback`: a function that is lifted with a callback is exported, and its callback is not.
-/// - `MissingInterfaceExport`: a function of an interface that has to be exported is not.
-/// - `MissingWorldExport`: a function of the world that has to be exported is not. Of these two the one for the first
-///   such key of the export set is named.
+/// - `MissingInterfaceExport`: a required function of an interface is not exported.
+/// - `MissingWorldExport`: a required function of the world is not exported. If both of these apply, the one for the
+///   first such key of the export set is named.
 /// - `Memory`: an allocation failed.
 pub fn validate_module(
     alloc: Global,
@@ -426,23 +425,24 @@ pub fn validate_module(
     without_place(validate_module_explained(alloc, encoder, bytes, import_map))
 }
 
-/// As [`validate_module`]; but a module that is refused says what its fault is about, where validation stops:
+/// Like [`validate_module`]; if a module is refused, the result also says what its fault is about, at the point where
+/// validation stops:
 ///
-/// - `Read` and `NotAModule` are about the bytes: where they stop to be right;
+/// - `Read` and `NotAModule` are about the offset at which the bytes are malformed;
 /// - a fault of an import is about the first that is refused;
 /// - `SignatureMismatch` of an export is about the first export whose type is not the one that its name fixes;
 /// - `SeveralMemoryExports` is about the second memory that is recorded;
 /// - `MissingCallback` is about the callback of the first export that needs one which is not recorded;
-/// - `MissingInterfaceExport` and `MissingWorldExport` are about the first function that is missing for the first key of
-///   the export set for which one is.
+/// - `MissingInterfaceExport` and `MissingWorldExport` are about the first missing function of the first key of the
+///   export set that lacks one.
 ///
-/// Of `SignatureMismatch` it has the type that the name fixes and the one that is found, and of `AdapterTypesDiffer` the
-/// type with which the function was imported first and the one that is found; of the others it has no types.
+/// For `SignatureMismatch` the result has the type that the name fixes and the found type. For `AdapterTypesDiffer`
+/// it has the type of the function's first import and the found type. For other faults it has no types.
 ///
 /// # Errors
 ///
-/// Those of [`validate_module`]. `Memory` has no place, and comes too where there is no memory for the place of another
-/// fault.
+/// The faults of [`validate_module`]. `Memory` has no place, and also comes if an allocation for the place of another
+/// fault fails.
 pub fn validate_module_explained(
     alloc: Global,
     encoder: &ComponentEncoder,
@@ -464,20 +464,22 @@ pub fn validate_module_explained(
     validate_bytes(alloc, validation_input, bytes)
 }
 
-/// Validates an adapter or a library for an encoder. Each import is recorded as what the library is passed for it, or
-/// else as what it names; each export as what it is for, among the exports of the world that this module has to have
-/// (`exports`; a key that the world doesn't export is passed over). Exports that are for nothing are left out.
+/// Validates an adapter or a library for an encoder. Each import is recorded as the item that the library is passed
+/// for it, or otherwise with its meaning. Each export is recorded with its meaning, among the exports of the world
+/// that this module must have (`exports`; a key that the world doesn't export is skipped). Exports without a meaning
+/// are left out.
 ///
 /// # Errors
 ///
-/// Those of [`validate_module`], in its order. Of what a library is passed come besides, after the faults of names:
+/// The faults of [`validate_module`], in its order. Two more come after the faults of names, for the items that a
+/// library is passed:
 ///
-/// - `WholeDiffers`: the module's name stands for another module of the component already.
-/// - `Mixed`: the module's name stands for a module of the component, and for single items too. No library has such
-///   arguments, since of one name the first counts.
+/// - `WholeDiffers`: the module's name already means another module of the component.
+/// - `Mixed`: the module's name means a module of the component, and single items too. No library has such arguments,
+///   since only the first argument with a name counts.
 ///
-/// And last, of the functions that other modules import from this one (`required_by_import`), for the first of them
-/// that is not exported so:
+/// Last come the functions that other modules import from this one (`required_by_import`), for the first of them that
+/// is not exported as required:
 ///
 /// - `TypedReference`: the type with which it is imported names a type of that module by an index.
 /// - `AdapterModuleDidNotExport`: no function of the name is exported.
@@ -511,15 +513,15 @@ pub fn validate_adapter_module<'a>(
     ))
 }
 
-/// As [`validate_adapter_module`]; but a module that is refused says what its fault is about, as
-/// [`validate_module_explained`] has it. Besides, of the functions that other modules import from this one,
-/// `TypedReference`, `AdapterModuleDidNotExport` and `AdapterExportType` are about the first that is not exported as it
-/// is required: the export of its name, with the required type and the one that is found; or that it is missing, where
-/// no function of its name is exported.
+/// Like [`validate_adapter_module`]; if a module is refused, the result also says what its fault is about, as
+/// [`validate_module_explained`] does. For functions that other modules import from this one, `TypedReference`,
+/// `AdapterModuleDidNotExport` and `AdapterExportType` are about the first that is not exported as required. The
+/// place is the export with its name, with the required type and the found type. If no function with its name is
+/// exported, the place says that it is missing.
 ///
 /// # Errors
 ///
-/// Those of [`validate_adapter_module`], and `Memory` as of [`validate_module_explained`].
+/// The faults of [`validate_adapter_module`], and `Memory` as in [`validate_module_explained`].
 pub fn validate_adapter_module_explained<'a>(
     alloc: Global,
     encoder: &'a ComponentEncoder,

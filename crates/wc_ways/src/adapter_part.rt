@@ -19,8 +19,8 @@ use wc_read::{Module, read_module};
 use wc_segments::Segments;
 use wc_summary::{number_if, sources_of};
 
-/// The part of an adapter that was trimmed for these exports, and has these bytes before: paths begin at those that the main
-/// module doesn't import.
+/// The part of an adapter that was trimmed for these exports and had these bytes before. Its paths begin at the exports
+/// among them that the main module doesn't import.
 pub(crate) fn trimmed_part(
     alloc: Global,
     asking: Asking<'_>,

@@ -99,8 +99,8 @@ fn asked_name<'a>(key: &str, interface: String, text: &str, name: &'a str) -> Op
     }
 }
 
-/// Whether an import of the world is asked about: by the name of its interface, which is `$root` for what is the world's
-/// own, or by its text; or all are.
+/// Whether a key asks about an import of the world: the key is `all`; it is the name of the import's interface, which
+/// is `$root` for the world's own imports; or it asks about the import's text.
 pub(crate) fn is_asked(key: &str, interface: &str, text: &str) -> bool
     ensures { result ≡ is_asked key.now interface.now text.now }
 {

@@ -1,4 +1,4 @@
-//! In which form it is said why modules import something: by paths that are printed, or by what of the modules is on these.
+//! The forms in which modules' imports are explained: printed paths, or the items of the modules on these paths.
 
 ghost use Rattle.std.specs.Prelude.{◌≡◌, ℕ, List, OnOk};
 ghost use Rattle.wc_world.specs.Nameable.{AreNameable};

@@ -17,8 +17,8 @@ use wc_maps::Set;
 use wc_read::Import;
 use wc_tree::{ChainSource, FoundModule, FoundWay, TreeImport, found_by_chains};
 
-/// The paths in an adapter to its imports that are asked about, or need types for which something is imported, and are reached: as a
-/// tree. The adapter has a position among the modules.
+/// The paths in an adapter to its reachable imports that are requested, or that need types for which an interface is
+/// imported, as a tree. `place`: the position of the adapter among the modules.
 pub(crate) fn found_in_adapter<'a>(
     alloc: Global,
     walk: &Walk<'_, 'a>,

@@ -24,7 +24,7 @@ use wc_read::{function_names, read_module};
 use wc_tree::{FoundModule, FoundWay, Function, TreeImport, TreeItem, name_of};
 use wc_validate::ImportMap;
 
-/// A library that is gone through: the items of its imports, by their modules and names, and the names of its functions.
+/// A library that was read: the items of its imports, by their modules and names, and the names of its functions.
 #[derive(Drop)]
 struct Read<'a> {
     places: Map<(&'a str, &'a str), PathItem>,

@@ -17,27 +17,27 @@ use wc_read::function_names;
 use wc_summary::{Entries, json_of, lines_of, sort_entries};
 use wc_world::ComponentWorld;
 
-/// The imports of a component's modules, by interfaces, as lines: of each interface a line, in which its parts are after
-/// `INTERFACE: ` with `; ` between them. INTERFACE is `$root` for what is the world's own.
+/// The imports of a component's modules by interface, as lines. Each interface has a line, `INTERFACE: ` and then its
+/// parts with `; ` between them. INTERFACE is `$root` for the world's own imports. The parts are
 ///
-/// - `N imports of main by func I NAME, ..`: how many of the main module's imports are of the interface, and the functions that
-///   are reached there and name one, at most three, with `and N more`;
-/// - `N imports of adapter ADAPTER, B bytes with EXPORT ..`: how many of an adapter's, the exports that lead to one of them, of
-///   those for which the adapter was trimmed, and how many bytes the bodies have that are live and aren't live for
-///   the other exports: where the main module imports none of these exports, the adapter's imports of the interface go, and these
-///   bytes. B of two interfaces with the same exports are the same bytes;
-/// - `N imports of adapter ADAPTER, stays for EXPORT ..`, where exports lead to them that are required whatever the main
-///   module imports: these;
-/// - `types of USER`: the interface is imported for its types, which an import from the module USER needs first, or what the world
-///   itself imports or exports under that name (`ways_text`).
+/// - `N imports of main by func I NAME, ..`: the number of the main module's imports of the interface, and the
+///   reachable functions that name one of them. At most three functions are listed, and then `and N more`;
+/// - `N imports of adapter ADAPTER, B bytes with EXPORT ..`: the number of an adapter's imports of the interface; the
+///   exports that lead to one of them, among the exports for which the adapter was trimmed; and the bytes of the bodies
+///   that are live for these exports alone. If the main module imports none of these exports, the adapter's imports of
+///   the interface go, and these bytes too. Two interfaces with the same exports have the same bytes;
+/// - `N imports of adapter ADAPTER, stays for EXPORT ..`, if exports lead to them that are required whatever the main
+///   module imports: these exports;
+/// - `types of USER`: the interface is imported for its types. USER is the module of the first import that needs them,
+///   or the name of the world's own import or export that needs them first (`ways_text`).
 ///
-/// First come the interfaces of which the main module imports something itself, then those that go with exports of
-/// adapters, then those that are imported for their types alone, and last those that stay; among these the ones with which
-/// more bytes go come first, and else the order is that of the imports: of the main module, of each adapter, and for types
-/// alone.
+/// First come the interfaces from which the main module itself imports, then the interfaces that go with exports of
+/// adapters. After these come the interfaces that are imported for their types alone, and last the interfaces that
+/// stay. In each group the interfaces with which more bytes go come first. Otherwise the order is the order of the
+/// imports: of the main module, of each adapter, and for types alone.
 ///
-/// It takes time linear in the modules for each 64 interfaces and each 64 required exports (`wc_graph::spread`), and in what
-/// is printed.
+/// It takes time linear in the modules for each 64 interfaces and each 64 required exports (`wc_graph::spread`), and
+/// time linear in the text.
 ///
 /// # Errors
 ///
@@ -54,12 +54,14 @@ pub fn imports_text(alloc: Global, world: &ComponentWorld<'_>) -> Result<String,
     Ok(lines_of(alloc, &names, &entries)?)
 }
 
-/// The imports of a component's modules, by interfaces, as JSON, in one line: an object whose member `imports` is a list of
-/// objects, in the order of `imports_text`. Each has `interface`; `kind`: `main`, `goes`, `types` or `stays`; and
-/// `modules`, a list of objects: of the main module with `adapter`, which is null, `imports`, how many are of the
-/// interface, and `by`, the functions that name one, with `index` and `name`, which is null where there is none; of an
-/// adapter with `adapter`, its name, `imports`, `exports` and `stays`, the exports that lead there, `functions`, how many
-/// are live for these exports alone, and `bytes`, what their bodies have.
+/// The imports of a component's modules by interface, as JSON in one line: an object whose member `imports` is a list
+/// of objects, in the order of `imports_text`. Each has `interface`; `kind`, which is `main`, `goes`, `types` or
+/// `stays`; and `modules`, a list of objects.
+///
+/// - The main module has `adapter`, which is null; `imports`, the number of its imports of the interface; and `by`, the
+///   functions that name one, with `index` and `name`, which is null for a function without a name.
+/// - An adapter has `adapter`, its name; `imports`; `exports` and `stays`, the exports that lead there; `functions`,
+///   the number of functions that are live for these exports alone; and `bytes`, the length of their bodies.
 ///
 /// # Errors
 ///

@@ -1,11 +1,12 @@
-//! Why a component imports something: the paths through the whole component that lead to the imports of its modules, from
-//! its main module and through its adapters; and which interfaces it imports for their types alone. `ways_text` has them in
-//! lines, `ways_json` as JSON, and `ways_graph` as a graph in the language of Graphviz.
+//! Why a component imports something: the paths through the whole component that lead to the imports of its modules,
+//! from its main module and through its adapters; and the interfaces that it imports for their types alone. `ways_text`
+//! returns them as lines, `ways_json` as JSON, and `ways_graph` as a graph in the language of Graphviz.
 //!
-//! It is asked about an interface, a package, something of the world itself (`wc_why::asks_about`), or about all. A path from
-//! the main module is where it begins there, the items of the shortest path to the import (`wc_paths`), and the import. A
-//! path through an adapter is the same to the main module's import of an export of the adapter, if it imports it; the export;
-//! the items of the adapter that lead from it, by the shortest chain (`wc_gc::why_imports`); and the adapter's import.
+//! A key asks about an interface, a package, an item of the world itself (`wc_why::asks_about`), or all imports. A path
+//! in the main module has its root, the items of the shortest path to the import (`wc_paths`), and the import. A path
+//! through an adapter has, if the main module imports the adapter's export, the path to this import. Then come the
+//! export, the items of the adapter that lead from it by the shortest chain (`wc_gc::why_imports`), and the adapter's
+//! import.
 #![tactic(auto)]
 
 mod adapter_part;

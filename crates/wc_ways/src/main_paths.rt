@@ -55,8 +55,8 @@ pub(crate) struct MainPaths<'r> {
 }
 
 impl<'r> MainPaths<'r> {
-    /// The paths in the main module with these bytes, of which a component's world was made. `seed`: that of a map. It takes
-    /// time and memory linear in the module.
+    /// Finds the paths in the main module with these bytes, of which a component's world was made. `seed`: the seed of
+    /// a map. It takes time and memory linear in the module.
     pub(crate) fn find(
         alloc: Global,
         seed: Seed,

@@ -19,8 +19,8 @@ pub(crate) struct PlacedMain<'a> {
     pub(crate) places: Map<ImportKey<'a>, usize>,
 }
 
-/// The main module with the paths to some of its imports, of which none repeats: the items on the paths, each once, in the order of
-/// their first use; and after these each import to which no path is known.
+/// The main module with the paths to some of its imports, without repeats. First come the items on the paths, each
+/// once, in the order of their first use, and then each import to which no path is known.
 pub(crate) fn placed_main<'a>(
     alloc: Global,
     seed: Seed,

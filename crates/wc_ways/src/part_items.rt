@@ -55,7 +55,8 @@ pub(crate) fn numbers_in(
         .collect(alloc)
 }
 
-/// Those of some items that are there, and to which no root leads, by words whose first bits say of each item whether one does.
+/// The items among these that the module has and to which no root leads. `reached`: for each item a word whose first
+/// bit says whether a root leads to it.
 pub(crate) fn unreached_of(
     alloc: Global,
     graph: &ModuleGraph<'_, '_>,

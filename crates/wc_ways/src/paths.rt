@@ -105,8 +105,8 @@ fn reached_path<'p>(
     Ok(Some(path))
 }
 
-/// The path to an import, which is this function, by a chain: the steps to the export that the chain begins with, the items
-/// of the chain, and the import.
+/// The path to an import, which is this function, by a chain: the steps to the export with which the chain begins, the
+/// items of the chain, and the import.
 fn chain_path<'p>(
     alloc: Global,
     walk: &'p Walk<'_, '_>,
@@ -133,7 +133,8 @@ fn chain_path<'p>(
     })
 }
 
-/// The steps to an export of the adapter: if the main module imports it, the steps to its import, and that; and the export.
+/// The steps to an export of the adapter: if the main module imports it, the steps to its import, and this import; and
+/// then the export.
 fn first_steps<'p>(
     alloc: Global,
     walk: &'p Walk<'_, '_>,

@@ -14,8 +14,8 @@ use std::alloc::{AllocError, Global};
 use wc_maps::{Seed, Set};
 use wc_tree::{FoundModule, ImportKey, Tree, put_wanted, tree_of_found};
 
-/// The tree of these modules, of which the first is the main module, and of the paths for types alone. Paths are in the order of
-/// the modules, and those for types come last.
+/// The tree of these modules, the first of which is the main module, and of the paths for types alone. Paths are in the
+/// order of the modules, and the paths for types come last.
 pub(crate) fn tree_of<'t>(
     alloc: Global,
     seed: Seed,
@@ -34,8 +34,8 @@ pub(crate) fn tree_of<'t>(
     Ok(tree)
 }
 
-/// The imports of the main module to which paths lead, each once: those that are asked about, then those at which paths go on in
-/// adapters, in the order of their first use, and then those at which paths for types end.
+/// The imports of the main module to which paths lead, each once: first the requested imports, then the imports from
+/// which paths go on in adapters, in the order of their first use, and then the imports at which paths for types end.
 fn imports_of<'t>(
     alloc: Global,
     seed: Seed,

@@ -33,8 +33,8 @@ struct Lists<'a> {
     imports: &'a Map<WorldKey, WorldItem>,
 }
 
-/// The live types of a world, each with the first root that needs it. It takes time linear in the recorded imports and in the
-/// types, and for each exported interface in the types to which it refers.
+/// The live types of a world, each with the first root that needs it. It takes time linear in the recorded imports and
+/// in the types, and for each exported interface time linear in the types to which it refers.
 pub(crate) fn needed_types<'a>(
     alloc: Global,
     world: &'a ComponentWorld<'_>,
@@ -213,8 +213,8 @@ fn note_exports<'a>(
     Ok(())
 }
 
-/// Notes what an export needs: of an interface those of its live types that are from elsewhere. `types` is a list that is used
-/// again for each interface: for its memory alone.
+/// Notes the types that an export needs; for an interface these are its live types that are from elsewhere. `types` is
+/// a list that is used again for each interface, for its memory alone.
 fn note_export<'a>(
     needing: &Needing<'a>,
     used: &Map<InterfaceId, Set<InterfaceId>>,

@@ -393,8 +393,7 @@ fn put_from_required<P: MarkedPathPrinter>(
     }
 }
 
-/// Prints the path to an import of an adapter that has these bytes, and in which these are the chains, and then a type that it
-/// needs.
+/// Prints the path to an import of an adapter with these bytes and chains, and then a type that the import needs.
 fn put_from_chains<P: MarkedPathPrinter>(
     alloc: Global,
     asked: &Adapter<'_>,

@@ -29,7 +29,7 @@ use wc_resolve::{InterfaceId, Resolve, TypeId};
 use wc_summary::{Entries, place_of, set_types};
 use wc_world::{ComponentWorld, ImportedInterface};
 
-/// Why an interface is imported for its types: the name of the one that is live first, if it has a name, and the first root
+/// Why an interface is imported for its types: the name of its first live type, if this has a name, and the first root
 /// that needs it.
 #[derive(Clone, Copy)]
 pub(crate) struct TypeCite<'a> {
@@ -103,8 +103,8 @@ fn put_if_typed<'a, F: TypedForm<'a>>(
     }
 }
 
-/// The name and the id of an interface that is asked about, if no function of it is imported and none of its resources is dropped, but
-/// types of it are live.
+/// The name and the id of an interface that is asked about, if no function of it is imported and none of its resources
+/// is dropped, but some of its types are live.
 fn typed_name<'a>(
     world: &ComponentWorld<'_>,
     key: &str,

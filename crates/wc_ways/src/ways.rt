@@ -33,46 +33,49 @@ use wc_texts::escaped;
 use wc_tree::{FoundModule, Tree, tree_to_graph, tree_to_json};
 use wc_world::ComponentWorld;
 
-/// The paths to what the modules of a component import of what its world imports, as lines: of what `key` asks about
-/// (`asks_about`): an interface, a package, or a function or a type of the world itself; of all where it is `all`; or of
-/// all that is the world's own where it is `$root`. A key without a version asks about each version.
+/// The paths to the world's imports that modules of a component import and that `key` asks about (`asks_about`), as
+/// lines. `key` is an interface, a package, or a function or a type of the world itself; `all`, for all imports; or
+/// `$root`, for the world's own imports. A key without a version asks about each version.
 ///
-/// The imports of the main module come first, and then those of each adapter, in order: functions, drops of resources,
-/// and built-ins for a future or a stream of a function that is imported. Built-ins for exports, and what modules of a
-/// component share, are none. Of each there is a line `INTERFACE NAME`, and then a line for each step of the path to it,
-/// after two blanks. INTERFACE is `$root` for what is the world's own; NAME is that of the function, and of another
-/// import the name that it has in its module:
+/// The imports of the main module come first, and then the imports of each adapter, in order. They are functions, drops
+/// of resources, and built-ins for a future or a stream of an imported function. Built-ins for exports, and imports
+/// that modules of a component share, are left out. Each import has a line `INTERFACE NAME`, and then a line for each
+/// step of the path to it, after two blanks. INTERFACE is `$root` for the world's own imports. NAME is the name of the
+/// function, and for any other import its name in its module. The steps are
 ///
-/// - of the main module the lines of the steps to its import, and `main imports MODULE NAME`. The steps are where the path to
-///   it begins: `main exports NAME`, `main start`, `main fills table T` or `main fills memory M`; and a line for each item of
-///   the shortest path to it (`wc_paths::Paths::path`), from its exports and its start function, or, where none leads there,
-///   from its active segments. `main reaches it nowhere` stands for a path that isn't there, and `main is not followed: PART`
-///   where PART can't be read: `body of function N`, `element section`, `data section` or `data count section`. After `elem N`, an
-///   active segment, come those that may call the function after it: `called by func N NAME`, at most three, and `called by N more`;
-/// - of an adapter the same lines to `main imports ADAPTER EXPORT`, if the main module imports the export where the path
-///   begins; `adapter ADAPTER exports EXPORT`; a line for each item that leads from it to the import, in the adapter as the encoder
-///   has it, by the shortest chain (`wc_gc::why_imports`) of the exports for which it was trimmed; and
-///   `adapter ADAPTER imports MODULE NAME`;
+/// - of the main module the lines of the steps to its import, and `main imports MODULE NAME`. The first step is the
+///   root: `main exports NAME`, `main start`, `main fills table T` or `main fills memory M`. Then comes a line for each
+///   item of the shortest path to the import (`wc_paths::Paths::path`). It leads from the module's exports and its
+///   start function, or, if none of these reaches the import, from its active segments. If there is no path, the line
+///   is `main reaches it nowhere`; if PART can't be read, it is `main is not followed: PART`, with
+///   `body of function N`, `element section`, `data section` or `data count section`. After `elem N`, an active
+///   segment, come the functions that may call the function after it: `called by func N NAME`, at most three, and
+///   `called by N more`;
+/// - of an adapter the same lines to `main imports ADAPTER EXPORT`, if the main module imports the export at which the
+///   path begins; `adapter ADAPTER exports EXPORT`; a line for each item that leads from it to the import; and
+///   `adapter ADAPTER imports MODULE NAME`. The items are the shortest chain (`wc_gc::why_imports`) from the exports
+///   for which the adapter was trimmed, in the adapter as the encoder has it;
 /// - of a library `adapter ADAPTER imports MODULE NAME` alone.
 ///
-/// The line of an item, or of a segment, begins with `* ` in place of two blanks where it is marked: each path from where
-/// paths begin in the component to any import that is asked about goes through it, and it is no such import itself. Such paths
-/// go on from an import of the main module to the export of the adapter that it imports. They begin at the main module's
-/// exports, its start function and its active segments, and at its imports to which none of these leads; at the exports for
-/// which an adapter was trimmed and that the main module doesn't import; and at libraries. Where `key` is `all` no line is
-/// marked.
+/// The line of an item or a segment begins with `* ` instead of two blanks if it is marked: each path from any root of
+/// the component to any requested import goes through it, and it is no requested import itself. Such paths go on from
+/// an import of the main module to the adapter's export that it imports. The roots are the main module's exports, its
+/// start function and its active segments, and its imports to which none of these leads; the exports for which an
+/// adapter was trimmed and that the main module doesn't import; and libraries. If `key` is `all`, no line is marked.
 ///
-/// After these there is a line `INTERFACE: for its types` for each interface of which no function is lowered and no resource
-/// dropped, but types are live, in the world's order. Under it are the lines of the first root that needs such a type, of those
-/// of the live types in their order: of an import of a module those of the path to it, which end with that import;
-/// `world imports NAME` for a type that the world itself imports, and `world exports NAME` for an export of it. The last line
-/// is `type NAME`: the type of INTERFACE that is live first. None of these lines is marked.
+/// After these there is a line `INTERFACE: for its types` for each interface of which no function is lowered and no
+/// resource dropped, but some types are live, in the world's order. Under it are the lines of the first root of live
+/// types, in their order, that needs such a type. If the root is an import of a module, they are the lines of the path
+/// to it, which end with that import. For a type that the world itself imports, the line is `world imports NAME`; for
+/// an export of the world, it is `world exports NAME`. The last line is `type NAME`, the first live type of INTERFACE.
+/// None of these lines is marked.
 ///
-/// Where nothing is imported that is asked about, there is one line, `KEY: in the world, not imported`. Texts from outside are escaped
-/// (`wc_texts::escaped`), and a blank in them is `\u{20}`; in the line of a key it stays.
+/// If nothing is imported that `key` asks about, the only line is `KEY: in the world, not imported`. Texts from outside
+/// are escaped (`wc_texts::escaped`), with a blank as `\u{20}`; in the line of a key a blank stays.
 ///
-/// It takes time and memory linear in the modules, in the types and in the text; and also time linear in an adapter for each
-/// interface whose types an import of it needs first, and in the types to which it refers for each exported interface.
+/// It takes time and memory linear in the modules, in the types and in the text. For each interface whose types an
+/// import of an adapter needs first, it also takes time linear in that adapter. For each exported interface it takes
+/// time linear in the types to which the interface refers.
 ///
 /// # Errors
 ///
@@ -89,21 +92,24 @@ pub fn ways_text(alloc: Global, world: &ComponentWorld<'_>, key: &str) -> Result
     text_in(alloc, world, key, &main)
 }
 
-/// The paths of `ways_text` as a tree, which has each item of a module once, as JSON in one line (`wc_tree::tree_to_json`). Its
-/// modules are the main module and then each adapter, in order. A path through an adapter is read from its last item back to the
-/// export where it begins there, and, if the main module imports that, from its import back to where the path begins in the main
-/// module. An import of the main module to which no path is known is an item that says why where it begins: `unreached` or
-/// `unread`. Of a library each import that is asked about is an item, to which nothing leads.
+/// The paths of `ways_text` as a tree, which has each item of a module once, as JSON in one line
+/// (`wc_tree::tree_to_json`). Its modules are the main module and then each adapter, in order. To read a path through
+/// an adapter, go from its last item back to the export at which it begins there. If the main module imports that
+/// export, go on from this import back to the root in the main module. An import of the main module to which no path is
+/// known is an item whose root says why: `unreached` or `unread`. Each requested import of a library is an item to
+/// which nothing leads.
 ///
-/// A path for types alone ends where what needs them is: at an import of the main module or of an adapter, at one of a library, to which no
-/// item leads, or at what the world itself imports or exports. Where nothing is known to need them, it ends nowhere.
+/// A path for types alone ends at the thing that needs them: an import of the main module or of an adapter; an import
+/// of a library, to which no item leads; or an item that the world itself imports or exports. If nothing is known to
+/// need them, it ends nowhere.
 ///
 /// An item is marked (`only`) where its line in `ways_text` would be; where `key` is `all` there are no marks.
 ///
-/// Where nothing is imported that is asked about, there are no items and no paths. Texts are escaped by the rules of JSON alone.
+/// If nothing is imported that `key` asks about, the tree has no items and no paths. Texts are escaped only by the
+/// rules of JSON.
 ///
-/// It takes time and memory linear in the modules and in the types, however long the paths are; and also time linear in the types to
-/// which it refers for each exported interface.
+/// It takes time and memory linear in the modules and in the types, however long the paths are. For each exported
+/// interface it also takes time linear in the types to which it refers.
 ///
 /// # Errors
 ///
@@ -117,11 +123,11 @@ pub fn ways_json(alloc: Global, world: &ComponentWorld<'_>, key: &str) -> Result
     json_in(alloc, world, key, &main)
 }
 
-/// The tree of `ways_json` as a graph, in the language of Graphviz (`wc_tree::tree_to_graph`): a cluster for each module, with a box for
-/// each run of items, and a box for each interface. The line of an item that is marked begins with `* `.
+/// The tree of `ways_json` as a graph, in the language of Graphviz (`wc_tree::tree_to_graph`). Each module is a cluster
+/// with a box for each run of items, and each interface is a box. The line of a marked item begins with `* `.
 ///
-/// It takes time and memory linear in the modules and in the types, however long the paths are; and also time linear in the types to
-/// which it refers for each exported interface.
+/// It takes time and memory linear in the modules and in the types, however long the paths are. For each exported
+/// interface it also takes time linear in the types to which it refers.
 ///
 /// # Errors
 ///
@@ -265,7 +271,8 @@ struct AllFound<'a> {
     typed: Vec<FoundTyped<'a>>,
 }
 
-/// The items of the modules on the paths to what is asked about, and the interfaces that are imported for their types alone.
+/// The items of the modules on the paths to the requested imports, and the interfaces that are imported for their types
+/// alone.
 fn all_found<'a>(alloc: Global, main: &MainModule<'a>) -> Result<AllFound<'a>, GcFault>
     requires nameable { AreNameable (world_of main.now) }
     requires main { IsFollowedIn main.now }
@@ -297,7 +304,8 @@ fn types_of<'a>(alloc: Global, main: &MainModule<'a>) -> Result<Vec<FoundTyped<'
     Ok(typed.list)
 }
 
-/// The items of the modules on the paths to what is asked about, and to what needs the types for which something is imported.
+/// The items of the modules on the paths to the requested imports, and to the items that need the types for which an
+/// interface is imported.
 fn modules_of<'a>(
     alloc: Global,
     main: &MainModule<'a>,

@@ -18,18 +18,19 @@ use json::Writer;
 use std::alloc::{AllocError, Global};
 use wc_paths::PathRoot;
 
-/// An object with `interface`, `name` and `steps`, the list of the path's steps. For the types of the interface alone `name`
-/// is null. A step is an object whose first member is `kind`:
+/// An object with `interface`, `name` and `steps`, the list of the path's steps. `name` is null if the path is for the
+/// types of the interface alone. A step is an object whose first member is `kind`:
 ///
 /// - `import`, with `adapter`, `module` and `name`: that adapter imports it; null stands for the main module;
-/// - `export`, with `adapter` and `name`: that adapter exports it; null stands for the main module, or a module that stands
+/// - `export`, with `adapter` and `name`: that adapter exports it; null means the main module, or a module that stands
 ///   alone;
 /// - `start`: the start function of that module;
 /// - `fills`, with `space` (`table` or `memory`) and `index`: what an active segment of that module fills;
 /// - `unreached`: nothing in the main module leads to the import;
-/// - `unread`, with `function` or `section`: the index of the function whose body, or the name of the section, can't be read;
-/// - `item`, with `space` (`type`, `func`, `table`, `memory`, `global`, `elem` or `data`), `index` and `name`, which is null
-///   where it has none;
+/// - `unread`, with `function` or `section`: the body of the function of this index, or the section of this name, can't
+///   be read;
+/// - `item`, with `space` (`type`, `func`, `table`, `memory`, `global`, `elem` or `data`), `index` and `name`, which is
+///   null for an item without a name;
 /// - `world`, with `side` (`imports` or `exports`) and `name`: the world itself imports or exports it;
 /// - `type`, with `name`: a type of the interface.
 impl PathPrinter for Writer {
@@ -203,7 +204,8 @@ pub fn put_kind(out: &mut Writer, kind: &str) -> Result<(), AllocError>
     end_object(out)
 }
 
-/// Writes what a segment fills, as an object: `kind`, which is `fills`, `space`, and the `index` of the table or memory.
+/// Writes the table or memory that a segment fills, as an object: `kind`, which is `fills`; `space`; and the `index` of
+/// the table or memory.
 ///
 /// # Errors
 ///

@@ -7,10 +7,10 @@ ghost use Rattle.wc_why.specs.Keys.{asks_about, has_version, is_package, names_p
 
 use std::alloc::{AllocError, Global};
 
-/// Whether a key asks about what is imported under a text: the key is this text, with its version or without; or it is the
-/// package of an interface, with its version or without. The package is what is before the first `/` of the text, and a
-/// version what is after the first `@`. The text of an import of a module is the module's name, and that of a function or a
-/// type of a world itself is its name.
+/// Whether a key asks about the import with this text. It does if it is the text, or the text before its first `@`; or
+/// if it is the package of an interface, with the version or without. The package is the text before the first `/`, and
+/// the version is the text after the first `@`. The text of a module's import is the name of the module that it is
+/// from. The text of a function or a type that the world itself imports is its name.
 pub fn asks_about(key: &str, text: &str) -> bool
     ensures { result ≡ asks_about key.now text.now }
 {
@@ -75,8 +75,8 @@ fn cut(text: &str, at: char) -> Option<(&str, &str)>
     text.split_once(at)
 }
 
-/// The package of an interface of this name, without its version: what is before the first `/`. `None` for a name without
-/// a `/`.
+/// The package of the interface of this name, without its version: the text before the first `/`. `None` for a name
+/// without a `/`.
 pub fn package_of(text: &str) -> Option<&str>
     ensures { option_map (λ p. p.now) result ≡ package_of text.now }
 {

@@ -1,7 +1,8 @@
-//! Why a module imports something: the path to an import, as a value of steps, and printers of paths: as lines and as JSON.
+//! Why a module imports something: the path to an import, as a value made of steps, and printers that write paths as
+//! lines or as JSON.
 //!
-//! A `Path` leads to one import by its `Step`s. It is made once, from a chain of `wc_gc::why_imports` (`push_items`), and
-//! given to a `PathPrinter`: a `String` takes the lines of paths, a `json::Writer` takes them as JSON.
+//! A `Path` leads to one import by its `Step`s. It is made once, from a chain of `wc_gc::why_imports` (`push_items`),
+//! and passed to a `PathPrinter`: a `String` takes paths as lines, a `json::Writer` as JSON.
 //!
 //! A key asks about imports: it is a name or a package, with a version or without (`asks_about`).
 #![tactic(auto)]

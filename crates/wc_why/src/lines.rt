@@ -38,14 +38,15 @@ impl PathPrinter for String {
 ///
 /// - `main imports MODULE NAME`, or `adapter ADAPTER imports MODULE NAME`;
 /// - `adapter ADAPTER exports NAME`;
-/// - where a path begins in the main module, as `main_root_text` has it, or in a module that stands alone, as `root_text`
-///   has it; or why no path through the main module is shown (`unfollowed_text`);
-/// - an item as `item_text` has it, a segment as `segment_text` has it. After a segment come those that may call the function
-///   of the next step (`CalledBy`): `called by func N NAME` for each, and `called by N more`, if there are more;
+/// - the root of a path: of the main module as `main_root_text` returns it, of a module that stands alone as
+///   `root_text` returns it; or why no path through the main module is shown (`unfollowed_text`);
+/// - an item as `item_text` returns it, a segment as `segment_text` returns it. After a segment come the functions that
+///   may call the function of the next step (`CalledBy`): `called by func N NAME` for each, and `called by N more`, if
+///   there are more;
 /// - `world imports NAME`, or `world exports NAME`, and `type NAME`.
 ///
-/// Texts from outside are escaped (`wc_texts::escaped`), and a blank in them is `\u{20}`; but in the name of an item, and of
-/// an export of a module that stands alone, which end their lines, it stays.
+/// Texts from outside are escaped (`wc_texts::escaped`), with a blank as `\u{20}`. But the name of an item, and of an
+/// export of a module that stands alone, ends its line, so its blanks stay.
 ///
 /// # Errors
 ///
@@ -60,8 +61,8 @@ pub fn push_path(alloc: Global, path: &Path<'_>, text: &mut String) -> Result<()
     push_steps(alloc, &path.steps, text)
 }
 
-/// Returns the text of the import that a path leads to: `INTERFACE NAME`, or `INTERFACE: for its types`. Each text is a word
-/// (`word`).
+/// Returns the text of the import to which a path leads: `INTERFACE NAME`, or `INTERFACE: for its types`. Each text is
+/// a word (`word`).
 ///
 /// # Errors
 ///
@@ -277,8 +278,8 @@ pub fn root_text(alloc: Global, root: PathRoot<'_>) -> Result<String, AllocError
     }
 }
 
-/// Where a path begins in the main module of a component: the same after `main`, with `main exports NAME`, the name as a
-/// word.
+/// Returns the root of a path in the main module of a component: `main exports NAME`, with the name as a word; or
+/// `main start`, `main fills table T` or `main fills memory M`.
 ///
 /// # Errors
 ///
@@ -297,8 +298,8 @@ pub fn main_root_text(alloc: Global, root: PathRoot<'_>) -> Result<String, Alloc
     }
 }
 
-/// Why no path through the main module is shown: `main reaches it nowhere`, or `main is not followed: ` and what can't be
-/// read.
+/// Returns why no path through the main module is shown: `main reaches it nowhere`, or `main is not followed: ` and the
+/// part that can't be read.
 ///
 /// # Errors
 ///

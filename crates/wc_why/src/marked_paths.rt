@@ -139,8 +139,8 @@ pub(crate) fn marked_line(alloc: Global, step: Step<'_>) -> Result<String, Alloc
     }
 }
 
-/// Writes a path as JSON, as a printer does (`PathPrinter`); but where something is asked for, items and segments have a
-/// last member `only`: whether they are marked.
+/// Writes a path as JSON, as a printer does (`PathPrinter`). If imports are requested, items and segments have a last
+/// member `only`, which says whether they are marked.
 ///
 /// # Errors
 ///

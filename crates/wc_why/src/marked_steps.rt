@@ -54,8 +54,8 @@ pub trait MarkedPathPrinter {
         ensures kept { OnOk result (before self.new ≡ before self.old) };
 }
 
-/// The lines of a path, as `push_path` has them; but those of items and segments that are marked begin with `* ` in place of
-/// two blanks.
+/// The lines of a path, as `push_path` appends them, except that the lines of marked items and segments begin with `* `
+/// instead of two blanks.
 impl MarkedPathPrinter for String {
     ghost use Rattle.std.specs.Prelude.{ℕ, [], string_bytes};
     ghost use Rattle.wc_why.specs.MarkedSteps.{lines_of};

@@ -213,8 +213,8 @@ pub fn name_in<'r>(names: &OrderedMap<u32, &'r str>, item: (Space, u32)) -> Opti
     }
 }
 
-/// Appends a step for each item of a path of `wc_paths`, in order. A function has the one of these names that its index has.
-/// An active element segment has those of `callers` that may call the function after it.
+/// Appends a step for each item of a path of `wc_paths`, in order. A function has the name that `names` has for its
+/// index. An active element segment has those functions of `callers` that may call the function after it.
 ///
 /// # Errors
 ///

@@ -1,4 +1,4 @@
-//! The canonical options that a component needs where it lifts an exported function.
+//! The canonical options that a component needs if it lifts an exported function.
 
 ghost use Rattle.std.specs.Prelude.{◌≡◌, IfOk};
 ghost use Rattle.wc_resolve.specs.Views.{function_view};
@@ -21,13 +21,14 @@ fn is_async_export(abi: AbiVariant) -> bool
 }
 
 impl RequiredOptions {
-    /// The canonical options that a function of the `Resolve` needs where it is lifted in this way (component model,
-    /// Canonical ABI, "canon lift"): memory, where parameters or the result are passed indirectly or hold strings or
-    /// lists; a realloc, where that goes for the parameters, which the caller's component writes; an encoding, where one
-    /// of them holds strings; and whether it is called asynchronously.
+    /// The canonical options that a function of the `Resolve` needs if it is lifted in this way (component model,
+    /// Canonical ABI, "canon lift"). It needs a memory if parameters or the result are passed indirectly or hold
+    /// strings or lists. It needs a realloc if that is true of the parameters, which the caller's component writes.
+    /// It needs an encoding if parameters or the result hold strings. The options also say whether it is called
+    /// asynchronously.
     ///
-    /// An asynchronous function returns its result by `task.return`, whose memory and encoding have to be those of the
-    /// function. They are those of the same function where it is lifted synchronously.
+    /// An asynchronous function returns its result by `task.return`, whose memory and encoding must be those of the
+    /// function. They are the options of the same function lifted synchronously.
     ///
     /// The function must be usable (`Resolve::has_function`).
     ///

@@ -37,7 +37,7 @@ fn lowerings_of<O: ImportOptions>(
     Ok(Rc::new(alloc, lowerings)?)
 }
 
-/// The lowerings of an interface: those that are kept; else they are made, and kept from now on.
+/// The lowerings of an interface: the kept ones, if any; otherwise they are made, and kept from now on.
 fn lowerings_once<O: ImportOptions>(
     alloc: Global,
     context: &Lowerings<'_, O>,
@@ -60,8 +60,8 @@ fn lowerings_once<O: ImportOptions>(
     Ok(found)
 }
 
-/// The lowerings of an interface that a world imports under this key. Under its own id a world imports an interface once,
-/// so they are kept for plain names alone.
+/// The lowerings of an interface that a world imports under this key. A world imports an interface only once under
+/// its own id, so lowerings are kept for plain names alone.
 pub(crate) fn lowerings_under<O: ImportOptions>(
     alloc: Global,
     context: &Lowerings<'_, O>,

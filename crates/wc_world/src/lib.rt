@@ -1,11 +1,13 @@
-//! The world of a component: what a component encoder has to know of modules before it encodes them. A
-//! `ComponentWorld` has what the main module, adapters and libraries import and export, how their imports are met, and
-//! which types these need.
+//! The world of a component: all that a component encoder must know of modules before it encodes them.
 //!
-//! `ImportOptions` decides which canonical options (component model, Canonical ABI, "canonopt") lowered functions need,
-//! and `PlainOptions` decides it by what the functions pass. `RequiredOptions::for_export` has those of lifted functions.
+//! A `ComponentWorld` has the imports and exports of the main module, adapters and libraries, how these imports are
+//! met, and which types they need.
 //!
-//! `ComponentWorld::new` makes it of an encoder (`wc_encoder::ComponentEncoder`).
+//! `ImportOptions` decides which canonical options (component model, Canonical ABI, "canonopt") lowered functions
+//! need. `PlainOptions` decides it by the values that the functions pass. `RequiredOptions::for_export` has the
+//! options of lifted functions.
+//!
+//! `ComponentWorld::new` makes it from an encoder (`wc_encoder::ComponentEncoder`).
 #![tactic(auto)]
 
 mod adapter;

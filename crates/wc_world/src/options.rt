@@ -1,4 +1,4 @@
-//! The canonical options that a component needs where it lowers an imported function.
+//! The canonical options that a component needs if it lowers an imported function.
 
 ghost use Rattle.std.specs.Prelude.{◌≡◌, ◌||◌, IfOk, false};
 ghost use Rattle.std.specs.List.{list_any};
@@ -11,8 +11,8 @@ use bitflags::{Flag, Flags};
 use std::alloc::{AllocError, Global};
 use wc_resolve::{AbiVariant, Function, Resolve, WasmSignature, WitType};
 
-/// The canonical options (component model, Canonical ABI, "canonopt") that a lowered or a lifted function needs. They are
-/// a set: `bitflags::Flags` has its operations.
+/// The canonical options (component model, Canonical ABI, "canonopt") that a lowered or a lifted function needs. They
+/// are a set: `bitflags::Flags` has its operations.
 #[derive(Clone, Copy, Debug, PartialEq, Eq)]
 pub struct RequiredOptions(u8);
 
@@ -159,8 +159,8 @@ pub trait ImportOptions {
     // The options, as bits: the same for the same functions.
     ghost options_of: { Self → OptionsOf };
 
-    /// The options that a function of the `Resolve` needs where it is imported in this way. They are the same whenever
-    /// it is asked for functions of the same name, kind, parameters and result.
+    /// The options that a function of the `Resolve` needs if it is imported in this way. They are the same for all
+    /// functions with the same name, kind, parameters and result.
     ///
     /// The function must be usable (`Resolve::has_function`).
     ///
@@ -179,9 +179,10 @@ pub trait ImportOptions {
             ≡ options_of self.now resolve.now (function_view function.now) abi) };
 }
 
-/// Options by what functions pass: memory, where parameters or the result are passed indirectly or hold strings or
-/// lists; a realloc, where the result holds some; an encoding, where one of them holds strings. The `Resolve` that is
-/// passed as an argument says which types hold some (`Resolve::holds_string`, `Resolve::holds_string_or_list`).
+/// Options by the values that functions pass: memory, if parameters or the result are passed indirectly or hold
+/// strings or lists; a realloc, if the result holds some; an encoding, if one of them holds strings. The `Resolve`
+/// that is passed as an argument says which types hold some (`Resolve::holds_string`,
+/// `Resolve::holds_string_or_list`).
 #[derive(Clone, Copy, Debug, Default, PartialEq, Eq)]
 pub struct PlainOptions;
 

@@ -1,4 +1,4 @@
-//! Refusals of components, made of those of their modules.
+//! Refusals of components, made from the refusals of their modules.
 
 ghost use Rattle.std.specs.Prelude.{◌≡◌, ◌⊎◌, IfOk, Some};
 ghost use Rattle.std.specs.Option.{option_map};
@@ -88,10 +88,10 @@ fn read_fault_in(fault: &ValidateFault) -> Option<ReadFault>
     }
 }
 
-/// The refusal of the main module of an encoder, for the one of its bytes, in which repeated imports may be renamed
-/// (`wc_validate::validate_module_explained`): the same; but that of a fault of reading has for its place the byte at
-/// which the module as it was given stops to be right (`ComponentEncoder::given_module`). `Memory` without a place where
-/// there is no memory to find it.
+/// The refusal of an encoder's main module, made from the refusal of its bytes, in which repeated imports may be
+/// renamed (`wc_validate::validate_module_explained`). Only the place of a fault of reading changes: it is the offset
+/// at which the module as it was passed is malformed (`ComponentEncoder::given_module`). If an allocation for it
+/// fails, the refusal is `Memory` without a place.
 pub fn as_given(
     alloc: Global,
     encoder: &ComponentEncoder,
@@ -114,8 +114,8 @@ pub fn as_given(
     }
 }
 
-/// The refusal of a component whose main module was refused ([`as_given`]): `Main` with the fault, and the place in the
-/// main module; `None` where the fault has none.
+/// The refusal of a component whose main module was refused ([`as_given`]): `Main` with the fault, and the place in
+/// the main module; `None` if the fault has no place.
 pub fn main_refusal(refused: Refused<ValidateFault, Place>) -> Refused<WorldFault, WorldPlace>
     ensures { IsMainRefusal refused result }
 {
@@ -126,10 +126,10 @@ pub fn main_refusal(refused: Refused<ValidateFault, Place>) -> Refused<WorldFaul
     }
 }
 
-/// The refusal of a component whose adapter or library of a name was refused, as the encoder has it
-/// (`wc_validate::validate_adapter_module_explained`): `Adapter` with the name and the fault, and the place in this
-/// module, under its name; `None` where the fault has none. `Memory` without a place where there is no memory for the
-/// name.
+/// The refusal of a component whose adapter or library with this name was refused, as the encoder has it
+/// (`wc_validate::validate_adapter_module_explained`). It is `Adapter` with the name and the fault, and the place in
+/// this module, under its name; `None` if the fault has no place. If an allocation for the name fails, it is `Memory`
+/// without a place.
 pub fn adapter_refusal(
     alloc: Global,
     name: &str,

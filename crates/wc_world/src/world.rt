@@ -44,7 +44,7 @@ pub struct ComponentWorld<'a> {
     pub info: ValidatedModule,
     /// The adapters that are needed, and the libraries, by their names.
     pub adapters: Map<&'a str, WorldAdapter<'a>>,
-    /// How imports are met: those of each interface that the world imports under its name, and under `None` those of
+    /// How imports are met: the imports of each interface that the world imports, under its name; and under `None`
     /// the functions and types that the world itself imports.
     pub import_map: Map<Option<String>, ImportedInterface>,
     /// The live types of imports, by the interfaces that own them.
@@ -176,19 +176,19 @@ fn world_with<'a, O: ImportOptions>(
 }
 
 impl<'a> ComponentWorld<'a> {
-    /// The world of a component, made of what an encoder has: its main module is validated; of its adapters those that
-    /// the main module imports functions from, or that have to export functions, are validated, trimmed to what is
-    /// required of them, and validated again; libraries are validated alone, and their bytes borrowed. Adapters that
-    /// are not needed are not read. `options` says which canonical options lowered functions need.
+    /// Makes the world of a component from the parts of an encoder. The main module is validated. An adapter is
+    /// needed if the main module imports functions from it, or if it must export functions. Needed adapters are
+    /// validated, trimmed to their required exports, and validated again. Libraries are only validated, and their
+    /// bytes borrowed. Other adapters are not read. `options` says which canonical options lowered functions need.
     ///
     /// # Errors
     ///
-    /// The main module is before adapters, and these are in their order. `Memory` may come in place of any. As a fault
-    /// that another one carries it comes at the step of that one: for an adapter only where the main module is valid and
-    /// nothing is wrong with the needed adapters before it.
+    /// The main module comes before adapters, and these come in their order. `Memory` may come instead of any. As a
+    /// fault that another fault carries, it comes at the step of that fault: for an adapter only if the main module
+    /// is valid and nothing is wrong with the needed adapters before it.
     ///
     /// - `Main`: the main module is not valid (`wc_validate::validate_module`).
-    /// - `Adapter`: an adapter, or a library, is not (`wc_validate::validate_adapter_module`).
+    /// - `Adapter`: an adapter, or a library, is not valid (`wc_validate::validate_adapter_module`).
     /// - `Trim`: an adapter can't be trimmed (`wc_gc::run`).
     /// - `Minimized`: an adapter, which could be trimmed, is not valid after that: it imports one name of
     ///   `__main_module__` twice.
@@ -212,14 +212,15 @@ impl<'a> ComponentWorld<'a> {
         }
     }
 
-    /// As [`ComponentWorld::new`]; but a call that fails says what its fault is about: an import or an export of the
-    /// main module, or of the adapter or the library that the fault names; a section, or a body of a function, of an
-    /// adapter that can't be trimmed; the byte where one of them stops being a module, of the main module as it was given
-    /// (`ComponentEncoder::given_module`); or the sizes of pages. No module is validated again for it.
+    /// Like [`ComponentWorld::new`]; if the call fails, the result also says what its fault is about. This may be an
+    /// import or an export of the main module, or of the adapter or the library that the fault names. For an adapter
+    /// that can't be trimmed, it may be a section or a body of a function. It may be the offset at which a module is
+    /// malformed, counted in the main module as it was passed (`ComponentEncoder::given_module`). Or it is the sizes
+    /// of pages. No module is validated again for it.
     ///
     /// # Errors
     ///
-    /// As those of `new`. Where there is no memory for the place of a fault, it is `Memory`.
+    /// The faults of `new`. If an allocation for the place of a fault fails, the fault is `Memory`.
     pub fn new_explained<O: ImportOptions>(
         alloc: Global,
         encoder: &'a ComponentEncoder,

@@ -1,4 +1,5 @@
 //! The sections of a module, each left out where it would be empty (WebAssembly core specification, 5.5.4 to 5.5.13).
+//!
 //! A section's content is written into a buffer first, since its size comes before it.
 
 ghost use Rattle.std.specs.Prelude.{◌≡◌, ◌++◌, map, Some, IfOk, OnOk};
@@ -36,7 +37,7 @@ fn append_content(out: &mut Vec<u8>, id: u8, content: &[u8]) -> Result<(), Write
     append_raw_section(out, id, content)
 }
 
-/// Appends a section of items, where there are any.
+/// Appends a section of items, if there are any.
 fn append_items<T: Written>(
     out: &mut Vec<u8>,
     content: &mut Vec<u8>,
@@ -54,7 +55,7 @@ fn append_items<T: Written>(
     append_content(out, id, content)
 }
 
-/// Appends the section of types, where there are any.
+/// Appends the section of types, if there are any.
 pub(crate) fn append_types(
     out: &mut Vec<u8>,
     content: &mut Vec<u8>,
@@ -66,7 +67,7 @@ pub(crate) fn append_types(
     append_items(out, content, TYPE_ID, types)
 }
 
-/// Appends the section of imports, where there are any.
+/// Appends the section of imports, if there are any.
 pub(crate) fn append_imports<C: BodyText, I: InitText>(
     out: &mut Vec<u8>,
     content: &mut Vec<u8>,
@@ -95,7 +96,7 @@ fn imports<'a, C: BodyText, I: InitText>(
     Ok(imports)
 }
 
-/// Appends the section of functions, the indices of the types of the defined ones, where there are any.
+/// Appends the section of functions, the indices of the types of the defined ones, if there are any.
 pub(crate) fn append_func_types<C: BodyText>(
     out: &mut Vec<u8>,
     content: &mut Vec<u8>,
@@ -121,7 +122,7 @@ fn types_of<C>(alloc: Global, funcs: &[Defined<'_, u32, C>]) -> Result<Vec<u32>,
     Ok(types)
 }
 
-/// Appends the section of defined tables, where there are any.
+/// Appends the section of defined tables, if there are any.
 pub(crate) fn append_tables(
     out: &mut Vec<u8>,
     content: &mut Vec<u8>,
@@ -134,7 +135,7 @@ pub(crate) fn append_tables(
     append_items(out, content, TABLE_ID, &tables)
 }
 
-/// Appends the section of defined memories, where there are any.
+/// Appends the section of defined memories, if there are any.
 pub(crate) fn append_memories(
     out: &mut Vec<u8>,
     content: &mut Vec<u8>,
@@ -147,7 +148,7 @@ pub(crate) fn append_memories(
     append_items(out, content, MEMORY_ID, &memories)
 }
 
-/// Appends the section of defined globals, where there are any.
+/// Appends the section of defined globals, if there are any.
 pub(crate) fn append_globals<I: InitText>(
     out: &mut Vec<u8>,
     content: &mut Vec<u8>,
@@ -202,7 +203,7 @@ fn put_defined_global<I: InitText>(
     global.content.put(out)
 }
 
-/// Appends the section of exports, where there are any.
+/// Appends the section of exports, if there are any.
 pub(crate) fn append_exports(
     out: &mut Vec<u8>,
     content: &mut Vec<u8>,
@@ -214,7 +215,7 @@ pub(crate) fn append_exports(
     append_items(out, content, EXPORT_ID, exports)
 }
 
-/// Appends the start section, where there is a start function.
+/// Appends the start section, if there is a start function.
 pub(crate) fn append_start(
     out: &mut Vec<u8>,
     content: &mut Vec<u8>,
@@ -230,7 +231,7 @@ pub(crate) fn append_start(
     append_content(out, START_ID, content)
 }
 
-/// Appends the section of code, the bodies of defined functions after their sizes, where there are any.
+/// Appends the section of code, the bodies of defined functions after their sizes, if there are any.
 pub(crate) fn append_code<C: BodyText>(
     out: &mut Vec<u8>,
     content: &mut Vec<u8>,
@@ -260,8 +261,8 @@ fn append_bodies<C: BodyText>(
     append_content(out, CODE_ID, content)
 }
 
-/// Appends bodies after their sizes. Where the body before had a size of one byte, the next one is put in its place at
-/// once; else it goes through a buffer, which serves them all.
+/// Appends bodies after their sizes. If the body before had a size of one byte, the next one is written directly;
+/// otherwise it goes through a buffer, which serves them all.
 fn put_code<C: BodyText>(out: &mut Vec<u8>, funcs: &[Defined<'_, u32, C>]) -> Result<(), AllocError>
     ensures { OnOk result (out.new.items ≡
         out.old.items ++ flat_map (code_text_of C.body) funcs.now) }
@@ -274,7 +275,7 @@ fn put_code<C: BodyText>(out: &mut Vec<u8>, funcs: &[Defined<'_, u32, C>]) -> Re
     Ok(())
 }
 
-/// Appends a body after its size, and answers whether the size has one byte. It is expected to where `is_short` is true.
+/// Appends a body after its size, and returns whether the size has one byte. If `is_short`, one byte is expected.
 fn put_body_after_size<C: BodyText>(
     out: &mut Vec<u8>,
     text: &mut Vec<u8>,
@@ -317,7 +318,7 @@ fn put_in_place<C: BodyText>(
     Ok(false)
 }
 
-/// Appends the custom section of producers, where there are producers.
+/// Appends the custom section of producers, if there are producers.
 pub(crate) fn append_producers(
     out: &mut Vec<u8>,
     content: &mut Vec<u8>,

@@ -24,7 +24,7 @@ use wc_texts::{PutFailed, Refused};
 use wc_world::WorldFault;
 use wcplan_inputs::{Explained, ExplainedPart, ExporterFault, ProgramFault};
 
-/// The object where there is no memory for a fault as JSON, and of the fault that an allocation failed.
+/// The object that is printed if an allocation failed, either as the fault itself or in writing a fault as JSON.
 const MEMORY: &str = "{\"text\":\"out of memory\",\"place\":null}";
 
 /// The object of worlds that are not text, and look like nothing that is known.
@@ -33,15 +33,16 @@ const NOT_TEXT: &str = "{\"text\":\"Json: not UTF-8\",\"place\":null}";
 /// The object of an output that failed.
 const UNPRINTED: &str = "{\"text\":\"cannot print\",\"place\":null}";
 
-/// A place that there is not.
+/// The missing place of a fault, in JSON.
 const NULL: &[u8] = b"null";
 
 /// Prints why the program failed as JSON in a line: an object with `text`, the text of the fault with its lines, and
-/// `place`, what it is about. That is as of `wc_record::part_to_json` for worlds that are not well-formed, as of
-/// `trim_place_to_json` for a main module that can't be read, as of `world_place_to_json` or `trim_fault_to_json` for a component
-/// without a world, as of `plan_place_to_json` for one without a
-/// plan, and as of `key_to_json` for a key that no export or import has, or that no module or several export; else null. Where memory is needed for this, and there is none,
-/// it is the object of want of memory. The answer is the status of a failure.
+/// `place`, the thing that the fault is about. `part_to_json` of `wc_record` writes it for worlds that are not
+/// well-formed, `trim_place_to_json` for a main module that can't be read, `world_place_to_json` or
+/// `trim_fault_to_json` for a component without a world, and `plan_place_to_json` for a component without a plan.
+/// `key_to_json` writes a key that no export or import has, or that no module or several modules export. For other
+/// faults `place` is null. If an allocation for the JSON fails, the object is that of the fault `Memory`. The result
+/// is the exit status of a failure.
 pub(crate) fn report_json<E: Screen>(alloc: Global, err: &mut E, fault: &ProgramFault<'_>) -> u8
     ensures { IsReportedJson fault.now (Becomes E.ends err.old err.new) result }
 {
@@ -83,7 +84,7 @@ fn fixed_json(fault: &ProgramFault<'_>) -> Option<&'static str>
     }
 }
 
-/// Prints a fault as JSON, where memory is needed for it. The answer is the status of a failure.
+/// Prints a fault as JSON, which needs memory. The result is the status of a failure.
 fn report_made<E: Screen>(alloc: Global, err: &mut E, fault: &ProgramFault<'_>) -> u8
     requires { NeedsText fault.now }
     ensures { IsReportedJson fault.now (Becomes E.ends err.old err.new) result }
@@ -103,7 +104,7 @@ fn fault_line(alloc: Global, fault: &ProgramFault<'_>) -> Result<Vec<u8>, AllocE
     members_line(alloc, &text, &place)
 }
 
-/// An object with these members, a text and a place, in a line.
+/// An object with these two members, a text and a place, in a line.
 fn members_line(alloc: Global, text: &[u8], place: &[u8]) -> Result<Vec<u8>, AllocError>
     ensures { IfOk result (λ v. v.items ≡ members_text text.now place.now ++ codes "\n") }
 {
@@ -124,7 +125,7 @@ fn text_of(alloc: Global, fault: &ProgramFault<'_>) -> Result<Vec<u8>, AllocErro
     string_to_json(alloc, &text)
 }
 
-/// The place that a fault is about, as JSON.
+/// The place of a fault, as JSON.
 fn place_of(alloc: Global, fault: &ProgramFault<'_>) -> Result<Vec<u8>, AllocError>
     ensures { IfOk result (λ v. v.items ≡ fault_place fault.now) }
 {
@@ -140,7 +141,7 @@ fn place_of(alloc: Global, fault: &ProgramFault<'_>) -> Result<Vec<u8>, AllocErr
     }
 }
 
-/// The key that it can't be told of which module exports it, as JSON.
+/// The key of a fault about exporters, as JSON.
 fn exporter_place(alloc: Global, fault: &ExporterFault) -> Result<Vec<u8>, AllocError>
     ensures { IfOk result (λ v. v.items ≡ exporter_place fault.now) }
 {
@@ -171,7 +172,7 @@ fn read_place(alloc: Global, place: Option<ReadPlace>) -> Result<Vec<u8>, AllocE
     }
 }
 
-/// The place that a fault of a component's world is about, as JSON; without one the adapter that it names.
+/// The place of a fault of a component's world, as JSON; if the fault has none, the adapter that it names.
 fn world_place(
     alloc: Global,
     refused: &Refused<WorldFault, Explained>,
@@ -220,7 +221,7 @@ fn put_string(out: &mut Writer, text: &str) -> Result<(), AllocError>
     out.string(text)
 }
 
-/// Prints bytes. The answer is the status of a failure.
+/// Prints bytes. The result is the status of a failure.
 fn print_bytes<E: Screen>(err: &mut E, bytes: &[u8]) -> u8
     ensures { Prints bytes.now failure (Becomes E.ends err.old err.new) result }
 {
@@ -230,7 +231,7 @@ fn print_bytes<E: Screen>(err: &mut E, bytes: &[u8]) -> u8
     }
 }
 
-/// Prints a text in a line. The answer is the status of a failure.
+/// Prints a text in a line. The result is the status of a failure.
 fn print_text<E: Screen>(err: &mut E, text: &str) -> u8
     ensures { Prints (text.now ++ codes "\n") failure (Becomes E.ends err.old err.new) result }
 {

@@ -12,8 +12,8 @@ use wc_plan::{Owner, Plan, Use};
 use wc_resolve::AbiVariant;
 use wc_texts::escaped;
 
-/// The lines of a plan, as `wc_plan::write_plan` writes them, but that each is escaped (`wc_texts::escaped`): so each is
-/// one line, whatever the names in it are.
+/// The lines of a plan, as `wc_plan::write_plan` writes them, but each escaped (`wc_texts::escaped`): so each is one
+/// line, whatever the names in it.
 ///
 /// # Errors
 ///
@@ -95,7 +95,7 @@ fn slot_text(alloc: Global, slot: Option<u64>) -> Result<String, AllocError>
     }
 }
 
-/// The text, or what stands for none.
+/// The text, or `none` if it is missing.
 fn text_or<'a>(text: &'a Option<String>, none: &'a str) -> &'a str
     ensures { result.now ≡ unwrap_or (option_map string_bytes text.now) none.now }
 {
@@ -105,7 +105,7 @@ fn text_or<'a>(text: &'a Option<String>, none: &'a str) -> &'a str
     }
 }
 
-/// `async` of an asynchronous import, else `sync`.
+/// `async` for an asynchronous import, otherwise `sync`.
 fn call_text(abi: AbiVariant) -> &'static str
     ensures { result.now ≡ call_text abi }
 {

@@ -1,4 +1,4 @@
-//! The program: its arguments, its files, what it prints, and its exit status.
+//! The program: its arguments, its files, its output, and its exit status.
 
 ghost use Rattle.std.specs.Prelude.{◌≡◌, ℕ, Bool, IfErr, IfOk, IsErr, string_bytes};
 ghost use Rattle.std.specs.IoError.{error_kind};
@@ -41,27 +41,27 @@ use wcplan_inputs::{
     world_fault,
 };
 
-/// Runs the program with these arguments, the first of them the one after the program's name. What is done is the same for
-/// every seed of the shell. The answer is its exit status:
+/// Runs the program with these arguments; the first is the one after the program's name. The shell's seed has no
+/// effect. The result is the exit status:
 ///
-/// | Status | Where | Printed |
+/// | Status | When | Printed |
 /// |---|---|---|
-/// | 0 | there are no arguments | the usage text, to `out` |
-/// | 0 | `parse` answers `Help` or `Version` | the help text or the version, to `out` |
-/// | 0 | the command was run | the lines of the plan, the record, or why a key is imported, to `out`; lines of warnings to `err` |
-/// | 1 | the command could not be run | the line `wcplan: TEXT`, and lines of what the fault is about, to `err` |
-/// | 1 | it could not, and has `--json` | the fault as JSON in a line, to `err` |
-/// | 1 | there was no memory for the arguments | the line `wcplan: out of memory`, to `err` |
-/// | 2 | an argument is wrong, or no text | the line `wcplan: TEXT` and the usage text, to `err` |
-/// | 1 | `out` failed | not known there; the line `wcplan: cannot print`, to `err` |
-/// | 1 | `err` failed, but for warnings | not known there |
+/// | 0 | no arguments are passed | the usage text, to `out` |
+/// | 0 | `parse` gives `Help` or `Version` | the help text or the version, to `out` |
+/// | 0 | the command was run | the lines of the plan, the record, or the paths, to `out`; warnings to `err` |
+/// | 1 | the command could not be run | the line `wcplan: TEXT`, and lines of details, to `err` |
+/// | 1 | it could not be run, and has `--json` | the fault as JSON in a line, to `err` |
+/// | 1 | an allocation for the arguments failed | the line `wcplan: out of memory`, to `err` |
+/// | 2 | an argument is wrong, or not UTF-8 | the line `wcplan: TEXT` and the usage text, to `err` |
+/// | 1 | `out` failed | unknown; the line `wcplan: cannot print`, to `err` |
+/// | 1 | `err` failed, except for warnings | unknown |
 ///
-/// TEXT is the text of `run_command`'s fault (`ProgramFault::text`) or of the wrong argument (`WrongArgument::text`). The
-/// lines under it are those of `ProgramFault::details`. Where there was no memory for text and lines, the line is `wcplan: out
-/// of memory`, and the status 1. All that is printed is flushed. Nothing is printed to the other output, but for warnings, and
-/// unless `out` failed before: then the line `wcplan: cannot print` is. Warnings are those that `run_command` answers, each in a
-/// line; where they can't be printed, the status is 0 all the same. Files are as `run_command` leaves them; without a command
-/// they are unchanged.
+/// TEXT is the text of `run_command`'s fault (`ProgramFault::text`) or of the wrong argument (`WrongArgument::text`).
+/// The lines under it are the lines of `ProgramFault::details`. If an allocation for text and lines fails, the line
+/// is `wcplan: out of memory`, and the status 1. All printed text is flushed. Nothing is printed to the other output,
+/// except warnings; and if `out` failed before, the line `wcplan: cannot print`. Warnings are those that
+/// `run_command` gives, each in a line. If they can't be printed, the status still is 0. Files are as `run_command`
+/// leaves them; without a command they are unchanged.
 pub fn run<F: DirectoryStore, O: Screen, E: Screen>(
     arguments: &io::Result<Vec<String>>,
     shell: &mut Shell<F, O, E>,
@@ -80,7 +80,7 @@ pub fn run<F: DirectoryStore, O: Screen, E: Screen>(
     wc_program::run(&Wcplan, arguments, shell)
 }
 
-/// The program, by what it does with its arguments.
+/// The program, as a type for the shell.
 struct Wcplan;
 
 impl<F: DirectoryStore, O: Screen, E: Screen> Program<F, O, E> for Wcplan {
@@ -108,7 +108,7 @@ impl<F: DirectoryStore, O: Screen, E: Screen> Program<F, O, E> for Wcplan {
     }
 }
 
-/// Prints what is asked for in place of a command, or what is wrong with the arguments. The answer is the exit status.
+/// Prints the help or the version, or what is wrong with the arguments. The result is the exit status.
 fn answer_stop<O: Screen, E: Screen>(
     alloc: Global,
     stop: &NoCommand<'_>,
@@ -129,7 +129,7 @@ fn answer_stop<O: Screen, E: Screen>(
     }
 }
 
-/// Runs a command on its files, and prints why it could not be run. The answer is the exit status.
+/// Runs a command on its files, and prints why it could not be run. The result is the exit status.
 fn run_and_report<F: DirectoryStore, O: Screen, E: Screen>(
     command: &Command<'_>,
     shell: &mut Shell<F, O, E>,
@@ -157,7 +157,7 @@ trait Reported {
     // What is printed of it, as JSON or in lines; and the exit status.
     ghost reports: { Self → Bool → (Printing → Type 0) → ℕ → Type 0 };
 
-    /// Prints it: as JSON, if that is asked for; else in lines. The answer is the exit status.
+    /// Prints the fault, in lines or, if requested, as JSON. The result is the exit status.
     fn report_to<E: Screen>(&self, alloc: Global, err: &mut E, asks_json: bool) -> u8
         ensures { reports self.now asks_json (Becomes E.ends err.old err.new) result };
 }
@@ -170,8 +170,8 @@ impl Reported for ProgramFault<'_> {
     }
 }
 
-/// Prints why the program failed, and drops it. This doesn't know its type, and so none of its variants, which makes the
-/// proof short.
+/// Prints why the program failed, and drops the reason. The function doesn't know the reason's type, and so none of
+/// its variants, which makes the proof short.
 fn report_last<E: Screen, R: Reported + Drop>(
     alloc: Global,
     err: &mut E,
@@ -183,40 +183,42 @@ fn report_last<E: Screen, R: Reported + Drop>(
     fault.report_to(alloc, err, asks_json)
 }
 
-/// Reads the worlds and the modules of a command, renames the main module's repeated imports, and makes the component's
-/// world with `PlainOptions`. If the command gives the keys of no module and has adapters, each key of the world's exports has
-/// to be exported by the main module where the names of its exports are those of all functions of the key, or else by the one
-/// adapter of which that is so. If the command has a directory, it makes this, and writes `main.wasm` there, the main module
-/// as it was renamed, and then `NAME.wasm` for each adapter of the component's world, as it was trimmed: each as a whole
-/// (`DirectoryStore::replace`). Every other file stays the same. Then it prints the lines of the plan, as
-/// `wc_plan::write_plan` writes them, but each escaped (`wc_texts::escaped`); or with `--json` the record in a line
-/// (`wc_record::planned_world_to_json`); or with `--why` why the key is imported, by `wc_ways`: in lines (`ways_text`), with
-/// `--json` as JSON (`ways_json`), with `--dot` as a graph (`ways_graph`). A path `-` of a file that is read is
-/// that of `/dev/stdin`. The answer is the warnings, each in a line after `wcplan: warning: `: of each adapter of the command
-/// in order, that it has no name, or else that the component has none of its name, since the main module imports nothing from
-/// it and it has to export no function; and then, if the command names a task hook, that no export of the main module is
-/// one. `seed`: the seed of the maps that are made.
+/// Reads the worlds and the modules of a command, renames the main module's repeated imports, and makes the
+/// component's world with `PlainOptions`. A command may have adapters and name no keys for any module. Then the main
+/// module must export each key of the world's exports for which it has all functions, and the one adapter that has
+/// all functions must export any other key. If the command has a directory, this is made, and files are written
+/// there: `main.wasm`, the main module with renamed imports, and then `NAME.wasm`, trimmed, for each adapter of the
+/// component's world. Each file is replaced as a whole (`DirectoryStore::replace`); all other files are unchanged.
+/// Then the lines of the plan are printed, as `wc_plan::write_plan` writes them, but each escaped
+/// (`wc_texts::escaped`). With `--json` the record is printed in a line (`wc_record::planned_world_to_json`). With
+/// `--why` the program prints why the key is imported, by `wc_ways`: in lines (`ways_text`), with `--json` as JSON
+/// (`ways_json`), with `--dot` as a graph (`ways_graph`). For a file that is read, the path `-` means `/dev/stdin`.
+/// The result is the warnings, each in a line after `wcplan: warning: `. Adapters of the command come in order: a
+/// warning says that an adapter has no name, or otherwise that the component has no adapter with its name. That is so
+/// if the main module imports nothing from it, and it must export no function. If the command names a task hook, and
+/// no export of the main module is the hook, the last warning says so. The maps that are made hash under `seed`.
 ///
 /// # Errors
 ///
-/// Of several causes the first in this order is named; `Memory` may come in place of any before `CannotMake`.
+/// If several causes apply, the first in this order is named; `Memory` may come instead of any before `CannotMake`.
 ///
 /// - `CannotRead`, `NotText`, `NotJson`, `RepeatedMember`, `Json`: the worlds could not be read.
-/// - `NoWorld`, `Selection`: no world has the name, or without a name none has all others for parts; or it can't be told which
-///   one has the name.
+/// - `NoWorld`, `Selection`: no world has the name, or without a name no world includes all others; or the name is
+///   ambiguous.
 /// - `Resolve`: the worlds are not well-formed.
-/// - `Selection`, `NoAdapter`, `NoExport`: names of adapters, or keys, are not there, or are given twice; or files can't be named.
-/// - `NoImport`: the key that is asked about is that of no import.
+/// - `Selection`, `NoAdapter`, `NoExport`: names of adapters, or keys, are unknown or repeated; or files can't have
+///   these names.
+/// - `NoImport`: the key after `--why` is for no import.
 /// - `CannotRead`, `Dedupe`: the main module could not be read, or not renamed.
 /// - `CannotRead`: an adapter could not be read; they are read in order.
-/// - `Exporter`: the command gives the keys of no module and has adapters, and of a key neither the main module nor one adapter
-///   alone has all functions.
+/// - `Exporter`: the command has adapters and names no keys for any module, and for some key the main module lacks a
+///   function, and not exactly one adapter has all functions.
 /// - `Encoder`, `World`, `Plan`: there is no encoder, no component's world, or no plan.
 /// - `Ways`: it can't be said why the key is imported.
 /// - `CannotMake`: the directory could not be made.
-/// - `CannotWrite`: a file could not be written. The files before it were; it has what it had.
-/// - `Output`: what is asked for could not be printed. All files were written; `out` is failed, and how much was
-///   printed is left open.
+/// - `CannotWrite`: a file could not be written. The files before it were written; it is unchanged.
+/// - `Output`: the result could not be printed. All files were written; `out` has failed, and any part of the result
+///   may have been printed.
 /// - `Memory`: an allocation failed.
 ///
 /// After each fault but `Output` nothing was printed; after each but `CannotWrite` and `Output` no file was written.
@@ -343,7 +345,7 @@ fn run_plan<'a, F: DirectoryStore, O: Screen>(
     }
 }
 
-/// Prints the lines of warnings, if there are any. The answer is the status of a success, also where they can't be printed.
+/// Prints the lines of warnings, if any. The result is the status of a success, even if they can't be printed.
 fn print_warnings<E: Screen>(err: &mut E, warnings: &str) -> u8
     ensures warned { AreWarned warnings.now (Becomes E.ends err.old err.new) }
     ensures status { result ≡ success }
@@ -357,7 +359,7 @@ fn print_warnings<E: Screen>(err: &mut E, warnings: &str) -> u8
     }
 }
 
-/// Prints why a command failed: as JSON, if that is asked for; else in lines. The answer is the status of a failure.
+/// Prints why a command failed, in lines or, if requested, as JSON. The result is the status of a failure.
 fn report_as<E: Screen>(alloc: Global, err: &mut E, fault: &ProgramFault<'_>, asks_json: bool) -> u8
     ensures { IsReportedAs asks_json fault.now (Becomes E.ends err.old err.new) result }
 {
@@ -368,7 +370,7 @@ fn report_as<E: Screen>(alloc: Global, err: &mut E, fault: &ProgramFault<'_>, as
     }
 }
 
-/// Prints why the program failed, and what that is about. The answer is the status of a failure.
+/// Prints why the program failed, with details. The result is the status of a failure.
 fn report<E: Screen>(alloc: Global, err: &mut E, fault: &ProgramFault<'_>) -> u8
     ensures { IsReported fault.now (Becomes E.ends err.old err.new) result }
 {
@@ -378,7 +380,7 @@ fn report<E: Screen>(alloc: Global, err: &mut E, fault: &ProgramFault<'_>) -> u8
     }
 }
 
-/// Prints why the program failed, where memory is needed for this. The answer is the status of a failure.
+/// Prints why the program failed, which needs memory. The result is the status of a failure.
 fn report_made<E: Screen>(alloc: Global, err: &mut E, fault: &ProgramFault<'_>) -> u8
     requires { NeedsText fault.now }
     ensures { IsReported fault.now (Becomes E.ends err.old err.new) result }
@@ -389,7 +391,7 @@ fn report_made<E: Screen>(alloc: Global, err: &mut E, fault: &ProgramFault<'_>) 
     }
 }
 
-/// Prints the usage text. The answer is the exit status.
+/// Prints the usage text. The result is the exit status.
 fn print_usage<O: Screen, E: Screen>(out: &mut O, err: &mut E) -> u8
     ensures { PrintsAsked usage_text
         (Becomes O.ends out.old out.new) (Becomes E.ends err.old err.new) result }
@@ -397,7 +399,7 @@ fn print_usage<O: Screen, E: Screen>(out: &mut O, err: &mut E) -> u8
     print_asked(out, err, &Usage(page()))
 }
 
-/// Prints the help text. The answer is the exit status.
+/// Prints the help text. The result is the exit status.
 fn print_help<O: Screen, E: Screen>(out: &mut O, err: &mut E) -> u8
     ensures { PrintsAsked help_text
         (Becomes O.ends out.old out.new) (Becomes E.ends err.old err.new) result }
@@ -405,7 +407,7 @@ fn print_help<O: Screen, E: Screen>(out: &mut O, err: &mut E) -> u8
     print_asked(out, err, &Help(page()))
 }
 
-/// Prints a text that was asked for; or to `err` that it could not be. The answer is the exit status.
+/// Prints a requested text; if that fails, prints this to `err`. The result is the exit status.
 fn print_asked<O: Screen, E: Screen, T: FaultText>(out: &mut O, err: &mut E, text: &T) -> u8
     ensures { PrintsAsked (T.text text.now)
         (Becomes O.ends out.old out.new) (Becomes E.ends err.old err.new) result }
@@ -416,14 +418,14 @@ fn print_asked<O: Screen, E: Screen, T: FaultText>(out: &mut O, err: &mut E, tex
     }
 }
 
-/// Prints the text of a fault in a line. The answer is the status of a failure.
+/// Prints the text of a fault in a line. The result is the status of a failure.
 fn print_fault<E: Screen>(err: &mut E, text: &str) -> u8
     ensures { Prints (fault_line text.now) failure (Becomes E.ends err.old err.new) result }
 {
     print_line(err, &Text(text))
 }
 
-/// Prints the line of a fault, whose text is of any kind. The answer is the status of a failure.
+/// Prints the line of a fault, whose text is of any kind. The result is the status of a failure.
 fn print_line<E: Screen, T: FaultText>(err: &mut E, text: &T) -> u8
     ensures { Prints (fault_line (T.text text.now)) failure
         (Becomes E.ends err.old err.new) result }
@@ -436,7 +438,7 @@ fn print_line<E: Screen, T: FaultText>(err: &mut E, text: &T) -> u8
     print(err, &line, FAILURE)
 }
 
-/// Prints what is wrong with the arguments in a line, and the usage text. The answer is the exit status.
+/// Prints what is wrong with the arguments in a line, and the usage text. The result is the exit status.
 fn print_usage_fault<E: Screen>(err: &mut E, text: &str) -> u8
     ensures { Prints (fault_and_usage text.now) wrong_arguments
         (Becomes E.ends err.old err.new) result }

@@ -1,4 +1,4 @@
-//! Warnings: what a command gives that its component doesn't need.
+//! Warnings: the parts of a command that its component doesn't need.
 
 ghost use Rattle.std.specs.Prelude.{◌≡◌, IfOk, map, string_bytes};
 ghost use Rattle.std.specs.Option.{option_map};
@@ -16,9 +16,10 @@ use wc_texts::escaped;
 use wc_world::{ComponentWorld, WorldAdapter};
 use wcplan_inputs::Command;
 
-/// The warnings of a command whose component's world this is, each in a line after `wcplan: warning: `: of each adapter
-/// that is given, that it has no name, or else that the component has no adapter of its name; and then that no export of
-/// the main module is the task hook, if one is named. Texts from outside are escaped (`wc_texts::escaped`).
+/// The warnings of a command whose component's world this is, each in a line after `wcplan: warning: `. Adapters of
+/// the command come in order: a warning says that an adapter has no name, or otherwise that the component has no
+/// adapter with its name. If a task hook is named, and no export of the main module is the hook, the last warning
+/// says so. Texts from outside are escaped (`wc_texts::escaped`).
 ///
 /// # Errors
 ///
@@ -40,7 +41,7 @@ pub(crate) fn warnings_of(
     format!(in alloc; "{adapters}{hook}")
 }
 
-/// The warnings of adapters that are given by their names and paths, for a component that has these.
+/// The warnings for adapters, listed by their names and paths, in a component with these adapters.
 fn adapter_warnings(
     alloc: Global,
     given: &[(&str, &str)],
@@ -57,7 +58,7 @@ fn adapter_warnings(
     Ok(text)
 }
 
-/// The warning of an adapter that is given by its name and its path, if there is one.
+/// The warning for an adapter, listed by its name and its path, if it needs one.
 fn adapter_warning(
     alloc: Global,
     adapters: &Map<&str, WorldAdapter<'_>>,

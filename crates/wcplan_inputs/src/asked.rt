@@ -1,4 +1,4 @@
-//! The check that a command asks about an import of its world.
+//! The check that a command requests an import of its world.
 
 ghost use Rattle.std.specs.Prelude.{◌≡◌, ◌<◌, IfErr, IfOk, OnOk, find, length, map, string_bytes};
 ghost use Rattle.std.specs.List.{list_any};
@@ -17,13 +17,13 @@ use wc_resolve::{Resolve, WorldId, WorldKey};
 use wc_selection::import_keys;
 use wc_why::{asks_about, package_of, package_text};
 
-/// Checks that a key, if one is given, asks about something that a world imports: `all`, `$root`, the text of the key of an
-/// import, with its version or without, or the package of an interface, with its version or without
-/// (`wc_why::asks_about`). The world must be in range (`Resolve::has_world`).
+/// Checks that the key of a request, if present, is for an import of a world. The key is `all`, `$root`, the text of
+/// an import's key, or the package of an interface; text and package may omit the version (`wc_why::asks_about`). The
+/// world must be in range (`Resolve::has_world`).
 ///
 /// # Errors
 ///
-/// - `NoImport`: it asks about none.
+/// - `NoImport`: the key is for no import.
 /// - `Memory`: an allocation failed.
 pub(crate) fn check_asked<'a>(
     alloc: Global,
@@ -47,28 +47,28 @@ pub(crate) fn check_asked<'a>(
     Err(no_import(alloc, key, &keys))
 }
 
-/// Whether a key asks about all, about what is the world's own, or about one of these imports.
+/// Whether a key requests all imports, the world's own imports, or one of these imports.
 fn is_asked_there(key: &str, keys: &[(WorldKey, String)]) -> bool
     ensures { result ≡ is_asked_there key.now (map named_key keys.now) }
 {
     key == "all" || key == "$root" || asks_about_any(key, keys)
 }
 
-/// Whether a key asks about one of these imports.
+/// Whether a key requests one of these imports.
 fn asks_about_any(key: &str, keys: &[(WorldKey, String)]) -> bool
     ensures { result ≡ list_any (asks_about key.now) (texts_of (map named_key keys.now)) }
 {
     has_asked(key, keys)
 }
 
-/// Whether a key asks about the text of one of these imports.
+/// Whether a key requests the import with one of these texts.
 fn has_asked(key: &str, keys: &[(WorldKey, String)]) -> bool
     ensures { result ≡ list_any (λ k. asks_about key.now (string_bytes k.1)) keys.now }
 {
     keys.iter().any(|one| asks_about(key, &one.1))
 }
 
-/// The fault of a key that asks about no import, with what imports there are.
+/// The fault of a key that requests no import, with the list of imports.
 fn no_import<'a>(alloc: Global, key: &'a str, keys: &[(WorldKey, String)]) -> ProgramFault<'a>
     ensures { IsNoImportFault (map named_key keys.now) key.entry result }
 {
@@ -78,7 +78,7 @@ fn no_import<'a>(alloc: Global, key: &'a str, keys: &[(WorldKey, String)]) -> Pr
     }
 }
 
-/// Lists imports, and finds the first that is near a key, or else the first whose package is.
+/// Lists imports, and finds the first that is near a key, or otherwise the first whose package is near it.
 fn no_import_texts(
     alloc: Global,
     key: &str,
@@ -91,7 +91,7 @@ fn no_import_texts(
     Ok((listing, nearest))
 }
 
-/// The first import that is near a key, or else the first package that is.
+/// The first import that is near a key, or otherwise the first package that is near it.
 fn near_import(
     alloc: Global,
     key: &str,
@@ -114,7 +114,8 @@ fn near_key<'k>(key: &str, keys: &'k [(WorldKey, String)]) -> Option<&'k (WorldK
     keys.iter().find(|one| is_near(key, &one.1))
 }
 
-/// The first package of an interface that is a key but for its version and for the case of letters, with its version.
+/// The first package of an interface that differs from a key only in its version and in the case of letters, with its
+/// version.
 fn near_package(
     alloc: Global,
     key: &str,
@@ -129,7 +130,7 @@ fn near_package(
     }
 }
 
-/// The first import whose package is a key but for its version and for the case of letters, with its text.
+/// The first import whose package differs from a key only in its version and in the case of letters, with its text.
 fn alike_key<'k>(key: &str, keys: &'k [(WorldKey, String)]) -> Option<&'k (WorldKey, String)>
     ensures { option_map (λ k. k.now) result
         ≡ find (λ k. package_alike key.now (string_bytes k.1)) keys.now }
@@ -137,7 +138,7 @@ fn alike_key<'k>(key: &str, keys: &'k [(WorldKey, String)]) -> Option<&'k (World
     keys.iter().find(|one| package_alike(key, &one.1))
 }
 
-/// Whether the package of an interface is a key but for its version and for the case of letters.
+/// Whether the package of an interface differs from a key only in its version and in the case of letters.
 fn package_alike(key: &str, text: &str) -> bool
     ensures { result ≡ package_alike key.now text.now }
 {

@@ -22,31 +22,31 @@ use wc_validate::{Place, Subject, TypeDifference};
 use wc_world::ModulePlace;
 
 impl ProgramFault<'_> {
-    /// The lines that the program prints under the text of the fault, each after the end of the line before and two
-    /// blanks, and without the last end; the empty text where there are none. For worlds that are not text or not JSON it is what these
-    /// look like, if that is known, and what prints JSON of it. For a name of no adapter, and for a key that asks about no
-    /// import, it is `is there: NAME`, if one is the same but for its version or for the case of letters. For a main module that can't be
-    /// read it is where its bytes stop to be right, as `byte 57, in the import section`. For a key that no module exports it is what each module lacks,
-    /// as `main lacks "NAME"`. For worlds that are not well-formed it is
-    /// `PATH "NAME"` or `PATH`: a world, an interface, a type or a package, by its path in the JSON text and its name, if it
-    /// has one. For a component without a world:
+    /// The lines that the program prints under the fault's text. Each follows a line feed and two blanks; no line
+    /// feed follows the last. If the fault has no lines, the result is empty. Near names are names that differ only
+    /// in the version or in the case of letters. For worlds that are not text or not JSON, the line says what the
+    /// file looks like, if that is known, and which command prints its worlds as JSON. For an unknown adapter, or a
+    /// key that is for no import, it is `is there: NAME`, if NAME is near. For a main module that can't be read, it
+    /// is the offset at which its bytes are malformed, such as `byte 57, in the import section`. For a key that no
+    /// module exports, lines say what each module lacks, such as `main lacks "NAME"`. For worlds that are not
+    /// well-formed, the line is `PATH "NAME"` or `PATH`: a world, interface, type or package, by its path in the JSON
+    /// text and its name, if it has one. For a component without a world, lines come in this order:
     ///
-    /// - where reading a module stopped, as `byte 57, in the import section`;
+    /// - the offset at which reading a module stopped, such as `byte 57, in the import section`;
     /// - a section of an adapter, or the body of a function, for a fault of trimming;
-    /// - else the import or the export, as `import "MODULE" "NAME"`, `export "NAME"`, `missing "INTERFACE" "NAME"` or
-    ///   `missing export "NAME"`;
-    /// - where two core types differ, `wanted TYPE, found TYPE`;
-    /// - where a name isn't there, and one is that is the same but for its version or for the case of letters,
-    ///   `is there: NAME`;
-    /// - where the main module imports of a module that is unknown, `adapters:` and their names, or that none is given.
+    /// - otherwise the import or the export, as `import "MODULE" "NAME"`, `export "NAME"`, `missing "INTERFACE"
+    ///   "NAME"` or `missing export "NAME"`;
+    /// - if two core types differ, `wanted TYPE, found TYPE`;
+    /// - if a name is unknown and another is near, `is there: NAME`;
+    /// - if the main module imports from an unknown module, `adapters:` and their names, or that there are none.
     ///
-    /// For a component's world without a plan it is `function "NAME"`, and then `imported by main` or `imported by adapter
-    /// "NAME"`. Texts from outside are escaped (`wc_texts::escaped`), and so are quotes in names between quotes
+    /// For a component's world without a plan, it is `function "NAME"`, and then `imported by main` or `imported by
+    /// adapter "NAME"`. Texts from outside are escaped (`wc_texts::escaped`), with quotes in names between quotes
     /// (`wc_texts::quoted`).
     ///
     /// # Errors
     ///
-    /// `AllocError`: there are lines, and an allocation failed.
+    /// `AllocError`: the fault has lines, and an allocation failed.
     pub fn details(&self, alloc: Global) -> Result<String, AllocError>
         ensures text { IfOk result (λ text. string_bytes text ≡ fault_lines self.now) }
         ensures lines { IsErr result → fault_lines self.now ≢ [] }
@@ -165,7 +165,7 @@ fn world_lines(alloc: Global, explained: &Option<Explained>) -> Result<String, A
     }
 }
 
-/// The lines of what a fault is about.
+/// The lines with the details of a fault.
 #[tactic(auto, using(crate::proofs::DetailsLemmas::placed, crate::proofs::DetailsLemmas::trimmed))]
 fn explained_lines(alloc: Global, explained: &Explained) -> Result<String, AllocError>
     ensures text { IfOk result (λ text. string_bytes text
@@ -276,7 +276,7 @@ fn difference_line(alloc: Global, types: &TypeDifference) -> Result<String, Allo
     detail_line(alloc, &text)
 }
 
-/// The line of types that differ, if there are any.
+/// The line of types that differ, if any.
 fn types_line(alloc: Global, types: &Option<TypeDifference>) -> Result<String, AllocError>
     ensures { IfOk result (λ text. string_bytes text
         ≡ types_line (option_map difference_view types.now)) }
@@ -287,7 +287,7 @@ fn types_line(alloc: Global, types: &Option<TypeDifference>) -> Result<String, A
     }
 }
 
-/// The line of a name that is there in place of one that isn't, if there is one.
+/// The line of the near name for an unknown name, if one is near.
 fn nearest_line(alloc: Global, nearest: &Option<String>) -> Result<String, AllocError>
     ensures text { IfOk result (λ text. string_bytes text
         ≡ nearest_line (option_map string_bytes nearest.now)) }
@@ -299,7 +299,7 @@ fn nearest_line(alloc: Global, nearest: &Option<String>) -> Result<String, Alloc
     }
 }
 
-/// The line of what adapters there are, if that is said.
+/// The line of the list of adapters, if present.
 fn adapters_line(alloc: Global, adapters: &Option<String>) -> Result<String, AllocError>
     ensures { IfOk result (λ text. string_bytes text
         ≡ adapters_line (option_map string_bytes adapters.now)) }
@@ -357,7 +357,7 @@ fn adapter_line(alloc: Global, name: &str) -> Result<String, AllocError>
     format!(in alloc; "\n  imported by adapter {name}")
 }
 
-/// The line of a name that is there.
+/// The line of a near name.
 fn near_line(alloc: Global, name: &str) -> Result<String, AllocError>
     ensures { IfOk result (λ text. string_bytes text ≡ detail_line (nearest_text name.now)) }
 {

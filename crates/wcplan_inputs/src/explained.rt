@@ -1,4 +1,4 @@
-//! Explanations of the faults of a component's world: their places, and the names that were meant.
+//! Explanations of the faults of a component's world: their positions, and near names.
 
 ghost use Rattle.std.specs.Prelude.{IfOk};
 ghost use Rattle.wc_world.specs.Refused.{IsPlaceOrNone, IsRefusedAt};
@@ -17,17 +17,17 @@ use wc_world::{WorldFault, WorldPlace};
 /// The explanation of a fault of a component's world.
 #[derive(Debug, Drop)]
 pub struct Explained {
-    /// The place that the fault is about.
+    /// The import, export or byte that the fault is about.
     pub place: WorldPlace,
-    /// The first name that is there in place of one that isn't, and is the same but for its version or for the case of
-    /// letters: of an interface, of what the world imports, or of a function of an interface. `None` where there is none.
+    /// The first near name for an unknown name, which differs only in its version or in the case of letters: of an
+    /// interface, of an import of the world, or of a function of an interface. `None` if no name is near.
     pub nearest: Option<String>,
-    /// The list of adapters, or the text that none is given, where the main module imports from an unknown module.
+    /// The list of adapters, or the text that there are none, if the main module imports from an unknown module.
     pub adapters: Option<String>,
 }
 
-/// The fault of a command whose component has no world, for what `ComponentWorld::new_explained` answered: with what it is
-/// about; `Memory` where there is no memory for this.
+/// The fault of a command whose component has no world, made from the fault of `ComponentWorld::new_explained`, with
+/// its details; `Memory` if an allocation for it failed.
 pub fn world_fault<'a>(
     alloc: Global,
     encoder: &ComponentEncoder,
@@ -46,7 +46,7 @@ pub fn world_fault<'a>(
     }
 }
 
-/// Explains a fault by its place.
+/// Explains a fault by its position.
 ///
 /// # Errors
 ///

@@ -58,8 +58,8 @@ impl fmt::Display for PartPath {
     }
 }
 
-/// The fault of the program for parts that `Resolve::build_explained` refused: with what it is about; `Memory` where there
-/// is no memory for its name.
+/// The program's fault for parts that `Resolve::build_explained` refused, with the part that it is about; `Memory` if
+/// an allocation for the part's name failed.
 pub(crate) fn resolve_fault<'a>(alloc: Global, refused: RefusedParts) -> ProgramFault<'a>
     ensures { IsOfRefused (parts_view refused.parts) refused.refusal result }
 {
@@ -67,7 +67,7 @@ pub(crate) fn resolve_fault<'a>(alloc: Global, refused: RefusedParts) -> Program
     fault_about(alloc, &parts, refusal.fault, refusal.place)
 }
 
-/// The fault of the program for this one of parts, with what it is about.
+/// The program's fault for this fault of parts, with the part that it is about.
 fn fault_about<'a>(
     alloc: Global,
     parts: &Parts,
@@ -85,7 +85,7 @@ fn fault_about<'a>(
     }
 }
 
-/// The part that a fault is about, with its name; `None` where it is about none.
+/// The part that a fault is about, with its name; `None` if it is about none.
 fn explained(
     alloc: Global,
     parts: &Parts,
@@ -131,7 +131,7 @@ fn declared_name(parts: &Parts, part: Part) -> Option<&str>
     }
 }
 
-/// `namespace:name`, with `@version` where the package has one.
+/// `namespace:name`, with `@version` if the package has one.
 fn package_text(alloc: Global, package: &PackageName) -> Result<String, AllocError>
     ensures { IfOk result (λ text. string_bytes text
         ≡ package_text (package_name_view «package».now)) }

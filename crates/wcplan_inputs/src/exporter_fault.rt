@@ -1,4 +1,4 @@
-//! Why it can't be told which module exports a key.
+//! Why no module can be found that exports a key.
 
 ghost use Rattle.std.specs.Prelude.{◌≡◌, ◌≢◌, [], IfOk, IsErr, string_bytes};
 ghost use Rattle.wc_texts.specs.Escape.{escaped};
@@ -7,16 +7,16 @@ ghost use Rattle.wcplan_inputs.specs.ExporterFault.{exporter_fault_text, exporte
 use std::alloc::{AllocError, AllocFailed, Global};
 use wc_texts::{OUT_OF_MEMORY, escaped};
 
-/// Why it can't be told which module exports a key, where a command doesn't say. `run_command` says which of several causes
-/// is named; `Memory` may come in place of any.
+/// Why no module can be found that exports a key, if a command names none. `run_command` says which of several causes
+/// is named; `Memory` may come instead of any.
 #[derive(Debug, Drop)]
 pub enum ExporterFault {
     /// An allocation failed.
     Memory,
     /// No module has all functions of the key. It carries the key, and the lines of what each module lacks.
     NoExporter(String, String),
-    /// The main module lacks a function of the key, and several adapters have all of them. It carries the key, and these
-    /// adapters as a text.
+    /// The main module lacks a function of the key, and several adapters have all its functions. It carries the key,
+    /// and these adapters as a text.
     SeveralExporters(String, String),
 }
 
@@ -40,7 +40,7 @@ impl ExporterFault {
     ///
     /// # Errors
     ///
-    /// `AllocError`: there are lines, and an allocation failed.
+    /// `AllocError`: the fault has lines, and an allocation failed.
     pub(crate) fn lines(&self, alloc: Global) -> Result<String, AllocError>
         ensures text { IfOk result (λ text. string_bytes text ≡ exporter_lines self.now) }
         ensures lines { IsErr result → exporter_lines self.now ≢ [] }
@@ -52,7 +52,7 @@ impl ExporterFault {
     }
 }
 
-/// A copy of a text; of the empty one nothing is allocated.
+/// A copy of a text; an empty text takes no allocation.
 fn copied(alloc: Global, text: &str) -> Result<String, AllocError>
     ensures text { IfOk result (λ copy. string_bytes copy ≡ text.now) }
     ensures lines { IsErr result → text.now ≢ [] }
@@ -64,7 +64,7 @@ fn copied(alloc: Global, text: &str) -> Result<String, AllocError>
     }
 }
 
-/// The text where no module has all functions of a key, escaped.
+/// The text if no module has all functions of a key, escaped.
 fn no_exporter_text(alloc: Global, key: &str) -> Result<String, AllocError>
     ensures { IfOk result (λ text. string_bytes text ≡ escaped (no_exporter_text key.now)) }
 {

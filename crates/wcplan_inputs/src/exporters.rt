@@ -16,7 +16,7 @@ use wc_maps::{Map, Seed, Set};
 use wc_read::{Export, ReadFault, read_module};
 use wc_resolve::{Interface, InterfaceId, Resolve, WorldItem, WorldKey};
 
-/// The names of the exports of the module that bytes are; `None` where they are no module. `seed`: the seed of the set.
+/// The names of the exports of the module that bytes encode; `None` if they encode none. The set hashes under `seed`.
 ///
 /// # Errors
 ///
@@ -75,7 +75,7 @@ pub(crate) struct KeyFunctions<'r> {
 }
 
 impl<'r> KeyFunctions<'r> {
-    /// The functions of a key, with its text, of what a world exports; none if the world doesn't export it.
+    /// The functions of a key that a world exports, with the key's text; none if the world doesn't export it.
     ///
     /// # Errors
     ///
@@ -98,8 +98,8 @@ impl<'r> KeyFunctions<'r> {
         }
     }
 
-    /// The first function that a module with exports of these names doesn't have. Names of the older scheme don't count if
-    /// `rejects_legacy`.
+    /// The first function that a module lacks whose exports have these names. Names of the older scheme don't count
+    /// if `rejects_legacy`.
     ///
     /// # Errors
     ///
@@ -252,7 +252,8 @@ fn no_functions<'r>(alloc: Global) -> KeyFunctions<'r>
     }
 }
 
-/// Whether one of these names is that of a function in the standard scheme, with the text of its interface, if it has one.
+/// Whether one of these names is the name of a function in the standard scheme, with the text of its interface, if it
+/// has one.
 fn is_standard_export(
     alloc: Global,
     names: &Set<&str>,

@@ -29,20 +29,20 @@ use wc_selection::RequestFault;
 use wc_texts::{FaultText, OUT_OF_MEMORY, Pieces, PutFailed, Refused, escaped, text_of};
 use wc_world::WorldFault;
 
-/// Why the worlds don't have what the arguments name, or why adapters or their files can't be named so. `run_command`
-/// says which of several causes is named; `Memory` may come in place of any.
+/// Why the worlds don't have the things that the arguments name, or why adapters or their files can't have these
+/// names. `run_command` says which of several causes is named; `Memory` may come instead of any.
 #[derive(Clone, Copy, Debug, PartialEq, Eq, Error)]
 pub enum SelectionFault<'a> {
     /// An allocation failed.
     #[error("out of memory")]
     Memory,
-    /// The world or a key is not there, or several are, or a key is given twice. It carries why, never `Memory`.
+    /// The world or a key does not exist, or several match, or a key is repeated. It carries why, never `Memory`.
     #[error("{0}")]
     Request(RequestFault<'a>),
     /// Two adapters have this name.
     #[error("adapter `{0}` twice")]
     RepeatedAdapter(&'a str),
-    /// No adapter has the name of one that has to export something.
+    /// A key is to be exported by this adapter, but no adapter has its name.
     #[error("no adapter `{0}`")]
     UnknownAdapter(&'a str),
     /// The path of the directory that files are written to is empty.
@@ -78,7 +78,7 @@ impl FaultText for SelectionFault<'_> {
     }
 }
 
-/// Puts a name, with what is said of it before and after it.
+/// Puts a name, between two texts about it.
 fn put_named<P: Pieces>(out: &mut P, before: &str, name: &str, after: &str) -> Result<(), PutFailed>
     ensures { IsPut P.puts P.fails out.old out.new
         (quoted before.now name.now after.now) result }
@@ -126,7 +126,7 @@ impl<'a> From<RequestFault<'a>> for SelectionFault<'a> {
 }
 
 /// Why the program could not do what its arguments say. `run_command` says which of several causes is named; `Memory`
-/// may come in place of any.
+/// may come instead of any.
 #[derive(Debug, Drop)]
 pub enum ProgramFault<'a> {
     /// An allocation failed.
@@ -135,34 +135,35 @@ pub enum ProgramFault<'a> {
     CannotRead(&'a str, FileProblem),
     /// The file of the worlds is not text. It carries what the file looks like, if that is known.
     NotText(Option<Likeness>),
-    /// The file of the worlds is not JSON, or nests deeper than 128. It carries the byte at which the first token begins that
-    /// a JSON text can't have there, or where a comma is one too many; the length of a text that only ends early; and what the
-    /// file looks like, if that is known.
+    /// The file of the worlds is not JSON, or nests deeper than 128. It carries the offset in bytes of the first
+    /// token that JSON can't have there, or of a trailing comma; if the text only ends early, its length; and what
+    /// the file looks like, if that is known.
     NotJson(usize, Option<Likeness>),
-    /// An object in the file of the worlds has two members of one name. It carries the path of the second; of several that of
-    /// the first in the order of the text.
+    /// An object in the file of the worlds has two members with one name. It carries the path of the second; if
+    /// several members repeat, of the first such in the order of the text.
     RepeatedMember(String),
     /// The worlds could not be read. It carries why, a value that is wrong.
     Json(JsonFault),
-    /// It can't be told which world or which key is named, or a key or an adapter is twice, or files can't be named.
-    /// It carries why, never `Memory`, nor that a world, an adapter or a key is unknown.
+    /// It is ambiguous which world or which key is named, or a key or an adapter is repeated, or files can't have
+    /// these names. It carries why, never `Memory`, nor that a world, an adapter or a key is unknown.
     Selection(SelectionFault<'a>),
-    /// No adapter has the name of one that has to export something. It carries what adapters there are, as a text, and the
-    /// first that the name differs from only in its version or in the case of letters.
+    /// A key is to be exported by this adapter, but no adapter has its name. It carries the names of the adapters as
+    /// a text, and the first of them that differs only in its version or in the case of letters.
     NoAdapter(&'a str, String, Option<String>),
-    /// No world has this name; without a name none has all others for parts. It carries what worlds there are, as a text.
+    /// No world has this name; or no name is given, and no world includes all others. It carries the names of the
+    /// worlds as a text.
     NoWorld(Option<&'a str>, String),
     /// The world has no export with this key. It carries what exports it has, as a text.
     NoExport(&'a str, String),
-    /// The world has no import that this key asks about. It carries what imports it has, as a text, and the first that the key
-    /// differs from only in its version or in the case of letters.
+    /// The world has no import that this key requests. It carries the world's imports as a text, and the first of
+    /// them that differs from the key only in its version or in the case of letters.
     NoImport(&'a str, String, Option<String>),
     /// The worlds are not well-formed. It carries why, never `Memory`, and the part that this is about.
     Resolve(Refused<ResolveFault, ExplainedPart>),
-    /// The imports of the main module could not be renamed. It carries why, never `Memory`, and where its bytes stop to be
-    /// right.
+    /// The imports of the main module could not be renamed. It carries why, never `Memory`, and the offset at which
+    /// its bytes are malformed.
     Dedupe(Refused<DedupeFault, ReadPlace>),
-    /// It can't be told which module exports a key. It carries why, never `Memory`.
+    /// No module can be found that exports a key. It carries why, never `Memory`.
     Exporter(ExporterFault),
     /// Modules can't be encoded for the world. It carries why, never `Memory`.
     Encoder(EncoderFault),
@@ -182,9 +183,9 @@ pub enum ProgramFault<'a> {
 }
 
 impl ProgramFault<'_> {
-    /// The text of the fault, which the program prints in a line: a path after what could not be done with it, the text of a
-    /// `SelectionFault`, or the name of a fault, `: `, and the text of the one that it carries, as `Display` of that writes
-    /// it. Texts from outside in it are escaped (`wc_texts::escaped`).
+    /// The text of the fault, which the program prints in a line. It is a path after what could not be done with it,
+    /// the text of a `SelectionFault`, or the name of a fault, `: `, and the text of the fault that it carries, as
+    /// `Display` writes it. Texts from outside are escaped (`wc_texts::escaped`).
     ///
     /// # Errors
     ///
@@ -223,7 +224,7 @@ impl ProgramFault<'_> {
         }
     }
 
-    /// The text of the fault, where it is always the same; such a fault has no lines under it.
+    /// The text of the fault, if it is always the same; such a fault has no lines under it.
     pub fn fixed_text(&self) -> Option<&'static str>
         ensures whole { IfSome result (λ text. text.now
             ≡ program_fault_text self.now ++ fault_lines self.now) }
@@ -259,7 +260,7 @@ impl ProgramFault<'_> {
 /// The text of `NotText`.
 const NOT_TEXT: &str = "Json: not UTF-8";
 
-/// The text where what was to be printed could not be.
+/// The text of the fault that printing failed.
 pub const UNPRINTED: &str = "cannot print";
 
 /// The text of a path that could not be used: what could not be done, the path, escaped, and why.
@@ -286,7 +287,7 @@ fn json_text(alloc: Global, fault: &JsonFault) -> Result<String, AllocError>
     format!(in alloc; "Json: {problem}")
 }
 
-/// The text of a member that is there twice: its path, escaped.
+/// The text of a repeated member: its path, escaped.
 fn repeated_text(alloc: Global, place: &str) -> Result<String, AllocError>
     ensures { IfOk result (λ text. string_bytes text ≡ repeated_text place.now) }
 {
@@ -328,7 +329,7 @@ fn selection_text(alloc: Global, fault: &SelectionFault<'_>) -> Result<String, A
     escaped(alloc, &about)
 }
 
-/// The text where no world is meant, by its name or without one, and what worlds there are; escaped.
+/// The text if no world is meant, by its name or without one, with the list of worlds; escaped.
 fn no_world_text(alloc: Global, name: Option<&str>, listing: &str) -> Result<String, AllocError>
     ensures { IfOk result (λ text. string_bytes text
         ≡ escaped (no_world_text (option_map text_of name.entry) listing.now)) }
@@ -337,7 +338,7 @@ fn no_world_text(alloc: Global, name: Option<&str>, listing: &str) -> Result<Str
     escaped(alloc, &text)
 }
 
-/// The text where no world is meant, as it is.
+/// The text if no world is meant, as it is.
 fn unmeant_text(alloc: Global, name: Option<&str>, listing: &str) -> Result<String, AllocError>
     ensures { IfOk result (λ text. string_bytes text
         ≡ no_world_text (option_map text_of name.entry) listing.now) }
@@ -348,7 +349,7 @@ fn unmeant_text(alloc: Global, name: Option<&str>, listing: &str) -> Result<Stri
     }
 }
 
-/// The text of a name that no adapter has, and of what adapters there are; escaped.
+/// The text for a name that no adapter has, with the list of adapters; escaped.
 fn no_adapter_text(alloc: Global, name: &str, listing: &str) -> Result<String, AllocError>
     ensures { IfOk result (λ text. string_bytes text
         ≡ escaped (no_adapter_text name.now listing.now)) }
@@ -357,7 +358,7 @@ fn no_adapter_text(alloc: Global, name: &str, listing: &str) -> Result<String, A
     escaped(alloc, &text)
 }
 
-/// The text of a key that no export has, and of what exports there are; escaped.
+/// The text for a key that no export has, with the list of exports; escaped.
 fn no_export_text(alloc: Global, key: &str, listing: &str) -> Result<String, AllocError>
     ensures { IfOk result (λ text. string_bytes text
         ≡ escaped (no_export_text key.now listing.now)) }
@@ -366,7 +367,7 @@ fn no_export_text(alloc: Global, key: &str, listing: &str) -> Result<String, All
     escaped(alloc, &text)
 }
 
-/// The text of a key that asks about no import, and of what imports there are; escaped.
+/// The text for a key that requests no import, with the list of imports; escaped.
 fn no_import_text(alloc: Global, key: &str, listing: &str) -> Result<String, AllocError>
     ensures { IfOk result (λ text. string_bytes text
         ≡ escaped (no_import_text key.now listing.now)) }

@@ -124,8 +124,8 @@ fn checked_keys<'a>(
     Ok(keys)
 }
 
-/// Checks the names of adapters and the keys of a command, as `check_names` does; the fault of a key that isn't there has
-/// what exports there are, and that of an adapter that isn't there what adapters there are.
+/// Checks the names of adapters and the keys of a command, as `check_names` does. The fault of an unknown key carries
+/// the list of exports, and the fault of an unknown adapter the list of adapters.
 fn check_listed<'a>(
     alloc: Global,
     seed: Seed,
@@ -143,8 +143,8 @@ fn check_listed<'a>(
     }
 }
 
-/// A fault of names; for that of a key that isn't there the one of `no_export`, and for that of an adapter that isn't there
-/// the one of `no_adapter`.
+/// A fault of names; for an unknown key it is the fault of `no_export`, and for an unknown adapter the fault of
+/// `no_adapter`.
 fn listed_fault<'a>(
     alloc: Global,
     command: &Command<'a>,
@@ -160,7 +160,7 @@ fn listed_fault<'a>(
     }
 }
 
-/// The fault of a key that isn't there, with what exports there are.
+/// The fault of an unknown key, with the list of exports.
 fn no_export<'a>(alloc: Global, key: &'a str, keys: &[(WorldKey, String)]) -> ProgramFault<'a>
     ensures { IsNoExport (texts_of (map named_key keys.now)) key.entry result }
 {
@@ -220,7 +220,7 @@ fn read_parts<'a, F: FileStore>(
     }
 }
 
-/// The modules of a command, with the keys that they have to export, and the name of the task hook.
+/// The modules of a command, with the keys that they must export, and the name of the task hook.
 #[derive(Drop)]
 struct CommandModules {
     main: MainModule,
@@ -293,7 +293,7 @@ fn main_fault<'a>(refused: Refused<DedupeFault, ReadPlace>) -> ProgramFault<'a>
     }
 }
 
-/// The keys that the main module has to export, and adapters with theirs.
+/// The keys that the main module must export, and the adapters with the keys that they must export.
 #[derive(Drop)]
 struct RequestedModules {
     main_exports: Set<WorldKey>,
@@ -307,7 +307,7 @@ struct ModuleFiles<'m, 'a> {
     adapters: Vec<AdapterFile<'a>>,
 }
 
-/// The keys that the modules of a command have to export. `seed`: the seed of the maps and sets that are made.
+/// The keys that the modules of a command must export. The maps and sets that are made hash under `seed`.
 fn requested_modules(
     alloc: Global,
     seed: Seed,
@@ -335,8 +335,8 @@ fn requested_modules(
     }
 }
 
-/// The keys that a main module of these bytes, and adapters, have to export, where the command leaves the keys to them.
-/// `seed`: the seed of the maps and sets that are made.
+/// The keys that a main module of these bytes, and adapters, must export, if the command names none. The maps and
+/// sets that are made hash under `seed`.
 fn shared_modules<'x>(
     alloc: Global,
     seed: Seed,
@@ -358,7 +358,7 @@ fn shared_modules<'x>(
     Ok(modules_with(alloc, seed, &request, world.keys, adapters)?)
 }
 
-/// Modules with the keys that a request says that they have to export. `seed`: the seed of the maps and sets that are made.
+/// Modules with the keys that they must export by a request. The maps and sets that are made hash under `seed`.
 fn modules_with(
     alloc: Global,
     seed: Seed,

@@ -1,8 +1,11 @@
-//! The inputs of the program `wcplan`: what its arguments say, and what its files hold. `parse` gives the command of some
-//! arguments, `read_encoder` an encoder of a command's worlds, main module and adapters, over any `FileStore`.
+//! The inputs of the program `wcplan`: its arguments, and the content of its files.
 //!
-//! `ProgramFault` is why the program can't do what its arguments say, with its text and the lines under it; `world_fault` and
-//! `plan_fault` make one of a fault of a component's world and of its plan. The crate `wcplan` runs commands, by these.
+//! `parse` gives the command of some arguments; `read_encoder` gives an encoder of a command's worlds, main module
+//! and adapters, over any `FileStore`.
+//!
+//! `ProgramFault` is why the program can't do what its arguments say, with its text and the lines under it.
+//! `world_fault` and `plan_fault` make one from a fault of a component's world and of its plan. The crate `wcplan`
+//! runs commands with these functions.
 #![tactic(auto)]
 
 mod adapter_files;

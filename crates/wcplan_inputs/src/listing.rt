@@ -13,7 +13,7 @@ use wc_options::{MOST_LISTED, more_text, name_listing, push_name};
 use wc_resolve::WorldKey;
 use wc_selection::world_name;
 
-/// The first eight keys, each in quotes after a blank, and how many there are more; ` none` for none.
+/// The first eight keys, each in quotes after a blank, and how many more follow; ` none` without keys.
 ///
 /// # Errors
 ///
@@ -37,7 +37,8 @@ fn key_names(alloc: Global, keys: &[(WorldKey, String)]) -> Result<Vec<&str>, Al
     Ok(names)
 }
 
-/// The full names of the first eight worlds, each in quotes after a blank, and how many there are more; ` none` for none.
+/// The full names of the first eight worlds, each in quotes after a blank, and how many more follow; ` none` without
+/// worlds.
 ///
 /// # Errors
 ///
@@ -58,7 +59,7 @@ pub(crate) fn world_listing(alloc: Global, document: &Document) -> Result<String
     format!(in alloc; "{text}{more}")
 }
 
-/// So many of the first worlds, each in quotes after a blank.
+/// The first worlds, up to a number, each in quotes after a blank.
 fn listed_worlds(alloc: Global, document: &Document, count: usize) -> Result<String, AllocError>
     requires { count ≤ length (document_view document.now).parts.worlds }
     ensures { IfOk result (λ text. string_bytes text

@@ -29,8 +29,8 @@ pub(crate) fn key_request<'r, 'a>(command: &'r Command<'a>) -> KeyRequest<'r, 'a
     }
 }
 
-/// The keys of a world's exports, in order, each with the text by which the command gives it (`request_keys`). `seed`: the
-/// seed of the sets that are made.
+/// The keys of a world's exports, in order, each with the text that the command uses for it (`request_keys`). The
+/// sets that are made hash under `seed`.
 ///
 /// The world must be in range (`Resolve::has_world`).
 ///
@@ -53,20 +53,20 @@ pub(crate) fn command_keys(
     request_keys(alloc, seed, &request, resolve, world)
 }
 
-/// Checks the names of adapters and the keys of a command against a world's exports. `seed`: the seed of the sets that are
-/// made.
+/// Checks the names of adapters and the keys of a command against a world's exports. The sets that are made hash
+/// under `seed`.
 ///
 /// # Errors
 ///
-/// Of several causes, the first in this order is named, and of one in the order of the arguments; `Memory` may come in
-/// place of any. Keys of the main module are before those of adapters.
+/// If several causes apply, the first in this order is named, and its first occurrence in the arguments; `Memory` may
+/// come instead of any. Keys of the main module come before keys of adapters.
 ///
 /// - `RepeatedAdapter`: two adapters have one name.
-/// - `UnknownAdapter`: no adapter has the name of one that has to export a key.
-/// - `EmptyDirectory`, `FileName`, `MainFile`: files are to be written, and can't be named (`file_fault`).
-/// - `UnknownKey`, `SeveralKeys`, `RepeatedKey`: no export is given by a text, which is that of none without its version, of
-///   several, or of one that is given with its version too.
-/// - `RepeatedKey`: a key is given twice, for one module or for two.
+/// - `UnknownAdapter`: a key is for an adapter whose name no adapter has.
+/// - `EmptyDirectory`, `FileName`, `MainFile`: files are to be written, but can't have these names (`file_fault`).
+/// - `UnknownKey`, `SeveralKeys`, `RepeatedKey`: a text matches no key. Without versions, it matches no export,
+///   several exports, or one export whose text with its version is used too.
+/// - `RepeatedKey`: a key is repeated, for one module or for two.
 /// - `Memory`: an allocation failed.
 pub(crate) fn check_names<'a>(
     alloc: Global,
@@ -130,7 +130,8 @@ pub(crate) fn text_pairs(
     Ok(texts)
 }
 
-/// The request of these keys of adapters, each after the name of its adapter, which leaves all others to the main module.
+/// The request in which adapters export these keys, each after the name of its adapter, and the main module exports
+/// all others.
 pub(crate) fn adapter_request<'r, 'k>(given: &'r [(&'k str, &'k str)]) -> KeyRequest<'r, 'k>
     ensures { request_value result ≡ adapters_request (map text_pair given.now) }
 {
@@ -140,8 +141,8 @@ pub(crate) fn adapter_request<'r, 'k>(given: &'r [(&'k str, &'k str)]) -> KeyReq
     }
 }
 
-/// The name of the task hook that is handed to the encoder: the one that a command gives, or else one that no export of
-/// a module is taken for (`no_task_hook`).
+/// The name of the task hook for the encoder: the name in the command, or otherwise a name that makes no export the
+/// task hook (`no_task_hook`).
 ///
 /// # Errors
 ///

@@ -1,4 +1,4 @@
-//! Names that are there in place of those that are not.
+//! Near names, which differ from an unknown name only in the version or in the case of letters.
 
 ghost use Rattle.std.specs.Prelude.{◌≡◌, ◌<◌, All, IfOk, length, map, option_copied, string_bytes};
 ghost use Rattle.std.specs.Option.{IfSome, IsSome, option_map};
@@ -21,12 +21,13 @@ use wc_texts::strip_prefix;
 use wc_validate::{Subject, ValidateFault};
 use wc_world::{ModulePlace, WorldFault};
 
-/// Finds the nearest name to the one that a fault is about: the first that differs only in its version or in the case
-/// of letters. For `UnknownInterface` it is one of all that the world imports, or exports where the name is after
-/// `[export]` or `_ex_`; for `NoRootImport` one of all that the world imports; for `MissingFunction` a function of the
-/// interface that has the module's name, or else of the first that has it but for its version and for the case of letters;
-/// for `NoSuchExport`, where the name is after `[task-return]`, one of all that the world exports. A function's name is
-/// what is after `[async-lower]`. `None` where there is none, and for all other faults.
+/// Finds the nearest name for the name that a fault is about: the first that differs only in its version or in the
+/// case of letters. A function's name is the part after `[async-lower]`. For `UnknownInterface` the names are all
+/// that the world imports, or all that it exports if the name follows `[export]` or `_ex_`. For `NoRootImport` they
+/// are all that the world imports. For `MissingFunction` they are the functions of the interface with the module's
+/// name, or otherwise of the first whose name differs only in its version or in the case of letters. For
+/// `NoSuchExport` with a name after `[task-return]`, they are all that the world exports. `None` if no name is near,
+/// and for all other faults.
 ///
 /// # Errors
 ///
@@ -109,7 +110,7 @@ fn near_import(
     }
 }
 
-/// The interface that is there in place of the one that a module's name is about.
+/// The interface whose name is near the one in a module's name.
 fn near_interface(
     alloc: Global,
     encoder: &ComponentEncoder,
@@ -134,7 +135,7 @@ fn exported_interface(module_name: &str) -> Option<&str>
     }
 }
 
-/// The function that a name is about: what is after `[async-lower]`; without that the whole name.
+/// The function in a name: the part after `[async-lower]`; without `[async-lower]` the whole name.
 fn function_name(name: &str) -> &str
     ensures { result.now ≡ function_name name.now }
 {
@@ -168,7 +169,7 @@ fn exported_name(text: &str) -> Option<&str>
     }
 }
 
-/// The part of a module's name after its first `|`; without one the whole name.
+/// The part of a module's name after its first `|`; without a `|` the whole name.
 fn imported_name(module_name: &str) -> &str
     ensures { result.now ≡ imported_name module_name.now }
 {
@@ -178,7 +179,7 @@ fn imported_name(module_name: &str) -> &str
     }
 }
 
-/// Of what the world imports the first whose text is near a name.
+/// The first import of the world whose text is near a name.
 fn near_imported(
     alloc: Global,
     encoder: &ComponentEncoder,
@@ -194,7 +195,7 @@ fn near_imported(
     near_key(alloc, &metadata.resolve, imports, name)
 }
 
-/// Of what the world exports the first whose text is near a name.
+/// The first export of the world whose text is near a name.
 fn near_exported(
     alloc: Global,
     encoder: &ComponentEncoder,
@@ -232,7 +233,7 @@ fn near_key(
     Ok(None)
 }
 
-/// The function that is there in place of the one of this name, in the interface that the world imports under this text.
+/// The function with a near name, in the interface that the world imports under this text.
 fn near_function(
     alloc: Global,
     encoder: &ComponentEncoder,
@@ -253,8 +254,8 @@ fn near_function(
     }
 }
 
-/// The interface that has a key with this text, or else the first that has one with it but for its version and for the case
-/// of letters.
+/// The interface that has a key with this text, or otherwise the first that has a key whose text differs only in its
+/// version or in the case of letters.
 fn interface_for(
     alloc: Global,
     resolve: &Resolve,
@@ -299,7 +300,8 @@ fn interface_named(
     Ok(None)
 }
 
-/// The first interface that has a key with this text but for its version and for the case of letters.
+/// The first interface that has a key whose text differs from this one only in its version and in the case of
+/// letters.
 fn interface_alike(
     alloc: Global,
     resolve: &Resolve,
@@ -357,21 +359,21 @@ pub(crate) fn is_near(name: &str, other: &str) -> bool
     }
 }
 
-/// Whether names are the same but for their versions and for the case of ASCII letters.
+/// Whether names differ only in their versions and in the case of ASCII letters.
 pub(crate) fn is_alike(name: &str, other: &str) -> bool
     ensures { result ≡ is_alike name.now other.now }
 {
     same_letters(unversioned(name), unversioned(other))
 }
 
-/// Whether texts are the same but for the case of ASCII letters.
+/// Whether texts differ only in the case of ASCII letters.
 fn same_letters(left: &str, right: &str) -> bool
     ensures { result ≡ str_eq_ignore_ascii_case left.now right.now }
 {
     left.eq_ignore_ascii_case(right)
 }
 
-/// The part of a text before its first `@`; without one the whole text.
+/// The part of a text before its first `@`; without a `@` the whole text.
 fn unversioned(text: &str) -> &str
     ensures { result.now ≡ unversioned_text text.now }
 {

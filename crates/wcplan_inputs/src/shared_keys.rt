@@ -1,5 +1,6 @@
-//! Which module has to export which key of a world's exports, where a command doesn't say: the main module, if it has all
-//! functions of the key; else the one adapter that has them.
+//! Which module must export which key of a world's exports, if a command doesn't say.
+//!
+//! It is the main module, if it has all functions of the key; otherwise the one adapter that has them.
 
 ghost use Rattle.std.specs.Prelude.{◌≡◌, ◌≢◌, ◌<◌, ◌++◌, All, IfErr, IfOk, IsTrue, MatchOption, OnOk, codes, false, length, map, string_bytes, take};
 ghost use Rattle.std.specs.List.{AllZip, flat_map};
@@ -23,7 +24,7 @@ use wc_options::name_listing;
 use wc_resolve::{Resolve, WorldItem, WorldKey};
 use wc_texts::quoted;
 
-/// Of how many adapters it is said what they lack; of so many names a listing has.
+/// The most adapters for which the program says what they lack, and the most names in a listing.
 const MOST: usize = 8;
 
 /// The exports of a world, with the keys by which a command gives them.
@@ -36,7 +37,7 @@ pub(crate) struct ExportedWorld<'r, 'k> {
     pub(crate) rejects_legacy: bool,
 }
 
-/// An adapter by its name, with the names of its exports; `None` where it is no module.
+/// An adapter by its name, with the names of its exports; `None` if it is no module.
 #[derive(Drop)]
 struct AdapterNames<'a, 'f> {
     name: &'a str,
@@ -57,12 +58,14 @@ pub(crate) fn is_open(command: &Command<'_>) -> bool
     command.exports.is_empty() && command.adapter_exports.is_empty() && !command.adapters.is_empty()
 }
 
-/// The keys that the main module, of these bytes, has not all functions of, each with its text after the name of the one
-/// adapter that has them. There is none of these if the bytes are no module. `seed`: the seed of the sets that are made.
+/// The keys for which the main module, with these bytes, lacks a function. Each is given with its text after the name
+/// of the one adapter that has all its functions. If the bytes are no module, the list is empty. The sets that are
+/// made hash under `seed`.
 ///
 /// # Errors
 ///
-/// - `NoExporter`, `SeveralExporters`: no adapter has all functions of such a key, or several have; of the first key.
+/// - `NoExporter`, `SeveralExporters`: no adapter has all functions of such a key, or several have. The first such
+///   key is named.
 /// - `Memory`: an allocation failed.
 pub(crate) fn shared_keys<'x>(
     alloc: Global,
@@ -84,7 +87,8 @@ pub(crate) fn shared_keys<'x>(
     }
 }
 
-/// The names of the exports of modules; `None` where the main module's bytes are no module. `seed`: the seed of their sets.
+/// The names of the exports of modules; `None` if the main module's bytes are no module. Their sets hash under
+/// `seed`.
 fn module_names<'a, 'm, 'f>(
     alloc: Global,
     seed: Seed,
@@ -101,7 +105,7 @@ fn module_names<'a, 'm, 'f>(
     Ok(Some(ModuleNames { main, adapters }))
 }
 
-/// The names of the exports of adapters. `seed`: the seed of their sets.
+/// The names of the exports of adapters. Their sets hash under `seed`.
 fn adapter_names<'a, 'f>(
     alloc: Global,
     seed: Seed,
@@ -117,7 +121,7 @@ fn adapter_names<'a, 'f>(
     Ok(names)
 }
 
-/// The names of the exports of an adapter. `seed`: the seed of their set.
+/// The names of the exports of an adapter. Their set hashes under `seed`.
 fn names_in<'a, 'f>(
     alloc: Global,
     seed: Seed,
@@ -132,8 +136,8 @@ fn names_in<'a, 'f>(
     })
 }
 
-/// The keys that the main module has not all functions of, each with its text after the name of the one adapter that has
-/// them.
+/// The keys for which the main module lacks a function, each with its text after the name of the one adapter that has
+/// all its functions.
 fn shared_exports<'x>(
     alloc: Global,
     world: ExportedWorld<'x, 'x>,
@@ -156,7 +160,7 @@ fn shared_exports<'x>(
     Ok(pairs)
 }
 
-/// Adds a key that an adapter has to export, with its text after the adapter's name.
+/// Adds a key that an adapter must export, with its text after the adapter's name.
 fn push_shared<'x>(
     alloc: Global,
     world: ExportedWorld<'x, 'x>,
@@ -176,7 +180,8 @@ fn push_shared<'x>(
     push_pair(alloc, names, &asked, pairs)
 }
 
-/// Adds a key with its functions, with its text after the name of the adapter that has to export it, if one has to.
+/// Adds a key with its functions, with its text after the name of the adapter that must export it, if an adapter
+/// must.
 fn push_pair(
     alloc: Global,
     names: &ModuleNames<'_, '_, '_>,
@@ -213,7 +218,7 @@ struct AskedKey<'k> {
     rejects_legacy: bool,
 }
 
-/// A key of what a world exports, with its functions.
+/// A key of a world's exports, with its functions.
 fn asked_key<'x>(
     alloc: Global,
     world: ExportedWorld<'x, 'x>,
@@ -230,7 +235,7 @@ fn asked_key<'x>(
     })
 }
 
-/// The adapter that has to export a key; `None` where the main module has to.
+/// The adapter that must export a key; `None` if the main module must.
 fn exporter_of<'a>(
     alloc: Global,
     names: &ModuleNames<'a, '_, '_>,
@@ -366,7 +371,7 @@ fn no_exporter_texts(
     Ok((key, lines))
 }
 
-/// The lines of what the main module and the first adapters lack of a key.
+/// The lines of the functions of a key that the main module and the first adapters lack.
 fn lack_lines(
     alloc: Global,
     names: &ModuleNames<'_, '_, '_>,
@@ -458,7 +463,7 @@ fn adapter_line(
     }
 }
 
-/// The line of a function that the adapter of this name lacks; the empty text where it lacks none.
+/// The line of a function that the adapter with this name lacks; empty if it lacks none.
 fn lacking_line(alloc: Global, name: &str, function: Option<&str>) -> Result<String, AllocError>
     ensures { IfOk result (λ text. string_bytes text
         ≡ lack_line (adapter_text name.now) (option_map text_of function.entry)) }
@@ -484,7 +489,7 @@ fn adapter_text(alloc: Global, name: &str) -> Result<String, AllocError>
     format!(in alloc; "adapter {name}")
 }
 
-/// The line of a function that a module lacks; the empty text where it lacks none.
+/// The line of a function that a module lacks; empty if it lacks none.
 fn lack_line(alloc: Global, exporter: &str, function: Option<&str>) -> Result<String, AllocError>
     ensures { IfOk result (λ text. string_bytes text
         ≡ lack_line exporter.now (option_map text_of function.entry)) }

@@ -12,7 +12,7 @@ use wc_maps::Seed;
 use wc_program::{FileStore, Printer, Shell, exit_code, system_arguments, system_shell};
 use wctrim_command::run;
 
-/// Runs the program. All that it prints goes to standard output. Where the system gives no random bytes for a seed, no file
+/// Runs the program. All its output goes to standard output. If the system gives no random bytes for a seed, no file
 /// can be read.
 fn main(rt: HostRuntime) -> ExitCode {
     let arguments = system_arguments(&rt);

@@ -1,4 +1,4 @@
-//! The program: its arguments, its files, what it prints, and its exit status.
+//! The program: its arguments, its files, its output, and its exit status.
 
 ghost use Rattle.std.specs.Prelude.{◌≡◌, ◌≢◌, ◌++◌, true, List, ℕ, Some, IfOk, IfErr, IsErr, OnOk};
 ghost use Rattle.std.specs.Option.{option_map};
@@ -59,21 +59,21 @@ fn put_path<P: Pieces>(out: &mut P, undone: &str, path: &str) -> Result<(), PutF
     out.put_piece(path)
 }
 
-/// Runs the program with these arguments, the first of them the one after the program's name. The answer is its exit
+/// Runs the program with these arguments; the first is the one after the program's name. The result is its exit
 /// status:
 ///
-/// | Status | Where | Printed |
+/// | Status | When | Printed |
 /// |---|---|---|
-/// | 0 | there are no arguments | the usage text |
-/// | 2 | the arguments are those of no command, or no text | the usage text |
+/// | 0 | no arguments are passed | the usage text |
+/// | 2 | the arguments make no command, or are not UTF-8 | the usage text |
 /// | 0 | the command was run | its lines |
 /// | 1 | the command could not be run | the lines that it put, and then the line `wctrim: TEXT` |
-/// | 1 | there was no memory for the arguments | the line `wctrim: out of memory` |
-/// | 1 | the output failed | not known |
+/// | 1 | an allocation for the arguments failed | the line `wctrim: out of memory` |
+/// | 1 | the output failed | unknown |
 ///
-/// TEXT is the text of `run_command`'s fault (`FaultText`): `cannot read IN` or `cannot write OUT` with the path, or the text
-/// of the fault of `execute`. All that is printed is flushed. Files are as `run_command` leaves them; without a
-/// command they are unchanged. What is done is the same for every seed of the shell.
+/// TEXT is the text of `run_command`'s fault (`FaultText`): `cannot read IN` or `cannot write OUT` with the path, or
+/// the text of the fault of `execute`. All printed text is flushed. Files are as `run_command` leaves them; without a
+/// command they are unchanged. The shell's seed has no effect.
 pub fn run<F: FileStore, O: Output>(
     arguments: &io::Result<Vec<String>>,
     shell: &mut Shell<F, O, ()>,
@@ -91,7 +91,7 @@ pub fn run<F: FileStore, O: Output>(
     wc_program::run(&Wctrim, arguments, shell)
 }
 
-/// The program, by what it does with its arguments.
+/// The program, as a type for the shell.
 struct Wctrim;
 
 impl<F: FileStore, O: Output> Program<F, O, ()> for Wctrim {
@@ -121,7 +121,7 @@ impl<F: FileStore, O: Output> Program<F, O, ()> for Wctrim {
     }
 }
 
-/// Runs a command on its files, and prints why it could not be run. The answer is the exit status.
+/// Runs a command on its files, and prints why it could not be run. The result is the exit status.
 fn run_and_report<F: FileStore, O: Output>(command: &Command<'_>, shell: &mut Shell<F, O, ()>) -> u8
     requires { IsExecutable (command_view command.now) }
     ensures { CommandEnds (command_view command.now)
@@ -141,7 +141,7 @@ fn run_and_report<F: FileStore, O: Output>(command: &Command<'_>, shell: &mut Sh
     }
 }
 
-/// Prints why the program failed. The answer is the status of a failure, also where `out` fails.
+/// Prints why the program failed. The result is the status of a failure, even if `out` fails.
 fn report<O: Output>(out: &mut O, fault: &RunFault<'_>) -> u8
     ensures { Prints (fault_line (run_fault_text fault.now)) failure
         (Becomes (output_ends O.written O.sent O.is_failed) out.old out.new) result }
@@ -154,18 +154,18 @@ fn report<O: Output>(out: &mut O, fault: &RunFault<'_>) -> u8
     print(out, &line, FAILURE)
 }
 
-/// Reads the command's input file, executes the command, flushes its lines, and writes its output file, where it has
-/// one. Every other file stays the same. At `Ok` all lines were handed on.
+/// Reads the command's input file, executes the command, flushes its lines, and writes its output file, if it has
+/// one. Every other file stays the same. After `Ok`, all lines were passed on.
 ///
 /// # Errors
 ///
 /// - `CannotRead`: the input file could not be read. Nothing is put.
-/// - `Command`: the fault of `execute`. Nothing is put; with `Command(Output)` `out` is failed instead, and how much was
-///   written is left open. `Command(Memory)` also where the input file is too large for memory.
-/// - `CannotWrite`: the write of the output file failed. The lines were put and handed on before, and `out` is not failed.
-///   What bytes that file has is left open.
+/// - `Command`: the fault of `execute`. Nothing is put, except with `Command(Output)`: then `out` has failed, and any
+///   part may have been written. `Command(Memory)` also comes if the input file is too large for memory.
+/// - `CannotWrite`: the output file could not be written. The lines were put and passed on before, and `out` has not
+///   failed. The file may have any bytes.
 ///
-/// With `CannotRead` and `Command` no file is created or changed: so where `out` fails, none is.
+/// With `CannotRead` and `Command` no file is created or changed, so none is if `out` fails.
 pub fn run_command<'a, F: FileStore, O: Output>(
     alloc: Global,
     seed: Seed,

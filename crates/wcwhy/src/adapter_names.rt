@@ -9,13 +9,13 @@ use std::alloc::{AllocError, Global};
 use wc_maps::{Seed, first_missing, first_repeated};
 use wc_options::{first_parts, name_listing};
 
-/// Checks the names of adapters, each of which comes with its path, and of exports, each of which comes after the name of the
-/// adapter that it is asked of. `seed`: the seed of the sets that are made.
+/// Checks the names of adapters, each with its path, and the exports that are asked of adapters, each after the
+/// adapter's name. `seed`: the seed of the sets that are made.
 ///
 /// # Errors
 ///
-/// Of several causes the first in this order is named, and of one in the order of the arguments; `Memory` may come in place of
-/// any.
+/// If several causes apply, the first in this order is named, and for one cause the first in the order of the
+/// arguments. `Memory` may come instead of any.
 ///
 /// - `RepeatedAdapter`: two adapters have one name.
 /// - `NoAdapter`: an export is asked of an adapter that is not there. It carries what adapters there are.

@@ -21,7 +21,8 @@ use wc_program::Output;
 use wc_read::Import;
 use wc_texts::Sink;
 
-/// Prints why imports of the module with these bytes stay: as a graph or as JSON, if that is asked for, or else in lines.
+/// Prints why imports of the module with these bytes stay: as a graph or as JSON if the command says so, otherwise as
+/// lines.
 pub(crate) fn print_reasons<'a, O: Output>(
     alloc: Global,
     seed: Seed,

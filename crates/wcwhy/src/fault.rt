@@ -28,15 +28,17 @@ pub enum WhyFault<'a> {
     RepeatedAdapter(&'a str),
     /// No adapter has this name, and an export is asked of it. It carries what adapters there are, as a text.
     NoAdapter(&'a str, String),
-    /// The module can't be followed. It carries why not, never `Memory`, and where; and of an export that is not there the
-    /// first that is equal to it but for its version and for the case of letters, as it is in the fault's text.
+    /// The module can't be followed. It carries the reason, never `Memory`, and the place. For a missing export it also
+    /// carries the first export that differs from it only in its version or in the case of letters, as in the fault's
+    /// text.
     Source(GcFault, Option<TrimPlace>, Option<String>),
     /// The adapter of this name can't be followed. It carries what `Source` does.
     Adapter(String, GcFault, Option<TrimPlace>, Option<String>),
-    /// An option asks for imports, and the module has none of them. It carries what the option asks for; and of the first
-    /// import that it would ask for by the module, if versions and the case of letters did not count, the module; else of
-    /// the first that it would ask for so by the package, the package with its version. After an option with a name it is
-    /// followed by the name of that import, as they are in the fault's text.
+    /// An option asks for imports, and the module has none of them. It carries the pattern of the option, and a near
+    /// name for the fault's text, if one exists. For a near name, versions and the case of letters don't count. It is
+    /// the module of the first import that the option would then ask for by the module; otherwise the package, with its
+    /// version, of the first import that it would ask for by the package. If the option has a name, the name of that
+    /// import follows.
     NoImport(ImportPattern<'a>, Option<String>),
     /// The lines, or the graph, could not be printed.
     Output,
@@ -141,8 +143,8 @@ fn adapter_text(alloc: Global, name: &str, text: &str) -> Result<String, AllocEr
     format!(in alloc; "Adapter `{name}`: {text}")
 }
 
-/// The text of why a module can't be followed, with what a terminal would act on escaped, and under it what it is about,
-/// if it is about a place, or else what is there in place of an export, if something is.
+/// The text that says why a module can't be followed, in which characters on which a terminal would act are escaped.
+/// Under it is the place of the fault, if it has one; otherwise the near export, if one exists.
 fn source_text(
     alloc: Global,
     fault: &GcFault,

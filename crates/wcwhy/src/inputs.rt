@@ -24,8 +24,8 @@ pub(crate) struct Input<'a> {
     pub(crate) adapters: Vec<(&'a str, Vec<u8>)>,
 }
 
-/// The bytes of the files of a command. Before adapters are read, their names are checked. `seed`: the seed of the sets that
-/// are made.
+/// The bytes of the files of a command. The names of adapters are checked before adapters are read. `seed`: the seed of
+/// the sets that are made.
 ///
 /// # Errors
 ///

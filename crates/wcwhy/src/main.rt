@@ -1,10 +1,10 @@
-//! `wcwhy`: says why a module imports something: by the path of items that leads to the import from an export, the start
-//! function or an active segment (`wc_paths`).
+//! `wcwhy` says why a module imports something: it prints the path of items that leads to the import from an export,
+//! the start function or an active segment (`wc_paths`).
 //!
-//! `parse` gives the command of some arguments. `run_command` does a command's work, over any `FileStore` and any `Output`,
-//! and `run` is the program over these and any `Screen` for its faults: its contract says what the program does. `main` gives it
-//! the system's arguments and shell, of `wc_program`. Paths are printed by `wc_why`; those through adapters, and imports by
-//! interfaces, by `wc_module_ways`.
+//! `parse` returns the command of some arguments. `run_command` executes a command, with any `FileStore` and any
+//! `Output`. `run` is the program with these and with any `Screen` for its faults; its contract says what the program
+//! does. `main` calls it with the system's arguments and shell, from `wc_program`. `wc_why` prints paths;
+//! `wc_module_ways` prints paths through adapters, and imports by interface.
 #![tactic(auto)]
 
 mod adapter_names;

@@ -27,7 +27,7 @@ pub(crate) fn near_for(
     }
 }
 
-/// The first export of the module with these bytes that is equal to a name but for its version and for the case of letters,
+/// The first export of the module with these bytes that equals a name except for its version and the case of letters,
 /// escaped.
 fn near_export_of(alloc: Global, bytes: &[u8], name: &str) -> Result<Option<String>, AllocError>
     ensures { IfOk result (λ near. IsNearExport bytes.now name.now near) }
@@ -68,8 +68,8 @@ fn first_alike<'i, 'r>(exports: &'i [Export<'r>], name: &str) -> Option<&'i Expo
     None
 }
 
-/// Whether names of exports are the same but for their versions and for the case of letters. A version ends before a `#`,
-/// after which is the function of an interface.
+/// Whether names of exports are equal except for their versions and the case of letters. A version ends before a `#`,
+/// after which the function of an interface is named.
 fn is_alike_export(name: &str, other: &str) -> bool
     ensures { result ≡ is_alike_name name.now other.now }
 {

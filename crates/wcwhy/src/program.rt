@@ -28,8 +28,8 @@ use wc_program::{
 };
 use wc_texts::OUT_OF_MEMORY;
 
-/// Runs the program with these arguments, the first of them the one after the program's name. No file is written. What is
-/// done is the same for every seed of the shell. The answer is its exit status:
+/// Runs the program with these arguments; the first is the argument after the program's name. It writes no file, and
+/// does the same for every seed of the shell. It returns the exit status:
 ///
 /// | Status | Where | Printed |
 /// |---|---|---|
@@ -41,10 +41,10 @@ use wc_texts::OUT_OF_MEMORY;
 /// | 2 | an argument is wrong, or no text | the line `wcwhy: TEXT` and the usage text, to `err` |
 /// | 1 | `out` or `err` failed | not known there |
 ///
-/// TEXT is the text of `run_command`'s fault (`WhyFault::text`) or of the wrong argument (`WrongArgument::text`), or
-/// `out of memory` where there was no memory for it; then the status is 1. The texts of `Memory` and `Output` need none.
-/// All that is printed is flushed, but what was printed before memory ran out. Nothing is printed to the other output,
-/// unless `out` failed or memory ran out before.
+/// TEXT is the text of `run_command`'s fault (`WhyFault::text`) or of the wrong argument (`WrongArgument::text`). If
+/// there was no memory for it, it is `out of memory`, and the status is 1. The texts of `Memory` and `Output` need no
+/// memory. All printed text is flushed, except text that was printed before memory ran out. Nothing is printed to the
+/// other output, unless `out` failed or memory ran out before.
 pub fn run<F: FileStore, O: Output, E: Screen>(
     arguments: &io::Result<Vec<String>>,
     shell: &mut Shell<F, O, E>,
@@ -139,28 +139,29 @@ fn run_and_report<F: FileStore, O: Output, E: Screen>(
 
 /// Reads the module of a command, and its adapters, and prints why imports stay.
 ///
-/// Of a module that stands alone, without adapters: for each import that is asked for, in the order of the
-/// file, the lines of the one path to its item: `MODULE NAME`, where the path begins, as `  export NAME`, `  start`,
-/// `  fills table T` or `  fills memory M`, and then a line for each of its items, as `  func 33 write_all`. Where nothing
-/// leads there, it is the line `MODULE NAME: not reached` if imports are asked for, and no line if all are shown.
+/// For a module that stands alone, without adapters, it prints the lines of one path for each import that is asked for,
+/// in the order of the file. They are `MODULE NAME`; the root, as `  export NAME`, `  start`, `  fills table T` or
+/// `  fills memory M`; and a line for each item of the path, as `  func 33 write_all`. If no path leads to the import,
+/// the only line is `MODULE NAME: not reached` if imports are asked for. If all are shown, the import has no line.
 ///
-/// Paths begin at the exports that are asked for, in their order, or at all, in the order of the file, and then at the start
-/// function; only where none of these leads to an import, they begin at an active segment (`wc_paths`).
+/// Paths begin at the exports that are asked for, in their order, or at all exports in the order of the file if none is
+/// asked for; and then at the start function. If none of these leads to an import, the path to it begins at an active
+/// segment (`wc_paths`).
 ///
-/// With `--json` it prints the tree of these paths instead, as JSON (`wc_tree::tree_to_json`), and with `--dot` as a graph
-/// (`wc_tree::tree_to_graph`). An import that nothing leads to is not in it.
+/// With `--json` it prints the tree of these paths instead, as JSON (`wc_tree::tree_to_json`), and with `--dot` as a
+/// graph (`wc_tree::tree_to_graph`). An import to which nothing leads is not in the tree.
 ///
-/// With adapters the module is the main module of a component. It prints the lines of `wc_module_ways::ways_text` for its
-/// imports and those of the adapters that it needs; with `--json` the tree of `wc_module_ways::ways_json`, and with `--dot`
-/// the graph of `wc_module_ways::ways_graph`.
+/// With adapters the module is the main module of a component. It prints the lines of `wc_module_ways::ways_text` for
+/// the imports of the main module and of the adapters that it needs. With `--json` it prints the tree of
+/// `wc_module_ways::ways_json`, and with `--dot` the graph of `wc_module_ways::ways_graph`.
 ///
-/// With `--imports` it prints the lines of `wc_module_ways::imports_text` instead, of a module that stands alone too, or with
-/// `--json` the list of `wc_module_ways::imports_json`.
+/// With `--imports` it prints the lines of `wc_module_ways::imports_text` instead, or with `--json` the list of
+/// `wc_module_ways::imports_json`. It does so for a module that stands alone too.
 ///
 /// All lines are flushed. The path `-` of a file is that of `/dev/stdin`. `seed`: the seed of the maps that are made.
 ///
-/// It takes time and memory linear in the modules and in what is asked for, and time linear in what is printed; with adapters
-/// memory too.
+/// It takes time and memory linear in the modules and in the arguments, and time linear in the printed text. With
+/// adapters it also takes memory linear in that text.
 ///
 /// # Errors
 ///
@@ -169,14 +170,16 @@ fn run_and_report<F: FileStore, O: Output, E: Screen>(
 /// - `CannotRead`: the module could not be read. It carries why.
 /// - `RepeatedAdapter`, `NoAdapter`: two adapters have one name; or an export is asked of one that is not given.
 /// - `CannotRead`: an adapter could not be read; they are read in order.
-/// - `Source`: the module can't be followed: `Read` of a module that can't be read, and then of segments; `MissingExport`;
-///   `LiveBody`, of a body that paths reach. With `MissingExport` it carries the first export that is equal but for its version
-///   and for the case of letters. With adapters segments and bodies that can't be read are no faults of the main module.
+/// - `Source`: the module can't be followed: `Read`, if the module, or then its segments, can't be read;
+///   `MissingExport`; or `LiveBody`, of a body that paths reach. With `MissingExport` it carries the first export that
+///   is equal except for its version and the case of letters. With adapters, segments and bodies that can't be read are
+///   no faults of the main module.
 /// - `Adapter`: the bytes of an adapter are no module.
-/// - `NoImport`: the module, or with adapters each of the modules, has none of the imports that an option asks for. It carries the first such, and the first
-///   import that it would ask for by the module, or else by the package, if versions and the case of letters did not count.
-/// - `Adapter`: an adapter that the component needs can't be followed, as one that is trimmed (`wc_gc::why_imports`). With
-///   `MissingExport` it carries what `Source` does.
+/// - `NoImport`: the module, or with adapters each of the modules, has none of the imports that an option asks for. It
+///   carries the first such option, and the first import that it would ask for if versions and the case of letters did
+///   not count: by the module, or otherwise by the package.
+/// - `Adapter`: an adapter that the component needs can't be followed, with the faults of a trimmed adapter
+///   (`wc_gc::why_imports`). With `MissingExport` it carries the same as `Source`.
 /// - `Output`: a put or the flush failed; `out` is failed, and how much was printed is left open.
 /// - `Memory`: an allocation failed, or a file is too large for memory. How much was printed is left open.
 ///

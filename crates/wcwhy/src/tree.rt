@@ -14,8 +14,8 @@ use wc_read::Import;
 use wc_texts::Sink;
 use wc_tree::{ShownImport, Source, Tree, tree_of_module, tree_to_graph, tree_to_json};
 
-/// Puts the paths to the imports that are asked for, in order, as a tree, in JSON in a line (`wc_tree::tree_to_json`). An import
-/// to which no path leads is left out.
+/// Writes the paths to the requested imports, in order, as a tree, as JSON in one line (`wc_tree::tree_to_json`). An
+/// import to which no path leads is left out.
 pub(crate) fn put_json<S: Sink>(
     alloc: Global,
     asked: &Asked<'_, '_>,

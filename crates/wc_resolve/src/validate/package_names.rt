@@ -1,4 +1,4 @@
-//! The names of packages, where no two packages have the same name and version.
+//! The names of packages, if no two packages have the same name and version.
 
 ghost use Rattle.std.specs.Prelude.{IfErr, IfOk, map};
 ghost use Rattle.wc_resolve.specs.Views.{package_view};
@@ -12,8 +12,8 @@ use std::alloc::Global;
 use wc_maps::{Seed, Set};
 use wc_texts::Refused;
 
-/// The seed for the names of the packages: that of the first package's interfaces, which whoever made the packages chose.
-/// Where there is no package it is a known one: no name is put in then.
+/// The seed for the names of the packages: the seed of the first package's interfaces, which the maker of the
+/// packages chose. Without packages it is a known seed: no name is inserted then.
 fn seed_of(packages: &[Package]) -> Seed {
     match packages.first() {
         Some(package) => *package.interfaces.hasher(),
@@ -25,7 +25,7 @@ fn seed_of(packages: &[Package]) -> Seed {
 ///
 /// # Errors
 ///
-/// `NameClash`: a package has the name and version of an earlier one; the first such is what it is about.
+/// `NameClash`: a package has the name and version of an earlier one; the fault is about the first such package.
 fn distinct_names(
     alloc: Global,
     packages: &[Package],
@@ -48,8 +48,8 @@ fn distinct_names(
     Ok(names)
 }
 
-/// Copies of the names of the parts' packages, in order, or the first package that has the name and version of an earlier
-/// one.
+/// Copies of the names of the parts' packages, in order; or the first package that has the name and version of an
+/// earlier one.
 pub(crate) fn distinct_package_names(
     alloc: Global,
     parts: &Parts,

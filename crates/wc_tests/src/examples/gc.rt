@@ -28,8 +28,8 @@ pub(crate) fn reaches_memory(
     Ok(found.live.contains((Space::Memories, 0)))
 }
 
-/// Two adapters, trimmed to the same exports. Where both have the same cut, both give the same bytes: what their exports do
-/// not reach leaves no trace.
+/// Two adapters, trimmed to the same exports. If both have the same cut, both give the same bytes: items that their
+/// exports do not reach leave no trace.
 pub(crate) fn trim_both(
     alloc: Global,
     first: &[u8],
@@ -50,8 +50,8 @@ pub(crate) fn trim_both(
     Ok((one, other))
 }
 
-/// An adapter, trimmed to some exports, for a main module without a realloc. Where nothing is added to it and it reaches no
-/// imported realloc, all that is kept is to every depth what it is in the adapter itself.
+/// An adapter, trimmed to some exports, for a main module without a realloc. If nothing is added to it and it reaches
+/// no imported realloc, each kept item is to every depth the same as in the adapter itself.
 pub(crate) fn trim_unedited(
     alloc: Global,
     adapter: &[u8],

@@ -43,7 +43,7 @@ fn export_place(
     })
 }
 
-/// A module whose exports are refused, with the export.
+/// Whether the packages that worlds name exist.
 pub(crate) fn export_refusal(
     alloc: Global,
     module: &Module<'_>,

@@ -27,8 +27,8 @@ fn difference_from(
     Ok(Some(TypeDifference { wanted, found }))
 }
 
-/// The types that differ of a function of an adapter, if it is imported with another type than the one with which it was
-/// imported first; the first type is noted.
+/// The types that differ, if an adapter's function is imported with another type than the first time; the first type
+/// is noted.
 pub(crate) fn note_type(
     alloc: Global,
     types: &mut Map<(String, String), FuncType>,
