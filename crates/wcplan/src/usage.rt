@@ -16,7 +16,7 @@ pub(crate) fn page() -> Page<'static>
         usage: "usage: wcplan WORLDS.json [WORLD] MAIN.wasm",
         end: "\n       wcplan --help | --version\n",
         words: "  WORLDS.json                the worlds, as `wasm-tools component wit --json` prints them
-  WORLD                      the world that is encoded for; it may be left out if all others are parts of it
+  WORLD                      the component's world (default: the one that includes all others)
   MAIN.wasm                  the main module
 ",
         last: "  -                          standard input, as WORLDS.json, MAIN.wasm or FILE

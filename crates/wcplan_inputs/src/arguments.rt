@@ -20,30 +20,30 @@ use wc_options::{
 pub struct Command<'a> {
     /// The path of the file that has the worlds as JSON.
     pub worlds: &'a str,
-    /// The name of the world that modules are encoded for; `None` for the one that has all others for parts.
+    /// The name of the world that modules are encoded for; `None` for the one that includes all others.
     pub world: Option<&'a str>,
     /// The path of the main module.
     pub main: &'a str,
     /// The names of the adapters and the paths of their modules, in order.
     pub adapters: Vec<(&'a str, &'a str)>,
-    /// The keys that the main module has to export, in order.
+    /// The keys that the main module must export, in order.
     pub exports: Vec<&'a str>,
-    /// Keys that adapters have to export, each after the name of its adapter, in order.
+    /// Keys that adapters must export, each after the name of its adapter, in order.
     pub adapter_exports: Vec<(&'a str, &'a str)>,
     /// Whether names of the older scheme are refused.
     pub reject_legacy_names: bool,
-    /// Whether adapters grow memory for themselves, in place of calling the main module's realloc.
+    /// Whether adapters grow memory themselves, instead of calling the main module's realloc.
     pub realloc_via_memory_grow: bool,
-    /// The name of the export that is the hook of tasks; `None`, where no export is.
+    /// The name of the export that is the task hook; `None` if no export is.
     pub task_hook: Option<&'a str>,
-    /// Whether JSON is printed: the record of the component's world and its plan, in place of the lines of the plan; or with
-    /// `why` the ways.
+    /// Whether JSON is printed: the record of the component's world and its plan, instead of the lines of the plan;
+    /// or with `why` the paths.
     pub json: bool,
-    /// The key of an interface, or `all`: why it is imported is printed, in place of the lines of the plan.
+    /// The key of an interface, or `all`: the program prints why it is imported, instead of the lines of the plan.
     pub why: Option<&'a str>,
-    /// Whether this is printed as a graph, in place of lines.
+    /// Whether this is printed as a graph, instead of lines.
     pub dot: bool,
-    /// Whether what is imported of each interface is printed, in place of the lines of the plan.
+    /// Whether the imports from each interface are printed, instead of the lines of the plan.
     pub imports: bool,
     /// The path of the directory that files are written to, if they are.
     pub out: Option<&'a str>,
@@ -56,7 +56,7 @@ pub const OPTIONS: [ProgramOption; 11] = [
         value: Value::Text,
         repeats: true,
         usage: " [--adapt [NAME=]FILE]...",
-        help: "  --adapt [NAME=]FILE        an adapter, and its module; NAME is else FILE's name up to its first `.`\n",
+        help: "  --adapt [NAME=]FILE        an adapter's module; NAME defaults to FILE's name up to the first `.`\n",
     },
     ProgramOption {
         name: "--export",
@@ -70,7 +70,7 @@ pub const OPTIONS: [ProgramOption; 11] = [
         value: Value::Pair,
         repeats: true,
         usage: " [--adapter-export NAME=KEY]...",
-        help: "  --adapter-export NAME=KEY  a key of the world's exports that the adapter exports; with neither the modules' exports decide\n",
+        help: "  --adapter-export NAME=KEY  a key of the world's exports that the adapter exports; if neither is given, it is inferred from the modules' exports\n",
     },
     ProgramOption {
         name: "--reject-legacy-names",
@@ -84,72 +84,72 @@ pub const OPTIONS: [ProgramOption; 11] = [
         value: Value::Nothing,
         repeats: false,
         usage: " [--realloc-via-memory-grow]",
-        help: "  --realloc-via-memory-grow  let adapters grow memory for themselves\n",
+        help: "  --realloc-via-memory-grow  let adapters grow memory themselves\n",
     },
     ProgramOption {
         name: "--task-hook",
         value: Value::Text,
         repeats: false,
         usage: " [--task-hook NAME]",
-        help: "  --task-hook NAME           the export of MAIN.wasm that is the hook of tasks\n",
+        help: "  --task-hook NAME           MAIN.wasm's task-hook export\n",
     },
     ProgramOption {
         name: "--json",
         value: Value::Nothing,
         repeats: false,
         usage: " [--json]",
-        help: "  --json                     print the component's world and its plan as JSON; with --why the ways, with --imports these\n",
+        help: "  --json                     print the component's world and its plan as JSON; with --why the paths, with --imports the interfaces\n",
     },
     ProgramOption {
         name: "--why",
         value: Value::Key,
         repeats: false,
         usage: " [--why KEY [--dot]]",
-        help: "  --why KEY                  print why the interface KEY is imported; why each is, if KEY is `all`\n",
+        help: "  --why KEY                  print the paths by which the interface KEY is imported (`all`: each interface)\n",
     },
     ProgramOption {
         name: "--dot",
         value: Value::Nothing,
         repeats: false,
         usage: "",
-        help: "  --dot                      print that as a graph, in the language of Graphviz\n",
+        help: "  --dot                      print them as a graph in the language of Graphviz\n",
     },
     ProgramOption {
         name: "--imports",
         value: Value::Nothing,
         repeats: false,
         usage: " [--imports]",
-        help: "  --imports                  print for each interface by which modules it is imported, and with what it goes\n",
+        help: "  --imports                  list which modules import each interface, and which calls to remove to drop it\n",
     },
     ProgramOption {
         name: "--out",
         value: Value::Text,
         repeats: false,
         usage: " [--out DIR]",
-        help: "  --out DIR                  write the modules to DIR, which is made if need be\n",
+        help: "  --out DIR                  write the modules to DIR (created if missing)\n",
     },
 ];
 
-/// The command of these arguments, the first of them the one after the program's name: `WORLDS.json`, `WORLD` and
-/// `MAIN.wasm` in this order, of which `WORLD` may be left out, and options before, between and after them. `--adapt
-/// NAME=FILE`, `--export KEY` and `--adapter-export NAME=KEY` may come several times, `--reject-legacy-names`,
-/// `--realloc-via-memory-grow`, `--task-hook NAME`, `--json`, `--why KEY`, `--dot` and `--out DIR` once. What comes
-/// after the name of an option that has a value is its value, whatever it is, but that no option is the key of `--why`;
-/// in one argument there is a `=` between them, as in `--out=DIR`. NAME of an adapter ends at the first `=`. Without a
-/// `=` the value of `--adapt` is FILE, and NAME is the name of this file up to its first `.`. `--` is not an argument,
-/// and says that those after it are no options. No option is `-` alone, nor what begins with another character. `--dot`
-/// comes with `--why`, and without `--json`. Of `WORLDS.json`, `MAIN.wasm` and the FILEs one is `-` at most, which is
-/// standard input.
+/// The command that these arguments describe; the first is the one after the program's name. `WORLDS.json`, `WORLD`
+/// and `MAIN.wasm` come in this order, and `WORLD` may be left out; options may come before, between and after them.
+/// `--adapt NAME=FILE`, `--export KEY` and `--adapter-export NAME=KEY` may repeat; `--reject-legacy-names`,
+/// `--realloc-via-memory-grow`, `--task-hook NAME`, `--json`, `--why KEY`, `--dot` and `--out DIR` may not. If an
+/// option has a value, the next argument is the value, whatever it is; only the key of `--why` can't be an option. In
+/// one argument, a `=` separates option and value, as in `--out=DIR`. The NAME of an adapter ends at the first `=`.
+/// If the value of `--adapt` has no `=`, it is FILE, and NAME is this file's name up to its first `.`. The argument
+/// `--` is skipped; arguments after it are no options. `-` alone is no option, nor is an argument that begins with
+/// another character than `-`. `--dot` requires `--why` and excludes `--json`. At most one of `WORLDS.json`,
+/// `MAIN.wasm` and the FILEs is `-`, which is standard input.
 ///
 /// # Errors
 ///
-/// They are read in order, and the first of these is named:
+/// The arguments are read in order, and the first of these causes is named:
 ///
 /// - `Help`, `Version`: an option is `--help` or `-h`, or `--version`.
-/// - `Wrong`: an argument is wrong; or, after the last, the value of an option or one of the two paths is missing, or
+/// - `Wrong`: an argument is wrong; or, after the last, an option's value or one of the two paths is missing, or
 ///   options or files don't fit together.
-/// - `Memory`: an allocation failed. It may come where no argument by itself is wrong, and one at least is no option. Without
-///   such an argument nothing is allocated.
+/// - `Memory`: an allocation failed. It may come only if no argument by itself is wrong, and at least one is no
+///   option. If all arguments are options, nothing is allocated.
 pub fn parse(alloc: Global, arguments: &[String]) -> Result<Command<'_>, NoCommand<'_>>
     ensures { IsRead command_view (AsksMemory (texts_in arguments.now)) result
         (read_arguments (texts_in arguments.now)) }
@@ -229,7 +229,7 @@ fn command_from<'a>(
     }
 }
 
-/// Whether the option of this name is given.
+/// Whether the option with this name is present.
 fn has_option(arguments: &[String], name: &str) -> bool
     ensures { result ≡ is_given name.now (said_by option_table (texts_in arguments.now)) }
 {

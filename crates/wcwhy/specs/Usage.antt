@@ -10,15 +10,15 @@ usage_text =
 -- what each argument is
 abbrev pub options_text : List ℕ
 options_text =
-    codes "  IN                      a core module; with --adapt the main module of a component\n"
-    ++ (codes "  EXPORT                  an export of it at which paths may begin; else all\n"
-    ++ (codes "  --adapt [NAME=]FILE     an adapter, and its module; NAME is else FILE's name up to its first `.`\n"
+    codes "  IN                      a core module; with --adapt the component's main module\n"
+    ++ (codes "  EXPORT                  export to start from (default: all)\n"
+    ++ (codes "  --adapt [NAME=]FILE     an adapter's module; NAME defaults to FILE's name up to the first `.`\n"
     ++ (codes "  --adapter-export NAME=EXPORT\n"
-    ++ (codes "                          an export that a component needs of the adapter\n"
-    ++ (codes "  --import KEY[=NAME]     imports of a module or a package; else all that stay\n"
-    ++ (codes "  --dot                   print a graph, in the language of Graphviz\n"
-    ++ (codes "  --json                  print the paths as JSON; with --imports these\n"
-    ++ (codes "  --imports               print by which modules each interface is imported, and with what it goes\n"
+    ++ (codes "                          an export of the adapter that the component needs\n"
+    ++ (codes "  --import KEY[=NAME]     only imports from this module or package (default: all)\n"
+    ++ (codes "  --dot                   print a graph in the language of Graphviz\n"
+    ++ (codes "  --json                  print the paths as JSON; with --imports the interfaces\n"
+    ++ (codes "  --imports               list which modules import each interface, and which calls to remove to drop it\n"
     ++ (codes "  -h, --help              print this text\n"
     ++ codes "  --version               print the version\n")))))))))
 

@@ -45,62 +45,67 @@ pub(crate) const OPTIONS: [ProgramOption; 6] = [
         value: Value::Text,
         repeats: true,
         usage: " [--adapt [NAME=]FILE]...",
-        help: "  --adapt [NAME=]FILE     an adapter, and its module; NAME is else FILE's name up to its first `.`\n",
+        help: "  --adapt [NAME=]FILE     an adapter's module; NAME defaults to FILE's name up to the first `.`\n",
     },
     ProgramOption {
         name: "--adapter-export",
         value: Value::Pair,
         repeats: true,
         usage: " [--adapter-export NAME=EXPORT]...",
-        help: "  --adapter-export NAME=EXPORT\n                          an export that a component needs of the adapter\n",
+        help: "  --adapter-export NAME=EXPORT\n                          an export of the adapter that the component needs\n",
     },
     ProgramOption {
         name: "--import",
         value: Value::Text,
         repeats: true,
         usage: "\n             [--import KEY[=NAME]]...",
-        help: "  --import KEY[=NAME]     imports of a module or a package; else all that stay\n",
+        help: "  --import KEY[=NAME]     only imports from this module or package (default: all)\n",
     },
     ProgramOption {
         name: "--dot",
         value: Value::Nothing,
         repeats: false,
         usage: " [--dot]",
-        help: "  --dot                   print a graph, in the language of Graphviz\n",
+        help: "  --dot                   print a graph in the language of Graphviz\n",
     },
     ProgramOption {
         name: "--json",
         value: Value::Nothing,
         repeats: false,
         usage: " [--json]",
-        help: "  --json                  print the paths as JSON; with --imports these\n",
+        help: "  --json                  print the paths as JSON; with --imports the interfaces\n",
     },
     ProgramOption {
         name: "--imports",
         value: Value::Nothing,
         repeats: false,
         usage: " [--imports]",
-        help: "  --imports               print by which modules each interface is imported, and with what it goes\n",
+        help: "  --imports               list which modules import each interface, and which calls to remove to drop it\n",
     },
 ];
 
-/// The command of these arguments, the first of them the one after the program's name: `IN` and then each `EXPORT`, and
-/// options before, between and after them. Of `--dot` and `--json` one at most is given. With `--imports` there is no
-/// `--import`, no `--dot` and no EXPORT. Of `IN` and the FILEs one at most is `-`, which is standard input.
-/// `--adapt [NAME=]FILE`, `--adapter-export NAME=EXPORT` and `--import KEY[=NAME]` may come several times, `--dot`, `--json`
-/// and `--imports` once. What comes after an option that has a value is its value, whatever it is; in one argument there is
-/// a `=` between them, as in `--import=KEY`. NAME of an adapter ends at the first `=`; without one the value of `--adapt` is
-/// FILE, and NAME is the name of this file up to its first `.`. KEY is the name of a module or a package of interfaces, each
-/// with its version or without (`wc_why::asks_about`), and ends at the first `=`. `--` is not an argument, and says that
-/// those after it are no options. No option is `-` alone, nor what begins with another character.
+/// The command of these arguments; the first is the argument after the program's name. They are `IN` and then each
+/// `EXPORT`, with options before, between and after them.
+///
+/// At most one of `--dot` and `--json` is given. With `--imports` there is no `--import`, no `--dot` and no EXPORT. At
+/// most one of `IN` and the FILEs is `-`, which is standard input. `--adapt [NAME=]FILE`,
+/// `--adapter-export NAME=EXPORT` and `--import KEY[=NAME]` may come several times, `--dot`, `--json` and `--imports`
+/// once.
+///
+/// The argument after an option that has a value is its value, whatever it is. In one argument a `=` is between the
+/// option and its value, as in `--import=KEY`. An adapter's NAME ends at the first `=`; without a `=` the value of
+/// `--adapt` is FILE, and NAME is the name of this file up to its first `.`. KEY is the name of a module or a package
+/// of interfaces, with its version or without (`wc_why::asks_about`), and ends at the first `=`. `--` is not an
+/// argument; no argument after it is an option. `-` alone is no option, and neither is an argument that begins with
+/// another character.
 ///
 /// # Errors
 ///
 /// They are read in order, and the first of these is named:
 ///
 /// - `Help`, `Version`: an option is `--help` or `-h`, or `--version`.
-/// - `Wrong`: an argument is wrong; or, after the last, the value of an option, or IN is missing; or `--dot` is given with
-///   `--json`, or `--imports` with `--import`, `--dot` or an EXPORT; or `-` is given for two files.
+/// - `Wrong`: an argument is wrong; or, after the last one, IN or the value of an option is missing; or `--dot` is
+///   given with `--json`, or `--imports` with `--import`, `--dot` or an EXPORT; or `-` is given for two files.
 /// - `Memory`: an allocation failed. It may come only where nothing is wrong but that `-` is given for two files.
 pub fn parse(alloc: Global, arguments: &[String]) -> Result<Command<'_>, NoCommand<'_>>
     ensures { IsRead command_view (AsksMemory (texts_in arguments.now)) result

@@ -15,8 +15,8 @@ pub(crate) fn page() -> Page<'static>
     Page {
         usage: "usage: wcwhy IN",
         end: " [EXPORT]...\n       wcwhy --help | --version\n",
-        words: "  IN                      a core module; with --adapt the main module of a component
-  EXPORT                  an export of it at which paths may begin; else all
+        words: "  IN                      a core module; with --adapt the component's main module
+  EXPORT                  export to start from (default: all)
 ",
         last: "  -h, --help              print this text
   --version               print the version
