@@ -1,23 +1,18 @@
-"""The cases of slow-inputs.py whose names are chosen to collide, each with N names (2,048) and twice as many. The chosen ones
-have one hash in a table with a fixed seed (colliding.py); the plain ones are as long and as alike, and don't collide. Some
-cases are there several times, with names that collide as parts of different keys.
+"""The cases of slow-inputs.py whose names are chosen to collide, each with N names (2,048) and twice as many. The chosen names
+have one hash in a table with a fixed seed (colliding.py); the plain names are as long and as alike, and don't collide. Some
+cases come several times, with names that collide as parts of different keys.
 """
 import json
-import pathlib
 import sys
 
-TOP = pathlib.Path(__file__).resolve().parent.parent
-sys.path += [str(TOP / "checks"), str(TOP / "tests")]
 import colliding
-from adapter_shapes import body, exports, functions
 from colliding import SEED, after_number
+from slow_shapes import ADAPTER, MAIN, OUT, TOP, WORLDS, core, function, interface, name, number, row, section, vector, write
+
+sys.path.append(str(TOP / "tests"))
 from described_modules import described
-from module_bytes import HEADER, function_import, name, number, section, types, vector
 from worlds import encoder_of, lines_of_bytes, program_input
 
-FOLDER = TOP / "bench" / "data" / "chosen-names"
-FILES = "in.wasm", "adapter.wasm", "out.wasm", "worlds.json", "names.rows"
-IN, ADAPTER, OUT, WORLDS, ROWS = (str(FOLDER / file) for file in FILES)
 # as many arguments as a command line has room for
 ARGUMENTS = 4096
 # The hash's state before the text of a key: of one that is a text; of one that is a text or something else, after the
@@ -43,33 +38,26 @@ def each(text, names):
     return [text % name for name in names]
 
 
-def write(path, content):
-    with open(path, "wb") as file:
-        file.write(content)
-
-
-def module(imports=(), exported=(), last=b"", path=IN):
+def module(imports=(), exported=(), last=b"", path=MAIN):
     """Writes a module with these imports of functions, and with functions that are exported by these names."""
-    named = [(text, len(imports) + at) for at, text in enumerate(exported)]
-    imported = section(2, vector([function_import(*pair) for pair in imports]))
-    bodies = section(10, vector([body([], b"")] * len(named)))
-    write(path, HEADER + types() + imported + functions(len(named)) + exports(named) + bodies + last)
+    made = core(path, [(*it, 0) for it in imports], [(text, len(imports) + at) for at, text in enumerate(exported)], defined=[0] * len(exported))
+    write(path, made + last)
 
 
 def dedupe(imports):
     """The first import comes twice, since no names are looked up where none does."""
     module([*imports, imports[0]])
-    return ["dedupe", IN, OUT]
+    return ["dedupe", MAIN, OUT]
 
 
 def trim(exported, required, last=b""):
     module((), exported, last)
-    return ["trim", IN, OUT, *required]
+    return ["trim", MAIN, OUT, *required]
 
 
 def scan(exported):
     module((), exported)
-    return ["scan", IN]
+    return ["scan", MAIN]
 
 
 def trim_globals(numbers):
@@ -92,7 +80,7 @@ def plan(worlds, interfaces=(), defined=(), packages=(), more=(), **main):
     packages = packages or [package("my:p", {}, worlds)]
     document = {"worlds": worlds, "interfaces": interfaces, "types": defined, "packages": packages}
     write(WORLDS, json.dumps(document).encode())
-    return [WORLDS, "w", IN, *more]
+    return [WORLDS, "w", MAIN, *more]
 
 
 def numbered(names):
@@ -103,17 +91,12 @@ def package(text, interfaces=(), worlds=()):
     return {"name": text, "interfaces": numbered(interfaces), "worlds": numbered(held["name"] for held in worlds)}
 
 
+def face(text, held=(), defined=()):
+    return interface(text, map(function, held), numbered(defined))
+
+
 def world(imports=(), exported=(), text="w"):
     return {"name": text, "imports": dict(imports), "exports": dict(exported), "package": 0}
-
-
-def interface(text, held=(), defined=()):
-    members = {key: function(key) for key in held}
-    return {"name": text, "types": numbered(defined), "functions": members, "package": 0}
-
-
-def function(text):
-    return {"name": text, "kind": "freestanding", "params": []}
 
 
 def alias(text):
@@ -142,27 +125,21 @@ def adapted(names):
 
 case("package-names", "wcplan", lambda names: plan([world()], packages=[package(text) for text in each("%s:p", names)]))
 case("package-worlds", "wcplan", lambda names: plan([world(text=text) for text in ["w", *names]]))
-case("package-interfaces", "wcplan", lambda names: plan([world()], [interface(text) for text in names],
+case("package-interfaces", "wcplan", lambda names: plan([world()], [face(text) for text in names],
                                                         packages=[package("my:p", names)]))
-case("interface-types", "wcplan", lambda names: plan([world(faces("i"))], [interface("i", (), names)],
+case("interface-types", "wcplan", lambda names: plan([world(faces("i"))], [face("i", (), names)],
                                                      [alias(text) for text in names]))
-case("interface-imports", "wcplan", lambda names: plan([world(faces("i"))], [interface("i", names)],
+case("interface-imports", "wcplan", lambda names: plan([world(faces("i"))], [face("i", names)],
                                                        imports=of("i", names)), "text function")
-case("interface-exports", "wcplan", lambda names: plan([world({}, faces("i"))], [interface("i", names)],
+case("interface-exports", "wcplan", lambda names: plan([world({}, faces("i"))], [face("i", names)],
                                                        exported=each("i#%s", names)), "text function")
-case("interface-names", "wcplan", lambda names: plan([world(faces(names))], [interface("i", "f")],
+case("interface-names", "wcplan", lambda names: plan([world(faces(names))], [face("i", "f")],
                                                      imports=[(text, "f") for text in names]), "text first second")
 case("world-imports", "wcplan", lambda names: plan([world(items(names))], imports=of("$root", names)),
      "text first call")
 case("world-exports", "wcplan", lambda names: plan([world({}, items(names))], exported=names), "text first")
 case("adapter-exports", "wcplan", adapted)
-case("adapters-given", "wcplan", lambda names: plan([world()], more=each("--adapt=%s=" + IN, names)), most=ARGUMENTS)
-
-
-def row(call, lines):
-    """Writes a row, and gives the arguments to read it from standard input."""
-    write(ROWS, "".join(each("%s\n", ["row r", "call " + call, *each("in %s", lines)])).encode())
-    return ["-"]
+case("adapters-given", "wcplan", lambda names: plan([world()], more=each("--adapt=%s=" + MAIN, names)), most=ARGUMENTS)
 
 
 def module_of(script):

@@ -1,17 +1,16 @@
 #!/usr/bin/env python3
-"""Checks one crate as the gate proves it, and prints what that spends its time on.
+"""Checks one crate as the gate proves it, and prints what the check spends its time on.
 
     bench/crate-costs.py [--from CHECKOUT] [--lines N] CRATE [--only FUNCTION]... [FLAG..]
 
-The statements of the crates below are those that a whole `rt ci` has left in crates/*/out/rlib, of this checkout or of
-CHECKOUT, whose sources of these crates have to be the same. The check keeps each module that it has proved in a folder of
-its own, and the time of a file there says when: so the processor time between two files is the second one's. Printed are
-the processor time in all, and what went by before the first module (reading, and making modules); the time by kinds of
-modules, of which `Lts` is what a function can do step by step; by drops (`Destruct`), derived impls, and all others; and
-the dearest functions (40, or N) with their kinds.
+The statements of the crates below are those that `rt ci` left in crates/*/out/rlib, of this checkout or of CHECKOUT, which must
+have the same sources of these crates. The check writes each module that it has proved into a folder; the processor time
+between two files is the second one's. Printed are the whole processor time, and the time before the first module; the time
+by kinds of modules (`Lts` is what a function can do step by step), by drops (`Destruct`), derived impls and other functions;
+and the most expensive functions (40, or N) with their kinds.
 
-What is loaded for the first time is in the module that needs it. With `--only` some functions are checked alone, with
-those that they call. Further flags are rattle's.
+A module's time has the loading of what it is the first to need. With `--only` some functions are checked alone, with those
+that they call. Further flags are rattle's.
 """
 
 import argparse
@@ -72,13 +71,13 @@ def modules(kept, moments):
     found = []
     for at, _, names in os.walk(kept):
         found += [(os.stat(f"{at}/{it}").st_mtime, it[:-6]) for it in names if it.endswith(".oantt") and "/records" not in at]
-    times, before, each = [it for it, _ in moments], None, []
+    times, before, first, each = [it for it, _ in moments], None, 0.0, []
     for when, name in sorted(found):
         now = moments[min(bisect.bisect_left(times, when), len(moments) - 1)][1]
         each.append((now - before if before is not None else 0.0, name))
         first = now if before is None else first
         before = now
-    return each, first if found else 0.0
+    return each, first
 
 
 def part(name, crate):

@@ -2,16 +2,15 @@
 """Runs the merge gate, and makes the table of what each crate costs.
 
     bench/gate-costs.py [--write] [--cores LIST] [-- ARGUMENT..]   # `rt ci --anew`, or `rt ci ARGUMENT..`
-    bench/gate-costs.py [--write] --join FILE..                     # of the records of several runs
-    bench/gate-costs.py --check | --figures | --fit                 # nothing is run
+    bench/gate-costs.py [--write] --join FILE..                     # from the records of several runs
+    bench/gate-costs.py --check | --figures | --fit                 # runs nothing
 
-It runs `rt ci` in this checkout and reads, twice a second, which processes it has and the processor time of each. So
-that the figures mean something the machine has to have nothing else to do; the load before the run is in the record.
-`--cores 0,1` keeps the run to these processors. A run leaves its record in bench/data/gate-COMMIT-N.json. Printed are the
-processor minutes of each crate's proof and of its edits, when its proof began and ended by the clock, and what the whole
-took; then by how long a run on two and on four processors would take if each proof had one (the longest chain of crates
-that wait for each other decides that). With --write the table is put into docs/MAP.md. Of a crate that several records
-have the last counts. With --fit the numbers by which checks/budget.py expects a proof's minutes are fitted to that table.
+It runs `rt ci` in this checkout, and reads the processor time of each of its processes twice a second. The machine should have
+nothing else to do; the record has its load before the run. --cores 0,1 keeps the run to these processors. The record is
+written to bench/data/gate-COMMIT-N.json. Printed are the processor minutes of each crate's proof and edits, the whole, the
+longest chain of crates that wait for each other, and the time that a run on two and on four processors would take. --write
+puts the table into docs/MAP.md; if several records have a crate, the last one counts. --fit fits the numbers by which
+checks/budget.py expects a proof's minutes to that table.
 """
 
 import argparse

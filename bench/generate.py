@@ -1,13 +1,12 @@
 #!/usr/bin/env python3
-"""Writes the modules that bench/dedupe.py runs on into a folder, bench/data if none is given, where they are not there.
+"""Writes large modules into a folder (default: bench/data), unless they are there.
 
     bench/generate.py [FOLDER]
 
-    no-repeats.wasm       a valid module of 50 MB: 5,000 imports of distinct names, 40,000 functions, a data section of 18 MB,
-                          200 custom sections of 14 MB in all
-    one-repeat.wasm       the same and one import more, of the first name: the import section is written anew, and all else
-                          is copied
-    repeats-10000.wasm, repeats-100000.wasm      so many function imports of one name, and nothing else
+    no-repeats.wasm         a valid module of 50 MB: 5,000 imports of distinct names, 40,000 functions, a data section of 18 MB,
+                            and 200 custom sections of 14 MB together
+    one-repeat.wasm         the same, and one import more, of the first name
+    repeats-100000.wasm     100,000 function imports of one name, and nothing else
 """
 
 import argparse
@@ -56,8 +55,7 @@ def repeated(count):
 
 
 def mixed(count):
-    """A module that imports `count` functions, in an order that chance makes, of 100 names in each of 50 modules. Names share
-    what they begin with, and modules too."""
+    """A module that imports `count` functions, in random order, of 100 names in each of 50 modules with alike names."""
     chance = random.Random(1)
     names = [function_import(f"wasi:io/streams@0.2.{module}", f"[method]output-stream.blocking-write-{at}")
              for module in range(50) for at in range(100)]
@@ -70,7 +68,6 @@ RENAMED = {"repeats": (repeated, 100_000), "mixed": (mixed, 100_000)}
 FILES = {
     "no-repeats.wasm": lambda: large(0),
     "one-repeat.wasm": lambda: large(1),
-    "repeats-10000.wasm": lambda: repeated(10_000),
     "repeats-100000.wasm": lambda: repeated(100_000),
 }
 

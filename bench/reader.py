@@ -3,10 +3,10 @@
 
     bench/reader.py
 
-It is the fastest of five runs of many readings, less the fastest of five of none, divided by their number. Beside it are
-full runs of wasm-objdump -h and wasm-validate on the same files, best of 5 each; the first skips the contents of sections,
-and the second checks types too, so neither does the same work. The files are C's and C++'s libraries linked whole, without
-exports and with all of them, and the module of 50 MB of generate.py. The program is that of checks/reader_program.py.
+A time is the fastest of five runs of many readings, less the fastest of five runs of none, divided by their number. Beside it
+are runs of wasm-objdump -h, which skips the contents of sections, and of wasm-validate, which also checks types. The files
+are C's and C++'s libraries linked whole, without exports and with all of them, and the 50 MB of generate.py. The program is
+that of checks/reader_program.py.
 """
 import argparse
 import os

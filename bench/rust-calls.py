@@ -1,19 +1,16 @@
 #!/usr/bin/env python3
-"""Times calls from Rust, and beside the trimming of adapters processes that do the same, in one run.
+"""Times calls from Rust, and processes that do the same.
 
     bench/rust-calls.py [--program PROGRAM] [--rounds N] [--folder FOLDER] [--most N]
 
-The adapters have 3, 1,000 and 100,000 functions; the larger two are those of the shape `chain` of checks/adapter_shapes.py,
-every second function of which goes. For each a line says its bytes and those that are left, and then the fastest time
-of a call of `gc::run` through the crate of rust/nuigatre, of a process of PROGRAM (crates/wctrim/out/wctrim, unless
-another is given), and of a process of `wasm-metadce`, where binaryen is installed. A call is timed inside of the
-process that makes it, a process from its start to its end, by the clock; N is 5 unless another number is given, and
-the calls on small adapters are repeated until they take a tenth of a second. The program has to leave as many bytes
-as the call. Where PROGRAM is not there, calls alone are timed.
+Adapters of 3, 1,000 and 100,000 functions are trimmed (the shape `chain` of checks/adapter_shapes.py). A line has the bytes of
+each before and after, and the fastest time of a call of `gc::run` through rust/nuigatre, of a process of PROGRAM (default:
+crates/wctrim/out/wctrim) if it exists, and of a process of `wasm-metadce` if that is installed. Calls on small adapters are
+repeated for a tenth of a second. The program has to leave as many bytes as the call.
 
-Then worlds of 1,000, 10,000 and 40,000 functions are made, or of those of N at most, as many of which an adapter
-exports, and all of which the main module imports; and with a FOLDER that of checks/wcplan-real.py. For each a line says
-the time of a call of `ComponentWorld::new`, and of looking each import of the main module up in it.
+Then worlds of 1,000, 10,000 and 40,000 functions, at most --most, are made, as many of which an adapter exports, and all of
+which the main module imports; and the world of FOLDER, as in checks/wcplan-real.py. A line has the time of a call of
+`ComponentWorld::new`, and of looking up each import of the main module.
 """
 import argparse
 import json
@@ -39,8 +36,7 @@ def three(_):
 
 
 def demo_world(count):
-    """A world that imports an interface of so many functions, a module that imports these and as many of an adapter, and
-    that adapter."""
+    """A world that imports an interface of so many functions, a module that imports these and as many of an adapter, and the adapter."""
     functions_of_it = {"f%d" % i: {"name": "f%d" % i, "kind": "freestanding", "result": None,
                                    "params": [{"name": "x", "type": "u32"}]} for i in range(count)}
     world = {"name": "demo", "imports": {"interface-0": {"interface": {"id": 0}}}, "exports": {}, "package": 0}

@@ -3,25 +3,20 @@
 
     slow-inputs.py [--wctrim PROGRAM] [--wcwhy PROGRAM] [--wcplan PROGRAM] [--wc-tests PROGRAM] [--library FOLDER]
                    [--parts N] [--seconds S] [--functions F] [CASE ..]
-    slow-inputs.py --write      # the hostile cases alone, and puts their table into docs/PERFORMANCE.md
-    slow-inputs.py --check      # nothing is run
+    slow-inputs.py --write      # the hostile cases, and puts their table into docs/PERFORMANCE.md
+    slow-inputs.py --check      # compares that table with bench/figures.json, and runs nothing
 
-The programs are those in crates/*/out unless others are named; `./wctrim --build` and its like make them, and `rt run` in
-crates/wc_tests. Messages go to the static library in FOLDER, or that of tests/rows.py, through message.c. Each case is a shape of worlds, modules, keys or messages of so many parts (512, or what its own factor makes
-of N): those of slow_cases.py, and `chosen NAME` of names that are chosen to collide (chosen_names.py). A CASE is one of the
-table's first column, or the first word of it; a program (`message` too) for all of its cases; `hostile` for those of the
-page's table; or `chosen`. All are run unless some are named.
+The programs are by default those in crates/*/out. Messages go to the static library in FOLDER, or that of tests/rows.py,
+through message.c. A case is a shape of worlds, modules, keys or messages of 512 parts, or N, times its own factor
+(slow_cases.py); `chosen NAME` has names that are chosen to collide (chosen_names.py). CASE is a case or its first word, a
+program or `message`, `hostile` for the cases of the page's table, or `chosen`.
 
-A line says, of N, 2 N and 4 N parts: the kilobytes that go in and those that are printed of 4 N; the millions of instructions
-that callgrind counts; the peak of memory in megabytes, by wait4; and of each of the two the step, from N to 2 N or from 2 N
-to 4 N, that is closest to its limit: how many times as much it takes, and how many times it may. The limit is what n log n
-grows by, and a tenth of it, or 2.3. For instructions n is the bytes that go in and those that are printed; for memory,
-from 8 MB on, it is those that go in, since nothing has to be kept that was printed. Chosen names may take 1.5 times what plain
-ones take, and the line's last figure says how many times that is. A run of more than S seconds of the processor (120) is
-stopped. --functions says after each line which F functions 4 N take most instructions in. The status is 1 where a case is
-past a limit, or stopped; the last line counts them. The inputs are written into bench/data.
-
---write leaves the figures in bench/figures.json; --check compares the table on the page with that file.
+A line has the kilobytes in and out of 4 N; and for N, 2 N and 4 N the millions of instructions by callgrind, and the peak of
+memory in megabytes. A step from N to 2 N, or from 2 N to 4 N, is how many times as much is taken; its limit is the growth of
+n log n and a tenth more, at least 2.3. For instructions n is the bytes in and out; for memory, from 8 MB on, the bytes in. The
+line has the step that is closest to its limit. Chosen names may take 1.5 times what plain names take. A run of more than S
+seconds (120) is stopped. --functions prints the F functions that take most instructions. The status is 1 if a case is past a
+limit or stopped.
 """
 import argparse
 import math
@@ -43,7 +38,6 @@ from row_format import LeftOut
 from slow_cases import CASES, HOSTILE
 from slow_shapes import FOLDER, OUT, ROWS
 
-OUTPUTS = OUT, chosen_names.OUT
 GRIND, PEAK, MESSENGER = (str(FOLDER / file) for file in ("callgrind.out", "peak", "message"))
 TIME = "/usr/bin/time"
 PROGRAMS = "wctrim", "wcwhy", "wcplan", "wc_tests"
@@ -105,8 +99,7 @@ class Run:
     def __init__(self, asked, program, words, stdin):
         self.is_stopped = False
         # what an earlier run wrote is no input of this one
-        for file in OUTPUTS:
-            pathlib.Path(file).unlink(missing_ok=True)
+        pathlib.Path(OUT).unlink(missing_ok=True)
         self.read = size_of(words, stdin)
         timed = [TIME, "-f", "%M", "-o", PEAK, program, *words]
         with open(stdin, "rb") as file:
@@ -145,8 +138,7 @@ def run_case(asked, title, many):
     program, words = CASES[title][0], CASES[title][2](*many)
     if program == "message":
         return Run(asked, MESSENGER, words, os.devnull)
-    rows = chosen_names.ROWS if title.startswith("chosen ") else ROWS
-    return Run(asked, getattr(asked, program), words, rows if words == ["-"] else os.devnull)
+    return Run(asked, getattr(asked, program), words, ROWS if words == ["-"] else os.devnull)
 
 
 def compare(asked, title):
@@ -253,12 +245,10 @@ def main():
     titles = [title for title in CASES if not wanted or set(words_of([title])) & set(wanted)]
     for tool in "valgrind", TIME:
         if not shutil.which(tool):
-            sys.exit("%s is not there: it counts what a run takes" % tool)
+            sys.exit("%s is missing: it counts instructions or memory" % tool)
     for program in sorted({CASES[title][0] for title in titles} & set(PROGRAMS)):
         if not os.path.exists(getattr(asked, program)):
-            sys.exit("%s is not there: build it, or name another" % getattr(asked, program))
-    for folder in FOLDER, chosen_names.FOLDER:
-        folder.mkdir(parents=True, exist_ok=True)
+            sys.exit("%s is missing: build it, or name another" % getattr(asked, program))
     if any(CASES[title][0] == "message" for title in titles):
         make_messenger(asked.library)
     print(TITLES % ("case", "N", "kB 4N", "out 4N", "N", "2N", "4N", "step", "limit", "MB N", "MB 2N", "MB 4N", "step", "limit"))

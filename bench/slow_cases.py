@@ -42,21 +42,17 @@ def plain_keys(count, imports):
     return plan(resolved({"k%d" % at: {"interface": {"id": 0}} for at in range(count)}, {}, [interface("i", functions)]))
 
 
-@case("plain-keys", "wcplan")
-def _(count):
-    """One interface of n functions under n keys."""
-    return plain_keys(count, ())
+# One interface of n functions under n keys
+case("plain-keys", "wcplan")(lambda count: plain_keys(count, ()))
 
 
 @case("plain-keys-imported", "wcplan", factor=0.25, hostile="one interface of n functions under n keys, all imported")
 def _(count):
-    """The same, and all functions are imported under one key."""
     return plain_keys(count, [("k0", "f%d" % at, 0) for at in range(count)])
 
 
 @case("versions-params", "wcplan", hostile="one function of n parameters, imported by n versions of a track")
 def _(count):
-    """A function of n parameters that is imported by n versions of one track."""
     core(MAIN, [(track(at), "f", 0) for at in range(count)], types=[signature(b"\x7f")], memory=True)
     return plan(resolved(imported(), {}, [interface("i", [function("f", ["u8"] * count)])]))
 
@@ -79,7 +75,6 @@ def _(count):
 
 @case("task-return", "wcplan", factor=0.5, hostile="`task.return` of a function of n parameters, by n versions of a track")
 def _(count):
-    """The task.return of a function of n parameters, by n versions of one track."""
     imports = [("[export]" + track(at), "[task-return]f", 0) for at in range(count)]
     core(MAIN, imports, [("my:p/i@1.0.0#f", count)], [signature(), signature(b"\x7f")], [1], memory=True)
     return plan(resolved({}, imported(), [interface("i", [function("f", ["u8"] * count)])]))
@@ -146,7 +141,6 @@ def _(count):
 
 @case("adapter-type", "wcplan", hostile="one type of n parameters, n imports of an adapter's functions")
 def _(count):
-    """One type of n parameters, and n imports of functions of it that an adapter exports."""
     wide, names = [signature(b"\x7f" * count)], ["f%d" % at for at in range(count)]
     core(MAIN, [("a", text, 0) for text in names], types=wide)
     core(ADAPTER, (), [(text, at) for at, text in enumerate(names)], wide, [0] * count)
@@ -176,22 +170,17 @@ def ways(count, form):
     return [*plan(resolved(imported(), {}, [held]), "--adapt=a=" + ADAPTER), "--why", "all", *form]
 
 
-@case("why-lines", "wcplan")
-def _(count):
-    """Why each of n functions is imported: the way to each is one longer than to the one before it, and is printed."""
-    return ways(count, [])
+# Why each of n functions is imported: the way to each is one longer than to the one before it, and is printed
+case("why-lines", "wcplan")(lambda count: ways(count, []))
 
 
 @case("why-json", "wcplan", factor=0.25, hostile="n imports of an adapter, each by a path that is an item longer: `--why all --json`")
 def _(count):
-    """The same, as JSON."""
     return ways(count, ["--json"])
 
 
-@case("why-graph", "wcplan")
-def _(count):
-    """The same, as a graph."""
-    return ways(count, ["--dot"])
+# The same, as a graph
+case("why-graph", "wcplan")(lambda count: ways(count, ["--dot"]))
 
 
 @case("why-wide", "wcplan")
@@ -388,15 +377,11 @@ def before(at):
 
 @case("used-chain", "wcplan", factor=0.5, hostile="n exported interfaces, each of which uses the one before")
 def _(count):
-    """n exported interfaces, each of which uses the one before, so that it leads to all before it: the sets of those that
-    they use have n (n - 1) / 2 ids."""
     return users(count, before)
 
 
-@case("used-first-json", "wcplan")
-def _(count):
-    """n exported interfaces, each of which uses the first one: the record has a list of one interface for each."""
-    return [*users(count, lambda at: [0] if at else []), "--json"]
+# n exported interfaces, each of which uses the first one: the record has a list of one interface for each
+case("used-first-json", "wcplan")(lambda count: [*users(count, lambda at: [0] if at else []), "--json"])
 
 
 @case("used-joined", "wcplan", factor=16)
@@ -446,10 +431,8 @@ def _(count):
     return plan(resolved(imported(), {}, [interface("i", [function("f", ids)])], [typed({"type": "u8"})] * largest))
 
 
-@case("used-chosen", "wcplan", factor=32)
-def _(count):
-    """The same of a set of interfaces that one interface uses."""
-    return used_by_last(*chosen_ids(count))
+# The same of a set of interfaces that one interface uses
+case("used-chosen", "wcplan", factor=32)(lambda count: used_by_last(*chosen_ids(count)))
 
 
 def futures(count, types, params):
@@ -458,10 +441,8 @@ def futures(count, types, params):
     return plan(resolved(imported(), {}, [interface("i", [function("f", params)])], types))
 
 
-@case("futures-params", "wcplan", factor=4)
-def _(count):
-    """A function of n futures, of which each is asked for by its number."""
-    return futures(count, [typed({"future": None})] * count, range(count))
+# A function of n futures, of which each is asked for by its number
+case("futures-params", "wcplan", factor=4)(lambda count: futures(count, [typed({"future": None})] * count, range(count)))
 
 
 @case("futures-chain", "wcplan", factor=4)
@@ -511,28 +492,14 @@ def mixed(count):
     return order
 
 
-@case("ranges-ascending", "wc_tests", factor=8)
-def _(count):
-    """Every second number, put into a set of ranges one after another."""
-    return row("range_set", ["insert %d" % at for at in range(0, 2 * count, 2)])
-
-
-@case("ranges-descending", "wc_tests", factor=8)
-def _(count):
-    """The same, the last first: each is put before all others."""
-    return row("range_set", ["insert %d" % at for at in range(0, 2 * count, 2)[::-1]])
-
-
-@case("ranges-mixed", "wc_tests", factor=8)
-def _(count):
-    """The same, in an order that chance makes."""
-    return row("range_set", ["insert %d" % at for at in mixed(count)])
-
-
-@case("ranges-extended", "wc_tests", factor=8)
-def _(count):
-    """The same, all at once."""
-    return row("range_set", ["extend " + " ".join(map(str, mixed(count)))])
+# Every second number, put into a set of ranges one after another
+case("ranges-ascending", "wc_tests", factor=8)(lambda count: row("range_set", ["insert %d" % at for at in range(0, 2 * count, 2)]))
+# The same, the last first: each is put before all others
+case("ranges-descending", "wc_tests", factor=8)(lambda count: row("range_set", ["insert %d" % at for at in range(0, 2 * count, 2)[::-1]]))
+# The same, in an order that chance makes
+case("ranges-mixed", "wc_tests", factor=8)(lambda count: row("range_set", ["insert %d" % at for at in mixed(count)]))
+# The same, all at once
+case("ranges-extended", "wc_tests", factor=8)(lambda count: row("range_set", ["extend " + " ".join(map(str, mixed(count)))]))
 
 
 # Why imports of an adapter stay
@@ -552,21 +519,18 @@ def calling(imports, functions, named=False):
 
 @case("asked-imports", "wcwhy", hostile="`wcwhy` with n `--import` over n imports")
 def _(count):
-    """The paths to n imports of n, each of which is asked for by its name."""
     calling(count, 0)
     return [ADAPTER, *("--import=env=import-%d" % at for at in reversed(range(count))), "f"]
 
 
 @case("asked-imports-dot", "wcwhy", hostile="the same, `--dot`")
 def _(count):
-    """The same, as a graph."""
     calling(count, 0)
     return [ADAPTER, "--dot", *("--import=env=import-%d" % at for at in reversed(range(count))), "f"]
 
 
 @case("named-functions", "wcwhy", factor=100_000 / 2048, hostile="`wcwhy` of one import and n named functions")
 def _(count):
-    """The path to one import of an adapter of n functions, all of which have names."""
     calling(1, count - 1, named=True)
     return [ADAPTER, "--import=env=import-0", "f"]
 

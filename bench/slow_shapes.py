@@ -13,8 +13,7 @@ from module_bytes import HEADER, name, number, section, vector
 
 
 def own_folder(path):
-    """A folder at this path, or at this path and a number: the first that no other run uses now. It is this run's until it
-    ends."""
+    """A folder at this path, or this path and a number: the first that no other run uses. It is this run's until its end."""
     for at in itertools.count(1):
         folder = path if at == 1 else path.with_name("%s-%d" % (path.name, at))
         folder.mkdir(parents=True, exist_ok=True)

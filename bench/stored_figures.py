@@ -1,7 +1,7 @@
-"""Figures that are kept in bench/figures.json, and the tables that are made of them on docs/PERFORMANCE.md.
+"""Figures that are kept in bench/figures.json, and the tables made of them on docs/PERFORMANCE.md.
 
-Each script's figures have a name there, with the date, the kit, the load of the machine before the run, and rows by their
-names. On the page its table is between two comments that have the same name.
+The figures of a script have a name, the date, the kit, the machine's load before the run, and rows by their names. On the page
+their table is between two comments with that name.
 """
 import datetime
 import json

@@ -4,31 +4,21 @@
     trimming.py [--program PROGRAM] [--beside PROGRAM] [--floor PROGRAM] [--instructions] [--rounds N] [--most COUNT]
         [SHAPE|FILE ..]
     trimming.py --instructions --write      # the rows of the table in docs/PERFORMANCE.md, and puts them there
-    trimming.py --check                     # nothing is run
+    trimming.py --check                     # compares that table with bench/figures.json, and runs nothing
 
-PROGRAM is crates/wctrim/out/wctrim unless another is named; `./wctrim --build` makes it. The shapes are those of
-checks/adapter_shapes.py, which are trimmed, and `repeats` and `mixed` of generate.py, whose imports are renamed. All are
-made, in bench/data/trimming, unless some are named, each with its largest count, a tenth and a hundredth of it, and with no
-more than COUNT items. A FILE, whose name ends in .wasm, is an adapter, which is trimmed to all of its exports and to four of
-them. For each module a line says its items (of a file its exports), its bytes and those that are written, the fastest of N
-runs (5, unless another number is given) from the start of the process to its end, the nanoseconds for each byte of the
-module; the most memory and how many bytes that are for each byte of the module, where GNU's time is installed. Where
-binaryen is, wasm-metadce is timed once on the same adapter and the same exports (but not with --write).
+PROGRAM is crates/wctrim/out/wctrim by default. The shapes are those of checks/adapter_shapes.py, which are trimmed, and
+`repeats` and `mixed` of generate.py, whose imports are renamed; each with its largest count, a tenth and a hundredth of it, and
+at most COUNT items. A FILE that ends in .wasm is an adapter, trimmed to all its exports and to four of them. A line has the
+items, the bytes in and out, the fastest of N runs (5), the nanoseconds and the memory for each byte, if GNU's time is
+installed; and the time of wasm-metadce, if that is.
 
-With --instructions the millions of instructions that callgrind counts come next, where valgrind is installed; and where cc
-is, a second line has those of the shape's floor, a run of floors.c, and the last column says how many times these the
-program takes. --floor names that program where it is compiled already. With --beside a line has the figures of another
-program in the same run, such as one that was built before a change. All have to write the same bytes and to print the same
-lines.
+--instructions adds the millions of instructions by callgrind, and a line for the shape's floor, a run of floors.c (or of
+--floor, compiled already), with how many times as many the program takes. --beside adds a line for another build. All have to
+write the same bytes and lines.
 
-Each output is given to the program again, which has to leave it as it is (but for a start function, which allocates the
-stack of an adapter, and which no adapter may have); and wasm-validate has to accept it where it is installed and accepts
-the module (it refuses `globals`, where an initialiser names a global that is not imported). The status is 1 where one of
-these does not hold.
-
---write leaves the figures in bench/figures.json, with the date, the kit and the load of the machine before the run; the
-column `before` there stays as it is, and times are left out, since they mean something on an idle machine alone. --check
-compares the table on the page with that file.
+Each output, given to the program again, has to stay as it is, unless it has a start function; and wasm-validate has to accept
+it, if it accepts the module (it refuses `globals`). The status is 1 if something differs. --write leaves out times, since they
+mean something on an idle machine alone, and keeps the column `before`.
 """
 import argparse
 import json
@@ -77,8 +67,7 @@ HEAD = "| Module | Items | Bytes | Before | Instructions | Floor | Times the flo
 
 
 class Module:
-    """A module that is given to programs: its shape and its count, its file, the exports that are wanted of it, or None where
-    its imports are renamed."""
+    """A module that programs get: its shape, its count, its file, and the exports that are wanted, or None if it is renamed."""
 
     def __init__(self, shape, count, path, wanted=None):
         self.shape, self.count, self.path, self.wanted = shape, count, path, wanted
@@ -201,8 +190,7 @@ def check(program, module, target):
 
 
 def measure(asked, module):
-    """Gives a module to each program, and prints a line for each: the figures of the program and of its floor; and what is
-    wrong."""
+    """Gives a module to each program, and prints a line for each: the figures of the program and of its floor, and the fault."""
     target, other = module.path.with_suffix(".written"), module.path.with_suffix(".other")
     first = Figures(asked, asked.program, module, target)
     if first.fault:
@@ -299,7 +287,7 @@ def main():
         return stored_figures.check("trimming", table)
     load = os.getloadavg()[0]
     if not os.access(asked.program, os.X_OK):
-        sys.exit("%s is not there: build it, or name another" % asked.program)
+        sys.exit("%s is missing: build it, or name another" % asked.program)
     FOLDER.mkdir(parents=True, exist_ok=True)
     if asked.instructions and not asked.floor:
         asked.floor = compiled_floors()

@@ -4,17 +4,16 @@
     checks/adapters.py [PROGRAM]
     checks/adapters.py --cut EXPORT FILE
 
-Rust's `wasm-component-ld` carries three WASI adapters, and puts into a component what its programs use of them; it
-rests on the Rust crate `wit-component`. The script takes the adapters out of each toolchain's linker, links programs
-of `checks/c/wasi` with each, takes the trimmed adapter out of each component, and trims the adapter to the same exports
-by `wctrim trim`. All sections but custom ones have to be the same, byte for byte. `wasm-validate` has to accept each
-output, and one without a start function has to be the same when it is trimmed again. PROGRAM is
-`crates/wctrim/out/wctrim`, unless another is given. A line is printed for each adapter that differs, and at last how
-many agreed; the status is 1 where one differs, or where there is none to compare. It needs a rustup toolchain, clang, lld, wabt,
-wasi-libc and libclang-rt-dev-wasm32.
+Rust's `wasm-component-ld` carries three WASI adapters, and puts what programs use of them into components, by the Rust crate
+`wit-component`. This script takes the adapters out of each toolchain's linker, links the programs of `checks/c/wasi` with each,
+takes the trimmed adapter out of each component, and trims the adapter to the same exports by PROGRAM (default:
+`crates/wctrim/out/wctrim`). All sections but custom ones have to be the same bytes. `wasm-validate` has to accept each output,
+and one without a start function stays the same when it is trimmed again. A line is printed for each difference, and at last
+how many agree; the status is 1 if one differs, or if there is none. It needs a rustup toolchain, clang, lld, wabt, wasi-libc and
+libclang-rt-dev-wasm32.
 
-With --cut it writes the first adapter with this export, of the toolchain of the rustc on PATH or of another, to a file, and
-needs no other tool.
+--cut writes the first adapter with this export, of the toolchain of the rustc on PATH or of another, to a file. It needs no
+other tool.
 """
 import argparse
 import glob
@@ -120,7 +119,7 @@ def is_trimmed(program, path, options, wanted):
 
 
 def compare(program, source, name, path):
-    """Compares the trimmed adapter in a component with what the program makes; None where there is none."""
+    """Compares the trimmed adapter in a component with what the program makes; None if there is none."""
     data = read(path)
     main, *others = [content for id, content in sections(data) if id == 1]
     for module in others:
@@ -157,7 +156,7 @@ def cut(export, target):
     if seen:
         print("no adapter with the export %s in %s" % (export, " ".join(seen)), file=sys.stderr)
     else:
-        print("there is no wasm-component-ld: rustup's toolchains have it, and wasi-sdk", file=sys.stderr)
+        print("wasm-component-ld is missing: rustup's toolchains and wasi-sdk have it", file=sys.stderr)
     return 1
 
 

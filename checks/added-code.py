@@ -3,26 +3,26 @@
 
     checks/added-code.py [FILE]
 
-The code is that of the rows of `realloc_via_memory_grow` and `allocate_stack_via_realloc` in crates/wc_tests/data, so the
-merge gate compares it with what the program makes. The machine is this script's own: crates/wc_gc/MODEL.md has its rules
-(What the added code does). FILE, checks/added-code.rows unless another is named, has rows of these calls:
+The code is that of the rows of `realloc_via_memory_grow` and `allocate_stack_via_realloc` in crates/wc_tests/data. The machine
+is this script's own; crates/wc_gc/MODEL.md has its rules ("What the added code does"). FILE (default: checks/added-code.rows)
+has rows of these calls:
 
-    machine EXPONENT            over a memory whose pages have 2^EXPONENT bytes. The first line of input says the code:
-                                `growing`, the realloc for such pages; `stack REALLOC STACK-POINTER [STATE]`; or `body`
-                                and bytes. Each other line is a step: `globals VALUE..`, `pages COUNT` (up to 2^32),
-                                `grants yes no ..` (whether growths to come are granted), `enter ARGUMENT..`,
-                                `answer VALUE` and `trap` (of the call that waits), `write GLOBAL VALUE` (by other code),
-                                `state`. Answered is how far the code ran, `result VALUE`, `end`, `trap`,
-                                `call FUNCTION ARGUMENT..`, `no meaning` or `nothing`; and the state
+    machine EXPONENT            over a memory whose pages have 2^EXPONENT bytes. The first line of input is the code: `growing`,
+                                the realloc for such pages; `stack REALLOC STACK-POINTER [STATE]`; or `body` and bytes. The
+                                other lines are steps: `globals VALUE..`, `pages COUNT` (up to 2^32), `grants yes no ..` for
+                                later growths, `enter ARGUMENT..`, `answer VALUE` and `trap` of the waiting call, `write GLOBAL
+                                VALUE` by other code, `state`. The answers are `result VALUE`, `end`, `trap`, `call FUNCTION
+                                ARGUMENT..`, `no meaning` or `nothing`; and the state
     growing_samples SEED COUNT, lazy_samples SEED COUNT
                                 in how many of COUNT runs, over generated states and events, the code did what it has to
 
-Prints each row whose answer differs, with both, and last how many agree; the status is 1 where one differs.
+A row whose answer differs is printed, and at last how many agree; the status is 1 if one differs.
 """
 import argparse
 import pathlib
 import sys
 
+from module_bytes import signed_at, unsigned_at
 from row_format import answered_bytes, bytes_of, rows_of
 
 sys.path.append(str(pathlib.Path(__file__).resolve().parent.parent / "tools"))
@@ -159,34 +159,17 @@ BINARY = {
 WITH_NUMBER = {0x04, 0x10, 0x20, 0x22, 0x23, 0x24, 0x40, 0x41}
 
 
-def signed_at(data, at):
-    """A signed number, and the index after it."""
-    value, shift = 0, 0
-    while True:
-        value |= (data[at] & 0x7F) << shift
-        shift, at = shift + 7, at + 1
-        if data[at - 1] < 0x80:
-            return (value - (1 << shift) if data[at - 1] & 0x40 else value), at
-
-
-def number_at(data, at):
-    """An unsigned number, and the index after it."""
-    value, after = signed_at(data, at)
-    return value % (1 << 7 * (after - at)), after
-
-
 def code_of(data):
-    """How many locals a body has, and its operators, each with the number after it. Of one that is none of the machine the
-    code alone is read."""
-    count, at = number_at(data, 0)
+    """The number of locals of a body, and its operators, each with its number; without one if the machine lacks the operator."""
+    count, at = unsigned_at(data, 0)
     own, operators = 0, []
     for _ in range(count):
-        of_type, at = number_at(data, at)
+        of_type, at = unsigned_at(data, at)
         own, at = own + of_type, at + 1
     while at < len(data):
         code, immediate, at = data[at], None, at + 1
         if code in WITH_NUMBER:
-            immediate, at = (signed_at if code in (0x04, 0x41) else number_at)(data, at)
+            immediate, at = (signed_at if code in (0x04, 0x41) else unsigned_at)(data, at)
         operators.append((code, immediate))
     return own, operators
 

@@ -1,18 +1,19 @@
 """Chromium and Firefox without a window, which open an address and evaluate expressions there.
 
 Chromium is asked over a pipe, in the protocol of its developer tools; Firefox over a port of this machine, by Marionette.
+Debian has no driver for Firefox, which python3-selenium would need.
 """
-import base64
 import json
 import os
 import shutil
 import socket
 import subprocess
+import tempfile
 import time
 
 SECONDS = 300
 
-# of keys that are no character: the code, the number and the text
+# the number and the text of keys that are no character
 KEYS = {"Tab": (9, ""), "Enter": (13, "\r"), "Escape": (27, ""), "End": (35, ""), "Home": (36, ""), "ArrowUp": (38, ""), "ArrowDown": (40, "")}
 
 
@@ -74,14 +75,6 @@ class Chromium:
 
     def resize(self, width, height):
         self.call("Emulation.setDeviceMetricsOverride", width=width, height=height, deviceScaleFactor=1, mobile=False)
-
-    def dark(self, is_dark):
-        self.call("Emulation.setEmulatedMedia", features=[{"name": "prefers-color-scheme", "value": "dark" if is_dark else "light"}])
-
-    def picture(self, path):
-        """Writes a picture of the window to a file."""
-        with open(path, "wb") as file:
-            file.write(base64.b64decode(self.call("Page.captureScreenshot", format="png")["data"]))
 
     def close(self):
         self.process.kill()
@@ -151,8 +144,27 @@ class Firefox:
 
 
 def program_of(browser):
-    """The program of a browser; None where there is none."""
+    """The program of a browser; None if there is none."""
     return next(filter(None, map(shutil.which, browser.programs)), None)
+
+
+def show_example(make_page):
+    """Opens a page, which a function makes at a path, from a disk in each browser, until it shows its example; their names."""
+    there = [kind for kind in (Chromium, Firefox) if program_of(kind)]
+    for kind in there:
+        with tempfile.TemporaryDirectory(ignore_cleanup_errors=True) as folder, tempfile.TemporaryDirectory(ignore_cleanup_errors=True) as profile:
+            path = os.path.join(folder, "nuigatre.html")
+            make_page(path)
+            browser = kind(program_of(kind), profile)
+            try:
+                browser.open(f"file://{path}?example&seconds={SECONDS}")
+                waited(browser, '(document.querySelector("#numbers")?.textContent.length ?? 0) > 0')
+                numbers, faults = (browser.ask('document.querySelector("#%s").textContent' % it) for it in ("numbers", "faults"))
+            finally:
+                browser.close()
+        if faults or "512 bytes → 317 bytes" not in numbers:
+            raise Failed(f"{kind.name}: {numbers} {faults}")
+    return [kind.name for kind in there]
 
 
 def waited(browser, expression):

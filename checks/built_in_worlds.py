@@ -231,8 +231,7 @@ class World:
         self.exports.append(("[callback][async-lift]" + named, ["i32"] * 3, ["i32"]))
 
     def transfers(self, of, named, ty, params=()):
-        """Built-ins for a future or a stream, which is the last one of a function: after those of its parameters, and those
-        that it carries."""
+        """Built-ins for a function's last future or stream: after those of its parameters, and those that it carries."""
         kind, payload = ty
         at = "unit" if payload is None else str(sum(1 for part in [*params, payload] for _ in carriers(part)))
         words = ["i32"] * (3 if kind == "stream" else 2)
@@ -277,8 +276,7 @@ def has_text(ty):
 
 
 def module_of(imports, exports, memory, custom=b""):
-    """A module that has these imports, exports functions that call all of them and then trap, and exports a memory or imports
-    one."""
+    """A module with these imports, exported functions that call all of them and then trap, and a memory that is exported or imported."""
     types, codes = [], b"\0"
 
     def type_of(params, results):

@@ -1,24 +1,25 @@
 #!/usr/bin/env python3
-"""Compiles the examples of examples/c over the static library, runs them, and compares what they answer.
+"""Compiles the examples of examples/c over the library, runs them, and compares their results.
 
     checks/c-examples.py [--library FOLDER] [--cases N] [PROGRAM]
 
-Each is compiled with cc as C99 and with c++ as C++11, all warnings refused, and linked with libnuigatre.a, and with a shared
-library that is made of it: by the flags that pkg-config reads from nuigatre.pc beside it, where there is pkg-config. The
-trimmed adapters have to be those of examples/, and plans those of PROGRAM, the script `wcplan` unless another is given. Then
-checks/c/fuzz_calls.c asks N damaged cases (2000). FOLDER has the library; else it is the one that cargo links. What differs is
-printed, and the status is 1. It needs cc and c++; rust/check runs it.
+Each is compiled as C99 and as C++11, with all warnings as errors, over libnuigatre.a and over a shared library made of it, with
+the flags of nuigatre.pc beside it, if pkg-config is installed. Trimmed adapters have to be those of examples/, and plans those
+of PROGRAM (default: the script `wcplan`). Then checks/c/fuzz_calls.c tries N damaged cases (2000). FOLDER has the library;
+the default is the one that cargo links. Differences are printed, and the status is 1. It needs cc and c++; rust/check runs it.
 """
 import argparse
 import json
 import os
 import re
 import shutil
-import subprocess
 import sys
 import tempfile
 
 from rust_examples import PLANS, TOP, lines_of
+
+sys.path.append(os.path.join(TOP, "tools"))
+from repository import run
 
 INCLUDE = os.path.join(TOP, "include")
 WARNINGS = ["-Wall", "-Wextra", "-Werror"]
@@ -33,7 +34,7 @@ def library_folder():
     folders = [given] if given else [os.path.join(TOP, "crates", "nuigatre", "out"), os.path.join(TOP, "rust", "unproved")]
     found = [folder for folder in folders if os.path.isfile(os.path.join(folder, "libnuigatre.a"))]
     if not found:
-        sys.exit("there is no libnuigatre.a: rust/check makes it")
+        sys.exit("libnuigatre.a is missing: rust/check makes it")
     return found[0]
 
 
@@ -42,17 +43,8 @@ def flags_of(folder):
     if not (shutil.which("pkg-config") and os.path.isfile(os.path.join(folder, "nuigatre.pc"))):
         return ["-I" + INCLUDE], ["-L" + folder, "-lnuigatre"]
     environment = {**os.environ, "PKG_CONFIG_PATH": folder}
-    asked = [subprocess.run(["pkg-config", flag, "nuigatre"], env=environment, capture_output=True, text=True, check=True)
-             for flag in ("--cflags", "--libs")]
-    return asked[0].stdout.split(), asked[1].stdout.split()
-
-
-def run(command, **how):
-    """What a command prints; ends where it fails."""
-    ran = subprocess.run(command, capture_output=True, text=True, check=False, **how)
-    if ran.returncode:
-        sys.exit("%s\n%s%s" % (" ".join(command), ran.stdout, ran.stderr))
-    return ran.stdout
+    asked = [run("pkg-config", flag, "nuigatre", env=environment).split() for flag in ("--cflags", "--libs")]
+    return asked[0], asked[1]
 
 
 class Built:
@@ -63,9 +55,9 @@ class Built:
         self.compiling, self.linking = flags_of(folder)
         self.shared = os.path.join(made, "libnuigatre.so")
         whole = ["-Wl,--whole-archive", os.path.join(folder, "libnuigatre.a"), "-Wl,--no-whole-archive"]
-        run(["cc", *WARNINGS, "-O2", "-fPIC", "-shared", *self.compiling, os.path.join(INCLUDE, "nuigatre_heap.c"), *whole,
-             "-o", self.shared])
-        exported = run(["nm", "-D", "--defined-only", self.shared])
+        run("cc", *WARNINGS, "-O2", "-fPIC", "-shared", *self.compiling, os.path.join(INCLUDE, "nuigatre_heap.c"), *whole,
+            "-o", self.shared)
+        exported = run("nm", "-D", "--defined-only", self.shared)
         if "rattle_" in exported:
             sys.exit("the shared library exports functions of its heap:\n" + exported)
 
@@ -76,7 +68,7 @@ class Built:
         linked += ["-L" + self.made, "-Wl,-rpath," + self.made] if heap == ("-lnuigatre",) else self.linking
         command = [*COMPILERS[compiler], *WARNINGS, "-O2", *self.compiling, source, *linked, "-o", program]
         # a library comes after what needs it
-        run([word for word in command if word != "-lnuigatre"] + ["-lnuigatre"])
+        run(*[word for word in command if word != "-lnuigatre"], "-lnuigatre")
         return program
 
     def ways(self, source):
@@ -101,7 +93,7 @@ def compare_trims(built):
     count, out = 0, os.path.join(built.made, "out.wasm")
     for way, program in built.ways("trim.c"):
         for adapter, trimmed, arguments in TRIMMED:
-            run([program, os.path.join(TOP, "examples", adapter), out, *arguments])
+            run(program, os.path.join(TOP, "examples", adapter), out, *arguments)
             with open(out, "rb") as found, open(os.path.join(TOP, "examples", trimmed), "rb") as wanted:
                 if found.read() != wanted.read():
                     sys.exit("trim.c by %s: another adapter than examples/%s" % (way, trimmed))
@@ -127,17 +119,17 @@ def compare_plans(built, wcplan):
 def fuzz(built, cases):
     source = os.path.join(TOP, "checks", "c", "fuzz_calls.c")
     program = os.path.join(built.made, "fuzz_calls")
-    run(["cc", *WARNINGS, "-O2", *built.compiling, source, *built.linking, "-o", program])
+    run("cc", *WARNINGS, "-O2", *built.compiling, source, *built.linking, "-o", program)
     plan = PLANS[0]
     world, name, main, adapter, key = plan.arguments
-    return run([program, str(cases), "0", world, name, main, adapter, key], cwd=plan.folder)
+    return run(program, str(cases), "0", world, name, main, adapter, key, cwd=plan.folder)
 
 
 def main():
     parser = argparse.ArgumentParser(description=__doc__, formatter_class=argparse.RawDescriptionHelpFormatter)
     parser.add_argument("--library", metavar="FOLDER", help="the folder of libnuigatre.a")
     parser.add_argument("--cases", type=int, default=2000, metavar="N", help="how many damaged cases are asked")
-    parser.add_argument("program", nargs="?", default=os.path.join(TOP, "wcplan"), metavar="PROGRAM")
+    parser.add_argument("program", nargs="?", type=os.path.abspath, default=os.path.join(TOP, "wcplan"), metavar="PROGRAM")
     arguments = parser.parse_args()
     with tempfile.TemporaryDirectory() as made:
         built = Built(made, os.path.abspath(arguments.library or library_folder()))

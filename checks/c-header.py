@@ -1,12 +1,11 @@
 #!/usr/bin/env python3
-"""Compares what include/nuigatre.h and the Rust crate declare of the static library with its sources.
+"""Compares the declarations of include/nuigatre.h and of the Rust crate with the sources of the static library.
 
     checks/c-header.py
 
-Compared are the functions of crates/nuigatre, with the names, the order and the types of their parameters and their
-results; the number of their form; the fields of an answer, the statuses, and the numbers of calls; the numbers of faults, and which faults carry
-which; and the functions that give the library its memory, with those of the Rust crate. Each difference is a line. The
-status is 1 where there is one.
+Compared are the functions of crates/nuigatre with their parameters and results; the number of their form; the fields of an
+answer; the numbers of statuses, calls and faults; which faults carry which; and the functions that give the library its memory.
+A line is printed for each difference; the status is then 1.
 """
 import argparse
 import pathlib
@@ -18,7 +17,7 @@ from repository import TOP, code_of, files_of, libraries, read
 
 NUMBERS = {"u32": "uint32_t", "u64": "uint64_t", "usize": "size_t", "bool": "bool", "Answer": "nuigatre_answer",
            "Allocated": "nuigatre_allocated"}
-# of each parameter of a slice, the type of the pointer that is passed before the length
+# the type of the pointer that is passed, before the length, for a parameter that is a slice
 SLICES = {"&[u8]": "const uint8_t *", "&[&[u8]]": "const nuigatre_slice *", "&mut [u8]": "uint8_t *"}
 # the types of the Rust crate's declarations
 POINTERS = {"*const u8": "const uint8_t *", "*const Slice<'_>": "const nuigatre_slice *", "*mut u8": "uint8_t *",

@@ -1,18 +1,16 @@
 #!/usr/bin/env python3
-"""Compares the chains that `wcwhy` prints with those of another search, breadth first in Python over what wasm-objdump lists.
+"""Compares the paths that `wcwhy` prints with those of another search, breadth first in Python over what wasm-objdump lists.
 
     checks/chains.py [PROGRAM] [ADAPTER ..]
 
-PROGRAM is crates/wcwhy/out/wcwhy unless another is named. The ADAPTERs are those that Rust's `wasm-component-ld` carries, as
-in checks/adapters.py, three in each toolchain of rustup, unless files are named. For each of its exports alone, for all of
-them, and for ten choices of them, every import has to have a chain just where this search finds one, of the same length;
-and the chain has to be one: each item is named by the one before it. Then it asks by `--import` for the imports of one
-module: an item has to be marked just where none of them is reached without it, and it is none of them. A line is printed for
-each that differs, and at last how many agreed; the status is 1 where one differs, or where there is none to compare. It needs
-wabt.
+PROGRAM is crates/wcwhy/out/wcwhy by default. The ADAPTERS are by default those that Rust's `wasm-component-ld` carries, as in
+checks/adapters.py. For each export alone, for all of them, and for ten choices of them, an import has to have a path just if this
+search finds one, of the same length, and each item of the path names the next. Then it asks by `--import` for the imports of
+one module: an item has to be marked just if none of them is reached without it, and it is none of them. A line is printed for
+each difference, and at last how many agree; the status is 1 if one differs, or if there is none. It needs wabt.
 
-A function names what its operators do: functions, globals, tables, and the memory 0. Types are left out, since no import is
-reached by one, and initialisers: adapters whose globals are initialised by imports are not judged.
+Types are left out, since they lead to no import, and initialisers: adapters whose globals are initialised by imports are not
+judged.
 """
 import argparse
 import collections
@@ -25,7 +23,7 @@ import sys
 import tempfile
 
 from adapters import linkers, modules_inside, read
-from module_bytes import content, name_at, number_at
+from module_bytes import content, items, name_at, number_at
 
 sys.path.append(str(pathlib.Path(__file__).resolve().parent.parent / "tools"))
 from repository import TOP, need
@@ -39,31 +37,31 @@ NAMED = {"call": "func", "return_call": "func", "ref.func": "func", "global.get"
 
 def imports_of(module):
     """The module, the name and the item of each import, in the order of the file."""
-    data, found, counts = content(module, 2), [], collections.Counter()
-    count, at = number_at(data, 0)
-    for _ in range(count):
+    counts = collections.Counter()
+
+    def imported(data, at):
         field, at = name_at(data, at)
         name, at = name_at(data, at)
         kind = KINDS[data[at]]
         # a table and a global have a byte of a type; limits have a flag, and a maximum where it is odd
         at += 1 + (kind in ("table", "global"))
-        limits = 1 + (data[at] & 1) if kind in ("table", "memory") else 0
-        for _ in range(limits + 1):
+        for _ in range(2 + (data[at] & 1) if kind in ("table", "memory") else 1):
             _, at = number_at(data, at)
-        found.append((field, name, (kind, counts[kind])))
         counts[kind] += 1
-    return found
+        return (field, name, (kind, counts[kind] - 1)), at
+
+    return items(content(module, 2), imported)
 
 
 def exports_of(module):
     """The names of the exports, with their items."""
-    data, found = content(module, 7), {}
-    count, at = number_at(data, 0)
-    for _ in range(count):
+
+    def exported(data, at):
         name, at = name_at(data, at)
         index, after = number_at(data, at + 1)
-        found[name], at = (KINDS[data[at]], index), after
-    return found
+        return (name, (KINDS[data[at]], index)), after
+
+    return dict(items(content(module, 7), exported))
 
 
 def references_of(path):
@@ -106,7 +104,7 @@ def lines_of(program, path, names):
 
 
 def chains_of(lines):
-    """Of each line of an import the export and the items under it."""
+    """The import, the export and the items of each path."""
     found = []
     for line in lines:
         words = line.split()

@@ -17,9 +17,9 @@ It prints a line for each thing that is wrong, and ends with status 1 where ther
 - docs/MAP.md has a row for each crate, in the order of crates.txt;
 - docs/PERFORMANCE.md: each table comes after a date in its section;
 - a library's README: each public function says in its source what it does, and each variant of a fault when it comes; a
-  function is on the page unless it is of a type;
-  under "What is promised" each function has the clauses that are named after it; under "What functions require" is each
-  function with a `requires`, and no other;
+  function is on the page unless it is of a type. Under "What is promised", also in docs/PATHS.md, each function has the
+  clauses that are named after it. Under "What functions require" is each function with a `requires`, and no other: in
+  the first column of a table, or in a list after a colon;
 - sources, definitions and lemmas say at their head what is in them;
 - docs in sources name the thing: their first line doesn't begin with "What" or "The same".
 """
@@ -208,7 +208,7 @@ def folders_of_crates():
 
 def is_file(document, name):
     """Whether a path is that of a file: from the top, from the document's folder, in a crate or in tests."""
-    is_pattern = "*" in name or any(part.isupper() for part in name.split("/"))
+    is_pattern = "*" in name or re.search(r"(^|/)[A-Z_]+(\.\w+)?(/|$)", name)
     if name.startswith("/") or not re.search(r"\w", name) or is_pattern or name in WRITTEN or any(made in name for made in MADE):
         return True
     folders = [os.path.dirname(document), *folders_of_crates()]
@@ -218,7 +218,7 @@ def is_file(document, name):
     return "/" not in name and name in names_in_crates()
 
 
-PATH = r"[\w.-]+(/[\w.-]+)+/?|[\w-]+\.(rt|antt|rows|py|sh|md|wasm|wat|edit|txt|c)"
+PATH = r"[\w.-]+(/[\w.-]+)+/?|[\w-]+\.(rt|antt|rows|py|sh|md|wasm|wat|edits?|txt|c)"
 
 
 def names_in(text):
@@ -285,7 +285,7 @@ def options_of(script):
 def check_commands(document):
     for number, words in commands_of(document):
         script = re.fullmatch(SCRIPT, words[0])[1]
-        if re.search(r"/[A-Z]+$", script):
+        if re.search(r"/[A-Z]+(\.\w+)?$", script):
             continue
         if script not in ("wctrim", "wcplan", "wcwhy", "wctests") and not os.path.exists(os.path.join(TOP, script)):
             if not any(made in script for made in MADE):
@@ -366,18 +366,33 @@ class Crate:
                 or any(re.search(rf"\bghost {clause}\b", read(file)) for file in self.files))
 
 
+class Crates:
+    """Several crates, for a page about all of them: what one of them has."""
+
+    def __init__(self, crates):
+        self.crates = crates
+
+    def has(self, parts):
+        return any(crate.has(parts) for crate in self.crates)
+
+    def has_clause(self, functions, clause):
+        return any(crate.has_clause(functions, clause) for crate in self.crates)
+
+
 # The pages of the crates.
 
 
-def section_rows(document, heading):
-    """The rows of the tables under a heading: (number, cells)."""
-    rows, is_in = {}, False
+def requirements_in(document):
+    """The functions under "What functions require": (number, names), of a row's first cell, and of a list after a colon."""
+    heading, last = "", 0
     for number, kind, text in texts_of(document):
-        if kind == "heading":
-            is_in = text == heading
-        elif kind == "cell" and is_in:
-            rows.setdefault(number, []).append(text)
-    return sorted(rows.items())
+        heading = text if kind == "heading" else heading
+        if heading == "What functions require":
+            if kind == "cell" and number != last:
+                yield number, text
+            elif kind == "text":
+                yield from ((number, names) for names in re.findall(r": (`[\w:]+`(?:, `[\w:]+`)*)\.", text))
+        last = number
 
 
 def paths_in(cell):
@@ -416,8 +431,8 @@ def check_public(document, crate):
         if path not in crate.members and not named & set(path.split("::")):
             fault(document, 1, f"{path} is not on the page")
     requirements = {}
-    for number, cells in section_rows(document, "What functions require"):
-        requirements.update(("::".join(path), number) for path in paths_in(cells[0]))
+    for number, names in requirements_in(document):
+        requirements.update(("::".join(path), number) for path in paths_in(names))
     for path in sorted(crate.required - set(requirements)):
         fault(document, 1, f"{path} has a `requires`, and is not in the table of requirements")
     for path in sorted(set(requirements) - crate.required):
@@ -509,6 +524,7 @@ def main():
     check_beginnings()
     for crate in crates:
         check_crate(crate, crate.name in public)
+    check_clauses(os.path.join(TOP, "docs", "PATHS.md"), Crates([crate for crate in crates if crate.name in public]))
     for line in faults:
         print(line)
     print("all as wanted" if not faults else f"{len(faults)} not as wanted")

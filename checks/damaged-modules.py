@@ -1,24 +1,20 @@
 #!/usr/bin/env python3
-"""Damages modules byte by byte, and compares where the call `scan` of the library says that their bytes stop to be a module
-with what a reader of this script's own finds.
+"""Damages modules byte by byte, and compares where the library's call `scan` says that they stop to be modules with what a reader
+of this script's own finds.
 
     damaged-modules.py [--library FILE] [--cases N] [--first N] [--values N] [MODULE ..]
 
-The library is that of tests/rows.py, or the shared one in FILE. The modules are those of examples/, the adapters of
-adapter_shapes.py, and WHOLE, which has a section of each kind and a type of each; or the files that are named. At each byte
-of a module it is cut there, the byte is taken out, a zero is put in before it, and it is replaced by N values, spread over
-all 256 of them (17 unless given; WHOLE has all of them). Cases are all of these, or the N from number N on.
+The library is that of tests/rows.py, or the shared one in FILE. The modules are by default those of examples/, the adapters of
+adapter_shapes.py, and WHOLE, which has each kind of section and of type. At each byte a module is cut, the byte is taken out, a
+zero is put before it, and it is replaced by N values (17; of WHOLE by all). --first and --cases choose some of these cases.
 
-The reader goes over bytes by the rules of crates/wc_read/MODEL.md, one byte at a time. The fault and the place that are
-answered have to be those that it finds by the page's table of places; of a fault that comes at several places the first.
-Besides it finds the first byte at which no completion of the bytes before it is a module. For that it takes sections to end
-where their sizes say, and does not ask whether what is counted has room there. Where this byte is not at the place, it is
-counted by faults: in a header and in a name it comes after the start, which is the place, and in bounds it may come before
-the last byte, by which they are wrong as a whole. Left out are modules with initialisers that are not constant, or of which
-it isn't plain that they leave one value of the type.
+The reader follows crates/wc_read/MODEL.md, one byte at a time. Fault and place have to be those that it finds; of several places
+of a fault the first. It also finds the first byte at which no completion of the bytes before it is a module, and counts the
+faults whose place is another: in a header or a name it comes later, and in bounds it may come earlier. Left out are modules
+with initialisers that are not constant, or whose type it doesn't know.
 
-Of up to 20 modules a line says what is otherwise, and they are kept in checks/data/damaged-modules; the last lines count the
-faults. The status is 1 where something is otherwise.
+Up to 20 modules that differ are printed and kept in checks/data/damaged-modules; the last lines count the faults. The status is
+1 if one differs.
 """
 import argparse
 import collections
@@ -33,7 +29,7 @@ sys.path.append(str(TOP / "tests"))
 import calls
 import library
 from adapter_shapes import SHAPES
-from module_bytes import HEADER, name, number, section, vector
+from module_bytes import HEADER, name, section, vector
 from row_format import LeftOut
 
 KEPT = TOP / "checks" / "data" / "damaged-modules"
@@ -164,7 +160,7 @@ class Reader:
         return self.vector(self.value_type), self.vector(self.value_type)
 
     def bounds(self, flags):
-        """The maximum of limits, or the minimum where there is none."""
+        """The maximum of limits, or the minimum if there is none."""
         bits = 64 if flags & 4 else 32
         minimum, _ = self.number(bits)
         if not flags & 1:
@@ -311,7 +307,7 @@ def framed(data):
 
 
 def order(data, sections):
-    """Of each section whose name or place among others is wrong where that is."""
+    """Where each section is wrong whose name or position among others is wrong."""
     position = 0
     for start, kind, begin, end in sections:
         try:

@@ -1,22 +1,16 @@
 #!/usr/bin/env python3
-"""Runs `wcplan` on damaged texts of worlds, and looks for runs that end by a signal, not at all, or with another line.
+"""Runs `wcplan` on damaged texts of worlds, and looks for runs that end by a signal, not at all, or with a wrong line.
 
     damaged-worlds.py [--program PROGRAM] [--cases N] [--first N] [--seed SEED] [--folder FOLDER]
 
-PROGRAM is crates/wcplan/out/wcplan unless another is named. A case is the text of examples/wcplan/notes.json, damaged in
-one to three ways, with the modules beside it; with a FOLDER, which has the files that wcplan-real.py takes, every tenth
-case is its text and its modules. Cases are 200,000 unless another number is given, from number N on, 0 unless given. The
-same seed makes the same cases.
+PROGRAM is crates/wcplan/out/wcplan by default. A case is examples/wcplan/notes.json, damaged in one to three ways, with the modules
+beside it; with a FOLDER, as of wcplan-real.py, every tenth case is its text. The same seed makes the same cases, 200,000 of
+them, or N from number N on. The text is cut, or its bytes are changed; or in its tree a member or an item is removed, doubled,
+renamed or moved, a number, text or value is another one, or arrays and objects are nested up to 100,000 times.
 
-The text is cut, bytes in it are changed, taken out or put in; or in its tree a member is removed, doubled, renamed or
-moved, an item of a list removed or doubled, a number is one out of range or none at all, a text another one, a value the
-value of another place, or arrays and objects nested in each other up to 100,000 times.
-
-Each run has 10 seconds and 1 GB of memory. Its status has to be 0 or 1. With status 1 it has to print one line to
-standard error, which begins with `wcplan: `, under it none but lines that begin with two blanks, and nothing to standard
-output, and no file may be written; with status 0 lines of a plan to standard output alone, and all files are. No byte of
-a line may be a control character. What went wrong is printed, and kept in checks/data/damaged-worlds; the last lines
-count the runs. The status is 1 where one went wrong.
+A run has 10 seconds and 1 GB of memory. With status 0 it prints lines of a plan alone, and writes all files. With status 1 it
+prints a line to standard error that begins with `wcplan: `, under it lines that begin with two blanks, and writes no file. No
+line has a control character. Runs that go wrong are printed, and kept in checks/data/damaged-worlds; the status is then 1.
 """
 import argparse
 import collections
@@ -69,7 +63,7 @@ def written(value):
 
 
 def places(value, found):
-    """Of each value inside another one what it is in, and where there."""
+    """The value that each inner value is in, and its position there."""
     for at, it in enumerate(value):
         inside = it[1] if isinstance(value, Members) else it
         found.append((value, at))

@@ -1,23 +1,20 @@
 #!/usr/bin/env python3
-"""Finds what stands twice: lines of the product's sources and specs, definitions of specs, and statements of lemmas.
+"""Finds what is written twice: lines of the product's sources and specs, definitions of specs, and statements of lemmas.
 
     checks/duplicates.py [--all] [CRATE ..]
     checks/duplicates.py --shrink
 
-Lines: each text of ten lines or more that stands in two places, or more, of crates/*/src and crates/*/specs. Comments,
-blank lines, `use` lines and lines of brackets alone don't count, nor does how far a line is indented; and ten lines of
-which fewer than five differ are a table. Definitions: each `abbrev`, `record` and `data` of specs/ whose body is that of
-another one, but for its own name, the names of its variables, and names under which things are imported; in one crate, or
-of other types, a body has to have ten words, else six.
+Lines: texts of ten lines or more that are in crates/*/src and crates/*/specs twice, without comments, blank lines, `use` lines,
+lines of brackets alone, and indentation; at least five of the ten differ. Definitions: each `abbrev`, `record` and `data` of
+specs/ with the body of another one, up to its own name, names of variables, and imported names; a body has six words, or ten if
+both are in one crate or of other types. Statements: each lemma of proofs/*Lemmas.antt that states what another one does, up to
+names.
 
-Statements: each lemma of proofs/*Lemmas.antt that states what another one does, but for its name and those of variables.
+The crates are by default those of crates.txt, for lines those of the product. BOILERPLATE and ALIKE name what may be written
+twice, with reasons; --all prints that too. checks/duplicates.txt has how many of the other statements and definitions there may
+be: it only shrinks, by --shrink. State a lemma once, in the lowest crate that all who cite it see.
 
-The crates are those of crates.txt, or those that are named; those of the tests but for lines. Left out is what BOILERPLATE and
-ALIKE name, each with its reason; --all prints that too. How many there may be of other statements and definitions is stored
-in checks/duplicates.txt, which only shrinks: more are refused, and where there are fewer --shrink takes them out. State a
-lemma once, in the lowest crate that all who cite it see.
-
-The status is 1 where anything else is found, or where an entry of these lists fits nothing any more.
+The status is 1 if anything else is found, or if an entry of these lists fits nothing.
 """
 import argparse
 import collections
@@ -28,7 +25,7 @@ import re
 import sys
 
 sys.path.append(str(pathlib.Path(__file__).resolve().parent.parent / "tools"))
-from repository import TOP, files_of, parts_of, product_crates, used_by_crates
+from repository import TOP, files_of, imports_of, parts_of, product_crates, used_by_crates
 
 LEAST_LINES, LEAST_DIFFERENT = 10, 5
 # the words of a body that has the types of another one in another crate, and of one that has not
@@ -113,8 +110,7 @@ def counted(path):
 
 
 def matches(sources):
-    """The longest texts that stand twice: the lines, and the places, each a path and the numbers of its first and last
-    line."""
+    """The longest texts that are written twice: their lines, and where: a path, and the numbers of the first and the last line."""
     windows = collections.defaultdict(list)
     for path, lines in sources.items():
         for at in range(len(lines) - LEAST_LINES + 1):
@@ -166,13 +162,8 @@ def plain_parts(text):
 
 
 def imported(text):
-    """What the names that a file imports under other names are called where they come from."""
-    names = {}
-    for module, line in re.findall(r"^(?:pub )?use (\S+)\.\{(.*)\}", text, re.M):
-        for it in line.split(","):
-            real, _, alias = it.strip().partition(" as ")
-            names[alias or real] = real
-    return names
+    """The names that a file imports, each with its name there."""
+    return {here: there for _, there, here in imports_of(text)}
 
 
 def bound_in(text):

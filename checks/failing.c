@@ -1,49 +1,26 @@
 /* Runs a program over and over, in processes of its own, with the first, second, .. allocation failing, and writes into
-   REPORT_FILE a record for each: `run NUMBER STATUS ALLOCATIONS LENGTH BASE ADDRESS..`, and so many bytes that it printed.
+   REPORT_FILE a record for each: `run NUMBER STATUS ALLOCATIONS LENGTH`, and so many bytes that it printed.
    The number of the first is 0: none fails. failing-allocations.py loads it before the C library. */
 #define _GNU_SOURCE
 #include <signal.h>
 #include <stdio.h>
 #include <stdlib.h>
-#include <string.h>
-#include <sys/auxv.h>
 #include <sys/mman.h>
 #include <sys/wait.h>
 #include <unistd.h>
-
-#define DEPTH 60
 
 extern void *__libc_malloc(size_t size);
 extern void *__libc_calloc(size_t count, size_t size);
 extern void *__libc_realloc(void *old, size_t size);
 
-struct seen {
-    long made;
-    long depth;
-    unsigned long callers[DEPTH];
-};
-
-static struct seen none;
-static struct seen *seen = &none;
+static long none;
+/* how many allocations were asked for, in memory that the child shares */
+static long *made = &none;
 static long failing = -1;
 
-static void note_callers(void) {
-    unsigned long *frame = __builtin_frame_address(0);
-    char *low = (char *)frame;
-    while (seen->depth < DEPTH && (char *)frame >= low && (char *)frame < low + (1 << 22) && frame[1]) {
-        seen->callers[seen->depth++] = frame[1];
-        if (frame[0] <= (unsigned long)frame)
-            break;
-        frame = (unsigned long *)frame[0];
-    }
-}
-
 static int fails(void) {
-    seen->made += 1;
-    if (seen->made != failing)
-        return 0;
-    note_callers();
-    return 1;
+    *made += 1;
+    return *made == failing;
 }
 
 void *malloc(size_t size) { return fails() ? NULL : __libc_malloc(size); }
@@ -51,10 +28,7 @@ void *calloc(size_t count, size_t size) { return fails() ? NULL : __libc_calloc(
 void *realloc(void *old, size_t size) { return fails() ? NULL : __libc_realloc(old, size); }
 
 static void report(FILE *file, long number, int status, char *printed, size_t length) {
-    fprintf(file, "run %ld %d %ld %zu %lx", number, status, seen->made, length, getauxval(AT_PHDR) - 0x40);
-    for (long depth = 0; depth < seen->depth; depth++)
-        fprintf(file, " %lx", seen->callers[depth]);
-    fprintf(file, "\n");
+    fprintf(file, "run %ld %d %ld %zu\n", number, status, *made, length);
     fwrite(printed, 1, length, file);
 }
 
@@ -63,7 +37,7 @@ static int run(FILE *file, long number) {
     int ends[2], status = 0;
     size_t length = 0, room = 1 << 20;
     ssize_t got;
-    memset(seen, 0, sizeof *seen);
+    *made = 0;
     if (pipe(ends))
         _exit(2);
     pid_t child = fork();
@@ -94,12 +68,12 @@ __attribute__((constructor)) static void begin(void) {
     long most = atol(getenv("MOST")), spread = atol(getenv("SPREAD"));
     unsetenv("REPORT_FILE");
     FILE *file = fopen(name, "w");
-    seen = mmap(NULL, sizeof *seen, PROT_READ | PROT_WRITE, MAP_SHARED | MAP_ANONYMOUS, -1, 0);
+    made = mmap(NULL, sizeof *made, PROT_READ | PROT_WRITE, MAP_SHARED | MAP_ANONYMOUS, -1, 0);
     setvbuf(file, __libc_malloc(1 << 16), _IOFBF, 1 << 16);
     fflush(file);
     if (run(file, 0))
         return;
-    long count = seen->made, step = count > most ? (count + spread - 1) / spread : 1;
+    long count = *made, step = count > most ? (count + spread - 1) / spread : 1;
     for (long number = 1; number <= count; number += step) {
         fflush(file);
         if (run(file, number))

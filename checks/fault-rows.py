@@ -1,17 +1,16 @@
 #!/usr/bin/env python3
-"""Prints, for each fault of each library, a row of tests that reaches it, and for each fault that has a place a row that
-shows it, as the lists in checks/fault-rows.txt. And makes the tables of faults on the pages of the programs (TABLES), of the
-docs of each variant in the sources, and of what to do about it (checks/fault-hints.txt).
+"""Lists for each fault of each library a row of tests that results in it, and a row that shows its place; and makes the tables of
+faults on the pages of the programs.
 
     fault-rows.py            prints the lists
-    fault-rows.py --write    writes them into checks/fault-rows.txt, and the tables into the pages
-    fault-rows.py --check    compares them with that file, and with the pages; status 1 where they differ
+    fault-rows.py --write    writes them to checks/fault-rows.txt, and the tables to the pages
+    fault-rows.py --check    compares them; the status is 1 if they differ
 
-The faults and their texts are those of the definitions in specs/ (tools/fault_texts.py); the text of a variant for `Display`,
-`#[error("..")]`, has to be the same. A row reaches a fault where it wants the fault's text of
-a call that answers faults of this enum (CALLS), or that of another fault which carries it. No row can reach those of BARRED,
-and Memory is reached where an allocation fails (failing-allocations.py). The faults of the enums of PLACED have places, but
-for those of UNPLACED; a row shows one where it wants it after the fault. The status is 1 where any other fault has no row.
+Faults and texts are those of the definitions in specs/ (tools/fault_texts.py); `#[error("..")]` has to have the same text. A row
+results in a fault if it wants the fault's text, or the text of a fault that carries it, of a call with such faults (ANSWERED).
+No row can reach the faults of BARRED, and Memory comes of failed allocations. The faults of PLACED have places, but for those
+of UNPLACED. A table has the docs of each variant, and what to do about it (checks/fault-hints.txt). The status is also 1 if
+another fault has no row.
 """
 import argparse
 import functools
@@ -22,6 +21,7 @@ import sys
 sys.path.append(str(pathlib.Path(__file__).resolve().parent.parent / "tools"))
 from fault_texts import texts_of_faults
 from repository import TOP, files_of, product_crates, put_between, row_files
+from row_format import rows_of
 
 FILE = TOP / "checks" / "fault-rows.txt"
 HINTS = TOP / "checks" / "fault-hints.txt"
@@ -144,21 +144,11 @@ def readings(known, enum, text):
 
 
 def rows():
-    """Each row: its file, its name, its call and its lines of answer."""
+    """Each row that calls something: its file, its name, the words of its call and its lines of answer."""
     for path in row_files():
-        row = None
-        for line in path.read_text().splitlines():
-            word, _, rest = line.partition(" ")
-            if word in ("row", "fixture"):
-                if row and row[2]:
-                    yield row
-                row = (str(path.relative_to(TOP)), rest, [], [])
-            elif row and word == "call":
-                row[2].extend(rest.split())
-            elif row and word == "out":
-                row[3].append(rest)
-        if row and row[2]:
-            yield row
+        for row in rows_of(path):
+            if row.call:
+                yield str(path.relative_to(TOP)), row.name, [row.call, *row.arguments], row.answer
 
 
 def texts_in_buffer(lines):
@@ -204,8 +194,8 @@ def has_place(words, lines):
 
 
 def reached(known):
-    """Of each fault the row that reaches it: the first whose call answers it, else the first that answers one that carries
-    it; and likewise the row that shows its place. And lines on texts that are those of no fault of the call."""
+    """For each fault the row that reaches it: the first whose call answers it, or otherwise the first that answers a fault that
+    carries it; likewise the row that shows its place. And lines on texts that no fault of the call has."""
     found, places, unread = {}, {}, []
     for file, name, words, lines in rows():
         call = " ".join(words[:2]) if words[0] == "example" else words[0]
@@ -218,9 +208,9 @@ def reached(known):
             if not faults_shown:
                 unread.append("%s: %s: no fault of `%s`: %s" % (file, name, call, text))
             for depth, fault in enumerate(faults_shown or []):
-                for rows_of in [found] + ([places] if has_place(words, lines) else []):
-                    if fault not in rows_of or depth < rows_of[fault][0]:
-                        rows_of[fault] = (depth, file, name)
+                for by_fault in [found] + ([places] if has_place(words, lines) else []):
+                    if fault not in by_fault or depth < by_fault[fault][0]:
+                        by_fault[fault] = (depth, file, name)
     return found, places, unread
 
 
@@ -322,8 +312,7 @@ def hints():
 
 
 def causes(enum, crate):
-    """The docs of each variant of an enum, as cells of a table; up to their colon, where a sentence on a page may not be as
-    long."""
+    """The docs of each variant of an enum as cells of a table; up to their colon, if they are too long for a page."""
     for docs, variant in DOCUMENTED.findall(dict(enums_of(crate))[enum]):
         text = " ".join(re.sub(r"^///", "", line.strip()).strip() for line in docs.splitlines()).rstrip(".")
         text = text.partition(": ")[0] if len(text.split()) > MOST_WORDS else text
@@ -336,8 +325,7 @@ def quoted(text):
 
 
 def page_table(known, of_user, enum, title, before):
-    """A table of the faults of an enum: what is printed, the cause, and what to do. What an earlier row says in full is not
-    repeated."""
+    """A table of the faults of an enum: the printed text, the cause, and what to do, which isn't repeated in full."""
     crate, variants = known[enum]
     texts_of = {name: text.format(*("NAME" if it == "String" else "FAULT" for it in types)) for name, text, types in variants}
     lines, firsts = ["| %s | Cause | What to do |" % title, "|---|---|---|"], {}

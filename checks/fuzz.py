@@ -3,20 +3,17 @@
 
     fuzz.py [--program PROGRAM] [--cases N] [--first N] [--seed SEED] [--workers N] [--memory MB] [MODULE ..]
 
-PROGRAM is crates/wctrim/out/wctrim unless another is named, or the variable WCTRIM names one. A case is a file, which goes
-through `scan`, `dedupe` and `trim` to some of its exports, each with 1 GB of memory and 10 seconds; other MB may be given,
-and 0 for no bound, which a build with a sanitizer needs. The status has to be 0 or 1. What a trim wrote is trimmed again
-with the same arguments, and has to come out with the same bytes, unless a part may have been added: where the file has the
-name `__stack_pointer` in it. Cases are 200,000 unless another number is given, from number N on, 0 unless given. The same
-seed makes the same cases.
+PROGRAM is by default crates/wctrim/out/wctrim, or what the variable WCTRIM names. A case is a file that goes through `scan`,
+`dedupe` and `trim` to some of its exports, with 10 seconds and 1 GB of memory, or MB (0: no bound, for a sanitizer). The status
+has to be 0 or 1. A trimmed file, trimmed again, has to stay the same, unless it had the name `__stack_pointer`. The same seed
+makes the same cases, 200,000 of them, or N from number N on.
 
-MODULE is a file or a folder of files that end in .wasm or .o; without any they are those of examples/, and those that other scripts made. With
-them are small adapters of the shapes of adapter_shapes.py. Every tenth case is of random bytes, and one in twenty a module as it
-is; in all others a module is damaged in one to three ways: bytes are changed, of any part or of bodies alone, taken out,
-put in or repeated, the rest is cut off, or a size or a count is another number, often the largest of 32 bits.
+MODULE is a file, or a folder with files that end in .wasm or .o; the default is examples/, what other scripts made, and small
+adapters of adapter_shapes.py. Every tenth case is random bytes, and one in twenty a module as it is. In all others a module is
+damaged in one to three ways: bytes are changed, taken out, put in or repeated, the rest is cut, or a size or count is another.
 
-Before the cases, sections that count 2^32 - 1 items and have none are read with no more memory than an empty module needs.
-What went wrong is printed and kept in checks/data/fuzz; the last lines count the runs. The status is 1 where one went wrong.
+First, sections that count 2^32 - 1 items and have none are read with no more memory than an empty module needs. Runs that go
+wrong are printed and kept in checks/data/fuzz; the status is then 1.
 """
 import argparse
 import collections

@@ -4,19 +4,16 @@ function is called at all.
 
     memory-rows.py [--from FUNCTION]
 
-Such a function answers AllocError or a fault, and could be proved if it answered Memory always; a row with ample memory
-that calls it refuses that. Which functions rows reach is found in the sources: from the `main` of the program of rows and of
-the programs, and from the calls of the library that tests/rows.py asks (`ask("why", ..)`), each function that the text of one
-names, then what these name. A name means the function of its file's crate, or of the crate that the file has it from; after a
-type's name a function of that type or trait; after a point any method of that name. So what is not reached is called by no
-row; that a row goes through a call which is in the text, it doesn't say. Besides, each call of rows has a row whose answer
-begins with no fault (FAULTS names the others). UNREACHED names what no row reaches, and why.
+A function that returns AllocError or a fault could be proved if it always returned Memory; a row with enough memory that calls
+it rules that out. The sources say which functions rows reach: from `main` of the program of rows and of the programs, and
+from the calls of the library in tests/*.py, each function that the text of one names. A name means the function of its file's
+crate, or of the crate that the file imports it from; after a type's name a function of that type or trait; after a point any
+method of that name. UNREACHED names what no row reaches, and why. Each call of rows also has a row whose answer is no fault,
+but for FAULTS.
 
-Each public function of the libraries is also named by something: by the rows, by a program, or by a call from C; laws aside,
-which do nothing. And `args` of the program of rows has each file of rows, and its `stdout` how many rows are in each.
-
-Prints what is missing, and how many functions there are; the status is 1 where something is. With --from, prints by which
-functions rows reach one, as `wc_gc::run`.
+Something also names each public function: the rows, a program, or a call from C. And `args` of the program of rows has each
+file of rows, and its `stdout` how many rows are in each. What is missing is printed; the status is then 1. --from prints by
+which functions rows reach one, as `wc_gc::run`.
 """
 import argparse
 import pathlib
@@ -25,6 +22,7 @@ import sys
 
 sys.path.append(str(pathlib.Path(__file__).resolve().parent.parent / "tools"))
 from repository import ROW_FOLDERS, TOP, exports_of_crate, files_of, functions_of, libraries, read, row_files, used_by_crates
+from row_format import rows_of
 
 # The program of rows, the programs, and the library, which tests/rows.py asks.
 ROWS, PROGRAMS, LIBRARY = "wc_tests", ("wctrim", "wcwhy", "wcplan"), "nuigatre"
@@ -159,8 +157,7 @@ LAW = re.compile(r"\{?\s*(let _ = [\w.&]*;)?\s*\}?")
 
 
 def functions():
-    """The public functions of the libraries, with their crates and types but without laws; and whether each answers AllocError
-    or a fault, or is one of OTHERS."""
+    """The public functions of the libraries, without laws; and whether each returns AllocError or a fault, or is one of OTHERS."""
     for crate in libraries():
         exported = exports_of_crate(crate)
         for path in files_of(crate, "src", ".rt"):
@@ -176,11 +173,9 @@ def functions():
 def calls_without_answer():
     """The calls of rows of which each answer begins with a fault."""
     answers = {}
-    for path in row_files():
-        for call, row in re.findall(r"^call (\S+)[^\n]*\n((?:(?!row |fixture |call ).*\n)*)", path.read_text(encoding="utf-8"), re.M):
-            first = re.search(r"^out (.*)", row, re.M)
-            answers[call] = answers.get(call) or bool(first) and not first[1].startswith(("fault", "bad row"))
-    return [call for call, is_answered in answers.items() if not is_answered]
+    for row in (row for path in row_files() for row in rows_of(path)):
+        answers[row.call] = answers.get(row.call) or bool(row.answer) and not row.answer[0].startswith(("fault", "bad row"))
+    return [call for call, is_answered in answers.items() if call and not is_answered]
 
 
 def texts_of_scripts():
@@ -192,7 +187,7 @@ def wrong_counts():
     """What is wrong with the list of the files of rows, and with their counts."""
     listed, lines = read("crates/wc_tests/args").split(), read("crates/wc_tests/stdout").splitlines()
     for path in row_files(ROW_FOLDERS[0]):
-        count = len(re.findall(r"^row ", path.read_text(), re.M))
+        count = len(rows_of(path))
         if path.name not in listed:
             yield "crates/wc_tests/args lacks " + path.name
         if f"{path.name}: {count} of {count} rows agree" not in lines:
@@ -220,7 +215,7 @@ def main():
     known, reached = {name for name, can_fail in public.items() if can_fail}, set(map(str, found))
     wrong = ["no row reaches " + name for name in sorted(known - reached - set(UNREACHED))]
     wrong += ["nothing calls " + name for name in sorted(set(public) - set(map(str, named)))]
-    wrong += [f"UNREACHED has {name}, which " + ("a row reaches" if name in known else "is not there") for name in UNREACHED if name not in known - reached]
+    wrong += [f"UNREACHED has {name}, which " + ("a row reaches" if name in known else "doesn't exist") for name in UNREACHED if name not in known - reached]
     wrong += ["no row answers without a fault to " + call for call in calls_without_answer() if call not in FAULTS]
     wrong += wrong_counts()
     for line in wrong:

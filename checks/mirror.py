@@ -3,22 +3,19 @@
 
     checks/mirror.py [--all]
 
-A source file has definitions of its own where its contracts cite definitions of its crate that no other source file of
-it cites. Such a file has a file of its name in specs/, in specs/Private/ or in another folder there: `key_names.rt` has
-`KeyNames.antt`, and `imports/map.rt` has `Imports/Map.antt` or `Map.antt`. A file in a folder may share the one of the
-file above it: `explain/keys.rt` that of `explain.rt`. Some of its own definitions are there. The script prints each other
-source file with the files that have its own definitions, and why it has no file of its name. The status is 1 where no
-reason is known, or where one is of no use. With --all it prints for each source file with definitions of its own which file they are in.
+A source file has definitions of its own if its contracts cite definitions of its crate that no other source file cites. Then
+specs/, or a folder there, has a file of its name with some of them: `key_names.rt` has `KeyNames.antt`, and `imports/map.rt`
+has `Imports/Map.antt` or `Map.antt`. A file in a folder may share that of the file above it. Printed is each other source
+file, with the files that have its definitions and the reason. The status is 1 if a reason is missing, or is of no use. --all
+prints for each source file which file mirrors it.
 """
 import argparse
 import collections
 import pathlib
-import re
-import signal
 import sys
 
 sys.path.append(str(pathlib.Path(__file__).resolve().parent.parent / "tools"))
-from repository import TOP, files_of, used_by_crates
+from repository import TOP, files_of, imports_of, used_by_crates
 
 # why source files have no file of their name in specs/
 REASONS = {
@@ -57,14 +54,14 @@ def name_of(path):
 
 def citations(crate, text):
     """The definitions of a crate that a source file of it cites: each with the file of specs/ that has it."""
-    for module, names in re.findall(rf"ghost use Rattle\.{crate}\.specs\.([\w.]+?)\.\{{([^}}]*)\}}", text):
-        if module.split(".")[0] not in ("declared", "contracts"):
-            for name in names.split(","):
-                yield module.replace(".", "/"), name.split(" as ")[0].strip()
+    for path, there, _ in imports_of(text):
+        of, _, file = path.partition(".specs.")
+        if of == crate and file.split(".")[0] not in ("", "declared", "contracts"):
+            yield file.replace(".", "/"), there
 
 
 def own_definitions(crate):
-    """Of each source file of a crate the files of specs/ that have definitions which it alone cites, with these."""
+    """For each source file of a crate the definitions that it alone cites, by their files of specs/."""
     cited, sources = collections.defaultdict(set), {}
     for path in files_of(crate, "src", ".rt"):
         source = str(path.relative_to(TOP / "crates" / crate / "src"))[: -len(".rt")]
@@ -91,8 +88,6 @@ def main():
     parser = argparse.ArgumentParser(description=__doc__, formatter_class=argparse.RawDescriptionHelpFormatter)
     parser.add_argument("--all", action="store_true")
     given = parser.parse_args()
-    # a reader that has read enough ends the script
-    signal.signal(signal.SIGPIPE, signal.SIG_DFL)
     reasons = {name: why for why, names in REASONS.items() for name in names.split()}
     used, wrong = set(), 0
     for crate in used_by_crates():

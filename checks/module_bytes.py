@@ -40,7 +40,7 @@ def types():
 
 
 def number_at(data, at):
-    """An unsigned number of up to five bytes, and the index after it; a ValueError where there is none."""
+    """An unsigned number of up to five bytes, and the index after it; a ValueError if there is none."""
     value = 0
     for position in range(min(5, len(data) - at)):
         byte = data[at + position]
@@ -50,8 +50,24 @@ def number_at(data, at):
     raise ValueError
 
 
+def signed_at(data, at):
+    """A signed number of any length, and the index after it."""
+    value, shift = 0, 0
+    while True:
+        value |= (data[at] & 0x7F) << shift
+        shift, at = shift + 7, at + 1
+        if data[at - 1] < 0x80:
+            return (value - (1 << shift) if data[at - 1] & 0x40 else value), at
+
+
+def unsigned_at(data, at):
+    """An unsigned number of any length, and the index after it."""
+    value, after = signed_at(data, at)
+    return value % (1 << 7 * (after - at)), after
+
+
 def spans(data, at=8):
-    """Of each section that can be framed its id, and where its id, its content and its end are."""
+    """For each section that can be framed its id, and the indices of its id, its content and its end."""
     while at < len(data):
         try:
             size, start = number_at(data, at + 1)
@@ -70,14 +86,29 @@ def sections(data, at=8):
 
 
 def content(module, id):
-    """The content of the first section with this id; that of one that counts no items where there is none."""
+    """The content of the first section with this id; that of one that counts no items if there is none."""
     return next((content for other, content in sections(module) if other == id), b"\0")
 
 
 def name_at(data, at):
-    """A name, and the index after it; a ValueError where there is none."""
+    """A name, and the index after it; a ValueError if there is none."""
     length, at = number_at(data, at)
     return data[at:at + length].decode(), at + length
+
+
+def vector_at(data, at, read):
+    """The items of a vector at an index, each read by a function that returns it and the index after it; and the index after them."""
+    count, at = number_at(data, at)
+    found = []
+    for _ in range(count):
+        item, at = read(data, at)
+        found.append(item)
+    return found, at
+
+
+def items(data, read):
+    """The items of a vector."""
+    return vector_at(data, 0, read)[0]
 
 
 def exported_names(module):
@@ -93,14 +124,3 @@ def exported_names(module):
         except ValueError:
             pass
     return names
-
-
-def import_names(module):
-    """The module and the name of each imported function, of a module that imports no more than functions."""
-    data = content(module, 2)
-    count, at = number_at(data, 0)
-    for _ in range(count):
-        field, at = name_at(data, at)
-        name, at = name_at(data, at)
-        _, at = number_at(data, at + 1)
-        yield field, name

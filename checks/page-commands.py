@@ -3,17 +3,18 @@
 
     checks/page-commands.py [--list] PROGRAM..
 
-PROGRAM is the file of wctrim, wcwhy or wcplan; commands of others are left out, and so are those whose input is not in the
-repository. A command with its output is one of
+PROGRAM is the file of wctrim, wcwhy or wcplan, or web/why.mjs. Left out are commands of other programs, those whose input is
+not in the repository, and those whose output is cut (a line ends in `..`). Of README.md none may be left out if its program is
+given. A command with its output is one of
 
 - a line `$ COMMAND` of a block of code, and the lines after it;
 - a text that names a COMMAND and ends in prints, and the block after it; or one in which it prints nothing;
 - a block of a command alone, after it a text that begins with prints, and the block after that.
 
 The commands of a page run one after another in a folder that has the page's examples; one that begins with ../../ runs in
-examples/wcplan or examples/wasi, whichever has its input. The graph of docs/pictures/paths.dot is what wcplan prints of
-examples/wcplan. --list prints the commands. A line is printed for each output that is another one, and the status is 1 where
-there is one.
+examples/wcplan or examples/wasi, whichever has its input. README's picture, docs/pictures/paths.dot, is what wcwhy prints of
+examples/words.wasm. --list prints the commands. Each output that differs, and each command of README.md that is left out, is
+printed, and then the status is 1.
 """
 import argparse
 import pathlib
@@ -25,10 +26,9 @@ import sys
 import tempfile
 
 TOP = pathlib.Path(__file__).resolve().parent.parent
-PROGRAMS = "wctrim", "wcwhy", "wcplan"
-GRAPH = ("../../wcplan notes.json app main.wasm --adapt old-notes=adapter.wasm --adapter-export old-notes=is-ready --why all "
-         "--dot")
-COMMAND = r"(?:\./|\.\./\.\./)?(?:%s) [^`\n]+" % "|".join(PROGRAMS)
+PROGRAMS = "wctrim", "wcwhy", "wcplan", "why.mjs"
+GRAPH = "./wcwhy examples/words.wasm --dot"
+COMMAND = r"(?:\./|\.\./\.\./|node web/)?(?:%s) [^`\n]+" % "|".join(PROGRAMS)
 
 
 def parts(page):
@@ -85,6 +85,14 @@ def commands(page):
                     yield head, rest[0].rstrip("\n").split("\n") if rest[0].strip() else []
 
 
+def commands_without_check(page):
+    """The lines of a page's blocks of code that may be commands, but are none with an output."""
+    known = [command for command, _ in commands(page)]
+    for is_code, lines in parts(page):
+        heads = [line for line in lines if line.startswith("$ ")] or lines[:1]
+        yield from (head for head in heads if is_code and head[2:] not in known)
+
+
 def folder_of(words, top):
     """The folder in which a command runs; nothing where its input is not there."""
     folders = [top] if not words[0].startswith("../../") else [top / "examples" / "wcplan", top / "examples" / "wasi"]
@@ -100,22 +108,32 @@ def main():
     parser.add_argument("--list", action="store_true")
     parser.add_argument("programs", nargs="*", metavar="PROGRAM", type=pathlib.Path)
     given = parser.parse_args()
-    program = {name: path.resolve() for path in given.programs for name in PROGRAMS if path.name.startswith(name)}
+    program = {name: [path.resolve()] for path in given.programs for name in PROGRAMS if path.name.startswith(name)}
+    if "why.mjs" in program:
+        program["why.mjs"].insert(0, "node")
     ran = left = wrong = 0
     for page in sorted([TOP / "README.md", *(TOP / "docs").glob("*.md"), TOP / "examples" / "README.md"]):
+        is_top = page.parent == TOP
+        for command in commands_without_check(page) if is_top else ():
+            wrong += 1
+            print("%s: `%s` is left out" % (page.name, command))
         with tempfile.TemporaryDirectory() as made:
             top = pathlib.Path(made)
             shutil.copytree(TOP / "examples", top / "examples", ignore=shutil.ignore_patterns("out"))
             drawn = (TOP / "docs" / "pictures" / "paths.dot").read_text(encoding="utf-8").rstrip("\n").split("\n")
-            for command, wanted in [*commands(page), *([(GRAPH, drawn)] if page.parent.name == "examples" else [])]:
-                words = shlex.split(command)
+            for command, wanted in [*commands(page), *([(GRAPH, drawn)] if is_top else [])]:
+                words = shlex.split(command.removeprefix("node "))
                 name, folder = words[0].rpartition("/")[2], folder_of(words, top)
                 if given.list:
                     print("%s: %s" % (page.relative_to(TOP), command))
-                if folder is None or name not in program:
+                is_cut = any(line.endswith("..") for line in wanted)
+                if folder is None or name not in program or is_cut:
                     left += 1
+                    if is_top and name in program:
+                        wrong += 1
+                        print("%s: `%s` is left out" % (page.name, command))
                     continue
-                printed = subprocess.run([program[name], *words[1:]], cwd=folder, stdout=subprocess.PIPE, stderr=subprocess.STDOUT,
+                printed = subprocess.run([*program[name], *words[1:]], cwd=folder, stdout=subprocess.PIPE, stderr=subprocess.STDOUT,
                                          text=True, check=False).stdout.rstrip("\n")
                 ran += 1
                 if printed != "\n".join(wanted):

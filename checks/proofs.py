@@ -1,17 +1,13 @@
 #!/usr/bin/env python3
-"""Proves all libraries for the merge gate, with as many processes as there is memory for; or says how many proofs to have.
+"""Proves all libraries for the merge gate, with as many processes as there is memory for.
 
     checks/proofs.py             # proves the libraries; `rt ci` after it keeps what was proved
-    checks/proofs.py --jobs      # prints how many proofs `rt ci` is to have under way, or nothing where it had best decide itself
+    checks/proofs.py --jobs      # prints how many proofs `rt ci` should have under way, or nothing if it had better decide
 
-For a proof of one of the large crates `rt ci` reckons with 9 to 14 GB, and so has one or two under way in 24 GB, each with one
-process. With one process each `wc_validate` took 5.7 GB, `wc_gc` 4.7, and four of the largest together 15.3. Reckoned with
-that, a proof gets the processors for which no other one is ready: most of the time the longest chain of crates has two under
-way. So the chain takes two thirds of its minutes.
-
-This is `rt ci NAME..` of the libraries with that estimate of memory in place of its own. It decides nothing: the gate is the
-`rt ci` after it, which proves what this did not. With RT_JOBS, which --jobs prints, `rt ci` gives each proof one process, and
-reckons with no memory.
+This is `rt ci NAME..` of the libraries with a lower estimate of memory. `rt ci` expects 9 to 14 GB for a large crate, and so has
+one or two proofs under way in 24 GB; but with one process `wc_validate` took 5.7 GB, `wc_gc` 4.7, and four of the largest
+together 15.3. With the lower estimate the longest chain of crates takes two thirds of its minutes. The gate is the `rt ci` after
+it, which proves what this did not. With RT_JOBS, which --jobs prints, `rt ci` gives each proof one process, and expects no memory.
 """
 import argparse
 import importlib.machinery
@@ -26,7 +22,7 @@ from repository import TOP, is_program, used_by_crates
 
 # what a proof with one process takes, with a quarter more; and the memory from which on `rt ci` had best decide itself
 PROOF, AMPLE = 4.8e9, 28e9
-# of the memory that `rt ci` reckons with for a proof, the share that it takes beside what each takes
+# a proof's memory: a share of what `rt ci` expects, and what each takes
 SHARE, EACH = 0.33, 1.5e9
 
 

@@ -4,9 +4,9 @@
     checks/random-names.py [COUNT] [SEED] | ./wctests -
     checks/random-names.py --classified [COUNT] [SEED]
 
-Each name is asked of both schemes: on its own, in a world and in an interface, and as the name of a module. With --classified
-the library is asked instead for modules that import it, by name and by module. The same count and seed make the same names.
-Nothing is expected of the answers but that each call returns.
+Each name is asked of both schemes: on its own, in a world and in an interface, and as a module's name. With --classified the
+library is asked for modules that import it, by name and by module. The same count and seed make the same names. Each call only
+has to return.
 """
 import argparse
 import json

@@ -1,12 +1,11 @@
 #!/usr/bin/env python3
-"""Builds, where it is not there or older than its sources, the program that reads modules for the other scripts and writes
-them again, and prints its path.
+"""Builds the program that reads modules for other scripts and writes them again, if it is missing or out of date; prints its path.
 
     checks/reader_program.py [--unproved]
 
-Its source is in checks/reader and not in crates/, where the merge gate would prove it. It is built in a repository of its
-own, checks/data/reader, with copies of the crates that it uses, by crates.txt, and of what is proved of them. With --unproved,
-or where READER is `unproved`, it is compiled without any proof, in a minute.
+Its source is in checks/reader, so that the merge gate doesn't prove it. It is built in a repository of its own,
+checks/data/reader, with copies of the crates that it uses and of what is proved of them. With --unproved, or if READER is
+`unproved`, it is compiled without proof, in a minute.
 """
 import argparse
 import os

@@ -1,6 +1,6 @@
 #!/usr/bin/env python3
-"""Makes some 2,300 modules with Debian's compilers, linkers and libraries, and compares what wasm-validate says of each with
-what read_module and read_body say; with --back, writes back what was read of each, and judges what was written.
+"""Makes some 2,300 modules with Debian's compilers, linkers and libraries, and compares what wasm-validate says of each with what
+read_module and read_body say; with --back, writes back what was read of each, and judges that.
 
     checks/real-modules.py [--back]
 
@@ -8,25 +8,21 @@ The modules are of four kinds:
 
     clang      the sources of checks/c, at five levels, with and without vectors, atomics, tail calls, several results,
                debug information, for 32 and 64 bits
-    linked     these linked in seven ways (imported and shared memories, growable tables, relocations kept, partial
-               linking), a position-independent library, programs over the C and C++ libraries, and both libraries in full
+    linked     these linked in seven ways, a position-independent library, programs over the C and C++ libraries, and both
+               libraries whole
     libraries  each object of the C and C++ libraries' archives
     text       the texts of checks/text through wat2wasm, with the shortest and with the longest numbers
 
-What wasm-validate accepts, with the features of the format that is read here, read_module and read_body have to accept,
-with as many bodies as wasm-objdump counts. A line names each module where they do not, each that wasm-validate refuses,
-and each that is left out; the last line counts them. The other way round nothing is compared: operands are not typed
-here, so a module may be read that wasm-validate refuses.
+What wasm-validate accepts, with the features of the format that is read here, read_module and read_body have to accept, with as
+many bodies as wasm-objdump counts. A line names each mismatch, each module that wasm-validate refuses, and each that is left
+out. The reverse is not compared: operands are not typed here.
 
-With --back wasm-validate has to accept what was written, as it is or, where bodies name segments, with the module's own
-segments put back; it has to be no longer than the sections that are kept; and what is read of it has to be the same
-module and to be written as the same bytes. Elements, the count of data and data are not written. So wasm-validate refuses
-a text with bodies that name segments (memory.init, data.drop, table.init, elem.drop), or a function that only a segment
-declares (ref.func). Then the module's own sections of these three kinds are put in at their positions, byte for byte, and
-nothing else is changed: so missing segments are the only reason why such a text is refused.
+With --back wasm-validate has to accept what was written; it is no longer than the sections that are kept; and it is read as the
+same module, and written as the same bytes. Elements, the count of data and data are not written, so a body that names a segment
+is refused. Then the module's own sections of these three kinds are put in, and nothing else is changed.
 
-The modules are made anew, and with --back only where they are not there. The program is that of reader_program.py. The
-status is 1 where something is not as it has to be.
+The modules are made again, with --back only if they are missing. The program is that of reader_program.py. The status is 1 if
+there is a mismatch.
 """
 import argparse
 import concurrent.futures
@@ -42,7 +38,7 @@ from module_bytes import number_at, spans
 from reader_program import reader_program
 
 sys.path.append(str(pathlib.Path(__file__).resolve().parent.parent / "tools"))
-from repository import TOP, need
+from repository import TOP, need, run
 
 CHECKS = TOP / "checks"
 MADE = CHECKS / "data" / "real"
@@ -100,14 +96,6 @@ SEGMENTS = {9, 12, 11}
 ORDER = [1, 2, 3, 4, 5, 6, 7, 8, 9, 12, 10, 11]
 # an operator that names a segment, or a function that only a segment may declare
 BY_SEGMENT = re.compile(r"\| *(memory\.init|data\.drop|table\.init|elem\.drop|ref\.func) ")
-
-
-def run(*words):
-    """Runs a tool; where it fails, so does this."""
-    done = subprocess.run(words, capture_output=True, text=True, check=False)
-    if done.returncode:
-        sys.exit(f"{' '.join(map(str, words))}\n{done.stderr[-2000:]}")
-    return done.stdout
 
 
 def compile_sources():

@@ -26,10 +26,16 @@ class Missing(LeftOut):
 
 
 class Row:
-    """A row: its name, its call with the arguments, its lines of input and those of its answer; and what is wrong with it."""
+    """A row: its name, its call with the arguments, its lines of input and those of its answer; and what is wrong with it.
+    `lines` are its own lines, with those of its fixtures in their places."""
 
     def __init__(self, name):
         self.name, self.call, self.arguments, self.input, self.answer, self.flaw = name, "", [], [], [], None
+        self.lines = []
+
+    def text(self):
+        """A text of this row alone."""
+        return "\n".join(["row " + self.name, *self.lines, ""])
 
     def argument(self, at):
         """The argument at an index; the empty text where there are fewer."""
@@ -45,6 +51,7 @@ class Row:
     def add(self, line, fixtures):
         """Takes up a line that is no comment and not blank."""
         word, _, rest = line.partition(" ")
+        self.lines += fixtures[rest].lines if word == "with" and rest in fixtures else [line]
         if word == "call":
             self.call, _, words = rest.partition(" ")
             self.arguments = words.split()
@@ -109,11 +116,11 @@ def bytes_of(lines):
 
 
 def lines_of_bytes(word, data):
-    """Lines of 32 bytes each after a word; the word alone where there is no byte."""
+    """Lines of 32 bytes each after a word; the word alone if there is no byte."""
     return [(word + " " + data[at : at + 32].hex(" ")).rstrip() for at in range(0, max(len(data), 1), 32)]
 
 
 def answered_bytes(row, word="bytes"):
-    """The bytes of the lines of an answer that begin with a word; None where there is none."""
+    """The bytes of the lines of an answer that begin with a word; None if there is none."""
     lines = [line[len(word):] for line in row.answer if line.partition(" ")[0] == word]
     return bytes.fromhex("".join(lines)) if lines else None

@@ -4,12 +4,11 @@
     checks/rust-adapters.py [PROGRAM]
     checks/rust-adapters.py --find
 
-The adapters are those that Rust's `wasm-component-ld` carries, three in each toolchain of rustup, as in
-checks/adapters.py. Each is trimmed to each of its exports alone, to all of them, and to twenty choices of them, with a
-realloc of the main module's and without, by the example `trim` of the crate, which cargo builds, and by PROGRAM, which
-is crates/wctrim/out/wctrim unless another is given: both have to write the same bytes, or to print the same fault. A
-line is printed for each that differs, and at last how many agreed. The status is 1 where one differs, or there is
-none to compare. With --find it only says by its status whether there are adapters. It needs cargo; rust/check runs it.
+The adapters are those that Rust's `wasm-component-ld` carries, as in checks/adapters.py. Each is trimmed to each export alone, to
+all, and to twenty choices of them, with the main module's realloc and without, by the crate's example `trim` and by PROGRAM
+(default: crates/wctrim/out/wctrim): both have to write the same bytes or print the same fault. A line is printed for each
+difference, and at last how many agree; the status is 1 if one differs, or if there is none. --find only says by its status
+whether there are adapters. It needs cargo; rust/check runs it.
 """
 import argparse
 import os

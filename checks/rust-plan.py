@@ -1,13 +1,12 @@
 #!/usr/bin/env python3
-"""Compares the functions that the example `encoder` of the Rust crate prints with the lines of `wcplan`, and runs what it
-writes in node.
+"""Compares the functions that the Rust crate's example `encoder` prints with the lines of `wcplan`, and runs what it writes in node.
 
     checks/rust-plan.py [PROGRAM]
 
-Both plan the component of examples/wcplan, and that of examples/wasi where examples/wasi/make.sh has made its modules.
-PROGRAM is the script `wcplan` unless another is given. Where node is there, rust/nuigatre/examples/run.mjs instantiates the
-modules of each, and calls an export. Lines that differ are printed. The status is 1 where one differs, or where there is
-none to compare. It needs cargo and the static library; rust/check runs it.
+Both plan the components of examples/wcplan and of examples/wasi, if examples/wasi/make.sh has made its modules. PROGRAM is the
+script `wcplan` by default. If node is installed, rust/nuigatre/examples/run.mjs instantiates the modules of each, and calls an
+export. Differences are printed; the status is 1 if there is one, or nothing to compare. It needs cargo and the static library;
+rust/check runs it.
 """
 import argparse
 import difflib
@@ -31,7 +30,7 @@ def ran_in_node(folder, lines, export, wanted):
 
 def main():
     parser = argparse.ArgumentParser(description=__doc__, formatter_class=argparse.RawDescriptionHelpFormatter)
-    parser.add_argument("program", nargs="?", default=os.path.join(TOP, "wcplan"))
+    parser.add_argument("program", nargs="?", type=os.path.abspath, default=os.path.join(TOP, "wcplan"))
     program, example = parser.parse_args().program, built_example("encoder")
     compared, ran, different = 0, 0, []
     for plan in PLANS:

@@ -1,17 +1,17 @@
 #!/usr/bin/env python3
-"""Compares the slots that the example `encoder` of the Rust crate prints with the shims of another linker's components.
+"""Compares the slots that the Rust crate's example `encoder` prints with the shims of another linker's components.
 
     checks/rust-shim.py [--worlds N] [--seed SEED]
 
-Rust's `wasm-component-ld` links the programs of `checks/c/wasi` and examples/wasi/hello.c with the adapter of commands that
-it carries (checks/adapters.py). One of `wit-component` 0.246 or later encodes N random worlds too (20), with asynchronous
-functions, futures, streams and resources, for main modules that import the built-ins for these, half of them over an adapter
-that imports some (checks/built_in_worlds.py); where a world is refused, its number is printed. The main module of each
-component, and the adapter, are passed to the example. The functions of the shim in the component have to have the types of
-its slots, in their order, and the component has to fill them with what they are named after, with the same options
-(checks/shim_of_component.py). Shims that differ are printed, and how many agree. The status is 1 where one differs, or where
-none agrees of those that can be compared. It needs cargo, the static library and a rustup toolchain, and for the programs in C
-clang, lld, wasi-libc and libclang-rt-dev-wasm32: what can't be linked is not compared. rust/check runs it.
+Rust's `wasm-component-ld` links the programs of `checks/c/wasi` and examples/wasi/hello.c with its adapter of commands. One with
+`wit-component` 0.246 or later also encodes N random worlds (20), with asynchronous functions, futures, streams and resources, for
+main modules that import their built-ins, half of them over an adapter (checks/built_in_worlds.py). The example gets each main
+module and adapter. The functions of a component's shim have to have the types of the slots, in their order, and the component
+fills them with what they are named after, with the same options (checks/shim_of_component.py).
+
+Shims that differ and refused worlds are printed, and how many agree. The status is 1 if one differs, or if none agrees. It needs
+cargo, the static library and a rustup toolchain, and for the programs in C clang, lld, wasi-libc and libclang-rt-dev-wasm32.
+rust/check runs it.
 """
 import argparse
 import glob
@@ -77,8 +77,7 @@ def named(slot):
 
 
 def is_known(linker):
-    """Whether the linker rests on `wit-component` 0.246 or a later version: before, `task.return` had not the options by which
-    the function is lifted."""
+    """Whether the linker has `wit-component` 0.246 or later: before, `task.return` lacked the options of its function."""
     versions = re.findall(rb"wit-component-0\.(\d+)\.", adapters.read(linker))
     return bool(versions) and min(map(int, versions)) >= 246
 

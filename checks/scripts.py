@@ -1,29 +1,24 @@
 #!/usr/bin/env python3
 """Checks the scripts themselves, without any program that is proved or compiled.
 
-    checks/scripts.py [--list]
+    checks/scripts.py
 
-Of each script in Python the names: one that it uses is defined, or built in; what it takes from a module is there; and a
-function of its own, or of another script here, is called with as many arguments as it takes. Each script of shell is read by
-`sh -n`, and by shellcheck where that is installed. Then RUNS: the smallest run of each script that can run without a
-program, or with one that stands in for it and copies its input; `--help` of the programs' scripts where no `rt` is on PATH,
-which has to be what the program prints; and an edit's key, which another definition under its function's clauses changes.
-A script of which nothing else runs is asked for its --help by checks/all. --list prints the runs.
+- Names: pyflakes reads the scripts in Python, `sh -n` and shellcheck those in shell. A tool that is not installed is left out.
+- Runs: the smallest run of each script that needs no program, or whose program can be replaced by one that copies its
+  input. checks/all asks the other scripts for their --help.
+- Help: `--help` of the programs' scripts prints what the programs print, also if no `rt` is on PATH.
+- Keys: the key of an edit changes with the definitions to which its function's clauses lead.
+- Man pages, completions, versions, and the path in docs/WHY.md agree with what they are made of.
 
-What is otherwise is printed, a line for each; the status is 1 where something is.
+A line is printed for each thing that is wrong; the status is then 1.
 """
 import argparse
-import ast
-import builtins
 import concurrent.futures
-import importlib
-import inspect
 import os
 import pathlib
 import re
 import shutil
 import subprocess
-import symtable
 import sys
 import tempfile
 
@@ -38,16 +33,14 @@ case ${1-} in
     dedupe | trim) cp "$2" "$3" ;;
 esac
 """
-# A record of the gate, of a run that never was: of two crates.
+# An invented record of the gate, of two crates.
 RECORD = """{"commit": "none", "answer": "2 passed, 0 failed", "load": 0, "cores": [0], "clock": 60, "other": 6, "crates": {
 "wc_maps": {"proof": 30, "edits": 0, "first": 0, "last": 30}, "wc_texts": {"proof": 60, "edits": 6, "first": 0, "last": 60}}}"""
-# Runs of scripts: the command, in which {program} stands in for a program, and {record} is a record of the
-# gate; the status that it ends with; and a pattern of its last line. Where a tool is not installed it may say so.
+# Runs of scripts: the command, in which {program} replaces a program, and {record} is a record of the gate; its status; and
+# a pattern of its last line. A script may also say that a tool is not installed.
 RUNS = [
     ("checks/first-run.sh --stand-in", 0, r"all as wanted"),
     ("bench/trimming.py --program {program} --most 10000 --rounds 1 chain", 0, r"chain +10000 "),
-    ("bench/many_interfaces.py imports 3 2", 0, r"in module "),
-    ("bench/many_interfaces.py exports 3 2", 0, r"in "),
     ("bench/slow-inputs.py --wctrim {program} --wcplan {program} --wc-tests {program} --parts 2 given-keys", 0, r"0 of 1 cases past a limit"),
     ("bench/trimming.py --check", 0, r"\d+ rows"),
     ("bench/slow-inputs.py --check", 0, r"\d+ rows"),
@@ -58,10 +51,10 @@ RUNS = [
     ("tests/rows.py --proved tests/rows/unfolding.rows", 0, r"\d+ passed, 0 failed"),
     ("checks/random-names.py 3", 0, r"in "),
     ("checks/page-commands.py", 0, r"0 commands ran, \d+ left out, 0 print something else"),
-    ("tools/break-rows.py", 0, r"\d+ files, 0 not as wanted"),
+    ("tools/break-rows.py", 0, r"\d+ files, 0 wrong"),
     ("edits/batches.py --plan wc_maps", 0, r"wc_maps: \d+ of \d+ edits, \d+ functions"),
 ]
-NOT_INSTALLED = re.compile(r"there is no |is not there")
+NOT_INSTALLED = re.compile(r"is missing|is not installed")
 
 
 def scripts():
@@ -73,74 +66,12 @@ def scripts():
     yield from (TOP / name for name in ("wctrim", ".ci/run"))
 
 
-# Names
-
-
-def unknown_names(path, table, bound):
-    """The names that a scope and those in it take from the module, which has none of them."""
-    for it in table.get_symbols():
-        if it.is_referenced() and (it.is_global() or table.get_type() == "module") and not (it.get_name() in bound or hasattr(builtins, it.get_name())):
-            yield f"{path}: no {it.get_name()} in {table.get_name()}"
-    for inner in table.get_children():
-        yield from unknown_names(path, inner, bound)
-
-
-def module_named(name):
-    """A module, or None where it cannot be had here."""
-    try:
-        return importlib.import_module(name)
-    except ImportError:
-        return None
-
-
-def arguments_wrong(function, call):
-    """Why a call does not fit what it calls, if it can be seen; else None."""
-    if any(isinstance(it, ast.Starred) for it in call.args) or any(it.arg is None for it in call.keywords):
-        return None
-    try:
-        function.bind(*call.args, **{it.arg: it.value for it in call.keywords})
-    except TypeError as why:
-        return str(why)
-    return None
-
-
-def signature_of(node):
-    """What a function of a script takes."""
-    of, kinds = node.args, inspect.Parameter
-    first = len(of.posonlyargs + of.args) - len(of.defaults)
-    its = [kinds(it.arg, kinds.POSITIONAL_OR_KEYWORD, default=None if n >= first else kinds.empty) for n, it in enumerate(of.posonlyargs + of.args)]
-    its += [kinds(of.vararg.arg, kinds.VAR_POSITIONAL)] if of.vararg else []
-    its += [kinds(it.arg, kinds.KEYWORD_ONLY, default=kinds.empty if default is None else None) for it, default in zip(of.kwonlyargs, of.kw_defaults)]
-    return inspect.Signature(its + ([kinds(of.kwarg.arg, kinds.VAR_KEYWORD)] if of.kwarg else []))
-
-
-def wrong_names(path):
-    """What is wrong with the names of a script in Python."""
-    text, where = path.read_text(encoding="utf-8"), path.relative_to(TOP)
-    tree, table = ast.parse(text), symtable.symtable(text, str(path), "exec")
-    bound = {it.get_name() for it in table.get_symbols() if it.is_assigned() or it.is_imported() or it.is_namespace()}
-    yield from unknown_names(where, table, bound | {"__file__", "__name__", "__doc__"})
-    takes, modules = {it.name: signature_of(it) for it in tree.body if isinstance(it, ast.FunctionDef)}, {}
-    for it in ast.walk(tree):
-        if isinstance(it, ast.Import):
-            modules.update((name.asname or name.name, module_named(name.name)) for name in it.names if "." not in name.name or name.asname)
-        elif isinstance(it, ast.ImportFrom):
-            module = module_named(it.module)
-            for name in it.names if module else []:
-                if not hasattr(module, name.name):
-                    yield f"{where}: {it.module} has no {name.name}"
-                elif inspect.isfunction(getattr(module, name.name)) and str(TOP) in (module.__file__ or ""):
-                    takes[name.asname or name.name] = inspect.signature(getattr(module, name.name))
-    for it in ast.walk(tree):
-        if isinstance(it, ast.Attribute) and isinstance(it.value, ast.Name) and modules.get(it.value.id) and not hasattr(modules[it.value.id], it.attr):
-            yield f"{where}:{it.lineno}: {it.value.id} has no {it.attr}"
-        if isinstance(it, ast.Call) and isinstance(it.func, ast.Name) and it.func.id in takes:
-            why = arguments_wrong(takes[it.func.id], it)
-            if why:
-                yield f"{where}:{it.lineno}: {it.func.id}: {why}"
-
-
-# Runs
+def wrong_names(paths):
+    """What pyflakes says of scripts in Python: which names are not defined, or not used."""
+    if not shutil.which("pyflakes3"):
+        print("names: left out: pyflakes3 is missing: apt-get install pyflakes3")
+        return []
+    return ran(["pyflakes3", *paths])[1].replace(f"{TOP}/", "").splitlines()
 
 
 def ran(command, **how):
@@ -149,12 +80,13 @@ def ran(command, **how):
     return done.returncode, done.stdout
 
 
-def wrong_shell(path):
-    """What a shell, and shellcheck, say of a script of shell."""
-    for tool in (["sh", "-n"], ["shellcheck", "-x", "-S", "warning"]):
-        status, said = ran([*tool, path]) if shutil.which(tool[0]) else (0, "")
-        if status:
-            yield f"{path.relative_to(TOP)}: {tool[0]}: {said.strip()}"
+def wrong_shell(paths):
+    """What a shell, and shellcheck, say of scripts in shell."""
+    for tool in ["sh", "-n"], ["shellcheck", "-x", "-S", "warning"]:
+        for path in paths if shutil.which(tool[0]) else []:
+            status, said = ran([*tool, path])
+            if status:
+                yield f"{path.relative_to(TOP)}: {tool[0]}: {said.strip()}"
 
 
 def wrong_runs():
@@ -244,48 +176,19 @@ def wrong_pages():
         yield f"docs/wcplan.bash offers {said}"
 
 
-def wrong_pipes():
-    """Which script ends in a traceback where its reader has read enough."""
-    for script in ("checks/mirror.py",):
-        process = subprocess.Popen([TOP / script, "--all"], cwd=TOP, stdout=subprocess.PIPE, stderr=subprocess.PIPE, text=True)
-        process.stdout.close()
-        said = process.stderr.read()
-        process.wait()
-        if said:
-            yield f"{script} | head: {said.strip()[-200:]}"
-
-
-def wrong_sizes():
-    """Whether bench/slow-inputs.py takes a file that an earlier run wrote for input."""
-    slow = importlib.import_module("slow-inputs")
-    with tempfile.TemporaryDirectory() as folder:
-        out = pathlib.Path(folder, "out.wasm")
-        out.write_bytes(bytes(1000))
-        slow.OUTPUTS, slow.PEAK, slow.TIME = [str(out)], os.path.join(folder, "peak"), "true"
-        try:
-            run = slow.Run(argparse.Namespace(seconds=10), "true", ["trim", str(out)], os.devnull)
-        except (OSError, SystemExit):
-            run = None
-        if out.exists() or run and run.read > 100:
-            yield "bench/slow-inputs.py counts an output that an earlier run left"
-
-
 def main():
-    parser = argparse.ArgumentParser(description=__doc__, formatter_class=argparse.RawDescriptionHelpFormatter)
-    parser.add_argument("--list", action="store_true")
-    if parser.parse_args().list:
-        print("\n".join(command for command, _, _ in RUNS))
-        return 0
-    wrong, count = [], 0
-    for path in scripts():
-        count += 1
+    argparse.ArgumentParser(description=__doc__, formatter_class=argparse.RawDescriptionHelpFormatter).parse_args()
+    python, shell, count = [], [], 0
+    for count, path in enumerate(scripts(), 1):
         head = path.read_text(encoding="utf-8", errors="replace").partition("\n")[0]
-        is_shell = path.suffix == ".sh" or head.endswith("/sh") or head.startswith("# shellcheck")
-        wrong += wrong_names(path) if "python" in head or path.suffix == ".py" else wrong_shell(path) if is_shell else []
-    wrong += [*wrong_runs(), *wrong_help(), *wrong_versions(), *wrong_keys(), *wrong_pages(), *wrong_pipes(), *wrong_sizes()]
+        if "python" in head or path.suffix == ".py":
+            python.append(path)
+        elif path.suffix == ".sh" or head.endswith("/sh") or head.startswith("# shellcheck"):
+            shell.append(path)
+    wrong = [*wrong_names(python), *wrong_shell(shell), *wrong_runs(), *wrong_help(), *wrong_versions(), *wrong_keys(), *wrong_pages()]
     for line in wrong:
         print(line)
-    print(f"{count} scripts, {len(RUNS)} runs, {len(wrong)} not as wanted")
+    print(f"{count} scripts, {len(RUNS)} runs, {len(wrong)} wrong")
     return 1 if wrong else 0
 
 

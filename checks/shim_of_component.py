@@ -1,5 +1,5 @@
 """The shim of a component, read from the component's bytes: its slots, their types, and what the component fills them with."""
-from module_bytes import content, exported_names, name_at, number_at, sections
+from module_bytes import content, exported_names, items, name_at, number_at, sections, vector_at
 
 TYPES = {0x7f: "i32", 0x7e: "i64", 0x7d: "f32", 0x7c: "f64"}
 # the options that the Rust crate has names for, by their opcodes; the encodings of strings are 0 to 2
@@ -18,21 +18,6 @@ OTHERS = {
     0x0e: "index", 0x11: "index byte", 0x12: "index byte", 0x13: "index", 0x14: "index", 0x15: "index", 0x18: "index byte",
     0x19: "index byte", 0x1a: "index", 0x1b: "index", 0x1e: "", 0x1f: "", 0x22: "", 0x23: "", 0x24: "", 0x25: "", 0x26: "",
 }
-
-
-def vector_at(content, at, read):
-    """The items of a vector that begins at an index, and the index after it."""
-    count, at = number_at(content, at)
-    found = []
-    for _ in range(count):
-        item, at = read(content, at)
-        found.append(item)
-    return found, at
-
-
-def items(content, read):
-    """The items of a vector, each by a function that gives it and the index after it."""
-    return vector_at(content, 0, read)[0]
 
 
 def function_type(content, at):
@@ -61,18 +46,17 @@ def shown(options):
 
 
 class Component:
-    """What the fixup of a component is instantiated with: of each of its functions the name of a slot for it, and its
-    options."""
+    """What a component instantiates its fixup with: the name of a slot for each function, and its options."""
 
     def __init__(self, data, adapter):
         self.adapter = adapter
         self.modules, self.instances, self.core_functions, self.core_instances, self.functions = [], [], [], [], []
         readers = {2: self.core_instance, 6: self.alias, 8: self.canonical, 10: self.imported}
-        for id, content in sections(data):
+        for id, part in sections(data):
             if id == 1:
-                self.modules.append(content)
+                self.modules.append(part)
             elif id in readers:
-                items(content, readers[id])
+                items(part, readers[id])
 
     def core_instance(self, content, at):
         if content[at] == 0:
@@ -157,7 +141,7 @@ class Component:
         return None, at
 
     def slots(self):
-        """The slots of the shim: of each its name, its type and its options; None where there is no shim."""
+        """The slots of the shim: of each its name, its type and its options; None if there is no shim."""
         shims = [module for module in self.modules if "$imports" in exported_names(module)]
         fixups = [given for module, given in self.core_instances
                   if module is not None and b"$imports" in (content(self.modules[module], 2) or b"")]

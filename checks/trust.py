@@ -45,6 +45,15 @@ def citations(piece):
     return scope, {}
 
 
+def title_of(text):
+    """What a file is about, of the comment at its head: the first sentence up to a colon, and the sections of the standard."""
+    text = re.split(r"\.\s+(?=[A-Z])", text)[0].rstrip(".").replace("WebAssembly core specification, ", "core ")
+    text = re.sub(r'(\d) "[^"]*"', r"\1", text)
+    title, _, rest = text.partition(": ")
+    section = re.search(r" \((core|component model)[^)]*\)", rest)
+    return (title + (section[0] if section else "")).replace("|", "\\|")
+
+
 class Specs:
     """A file of specs: the lines of each definition, and what the names in it mean."""
 
@@ -52,7 +61,7 @@ class Specs:
         self.lines, self.scope, self.owners, self.modules = {}, {}, {}, {}
         text = (CRATES / crate / "specs" / (file.replace(".", "/") + ".antt")).read_text()
         head = [line.removeprefix("-- ") for line in re.match(r"(?:--.*\n)*", text).group().splitlines()]
-        self.subject = " ".join(head).rstrip(".").replace("|", "\\|")
+        self.subject = title_of(" ".join(head))
         last = None
         for piece in (comments + lines for comments, lines in parts_of(text)):
             first = next(line for line in piece if not line.startswith("--"))
@@ -154,6 +163,16 @@ def headline():
     return [target for name, target in scope.items() if name in words]
 
 
+def traits():
+    """The traits of the type parameters of `new`, by the source files of its crate that have them."""
+    text = SOURCE.read_text()
+    begin = text.index(HEAD) + len(HEAD)
+    names = re.findall(r"\w+: (\w+)", text[begin:text.index(">", begin)])
+    sources = SOURCE.parent
+    return {str(path.relative_to(sources)): name for name in names for path in sorted(sources.rglob("*.rt"))
+            if re.search(rf"^pub trait {name}\b", path.read_text(), re.MULTILINE)}
+
+
 class View:
     """An `impl Model`: what its value is of, and what its view cites."""
 
@@ -250,6 +269,8 @@ def tables(walk):
         types = sorted(file for at, file in walk.declared if at == crate)
         if types:
             parts.append("\nTypes of the sources: " + ", ".join(f"`{file}.rt`" for file in types) + ".\n")
+        if crate == SOURCE.parent.parent.name:
+            parts.append("\nTraits of the type parameters of `new`: " + ", ".join(f"`{name}` in `{file}`" for file, name in traits().items()) + ".\n")
         views = sorted(file for at, file in walk.views if at == crate)
         if views:
             parts.append("\nViews of its types: " + ", ".join(f"`{file}`" for file in views) + ".\n")

@@ -3,26 +3,24 @@
 
     checks/unfoldings.py [FILE]
 
-An unfolding says what an item is without its indices, and below it, one step to the right, the same of each item that it
-names, in their order, down to a depth; `..` is where the depth ends. The modules that were trimmed are those of the rows of
-`trim` in tests/rows, so the merge gate compares them with what the program makes. Reading and unfolding are this
-script's own; the shapes of operators are those of the rows of `forms`. FILE, checks/unfoldings.rows unless another is
-named, has rows of these calls, each with a module:
+An unfolding is an item without its indices, and below it, one step to the right, the same of each item that it names, in order,
+down to a depth; `..` is where the depth ends. The trimmed modules are those of the rows of `trim` in tests/rows. Reading and
+unfolding are this script's own; the shapes of operators are those of the rows of `forms`. FILE (default: checks/unfoldings.rows)
+has rows of these calls, each with a module:
 
     unfolding EXPORT DEPTH              of the module
-    unfolding_trimmed EXPORT DEPTH      of what a row of `trim EXPORT` with the same module has; or the fault that it has
-    unfolding_edited EXPORT DEPTH       of the module, with the realloc that grows memory for each import of the main module's
+    unfolding_trimmed EXPORT DEPTH      of the answer of the row `trim EXPORT` with the same module, or its fault
+    unfolding_edited EXPORT DEPTH       of the module, with the growing realloc for each import of the main module's realloc
 
-Besides, of each row of `trim` that has bytes, and whose module has nothing that trimming edits (no import of the main
-module's realloc, and no global that a name section names), each export that is kept has to unfold as before, to the depth 5.
-
-Prints what differs, and last how many rows and exports agree; the status is 1 where one differs.
+Also, each kept export of a row of `trim` has to unfold as before, to the depth 5, unless the module imports the main module's
+realloc, or names globals, which trimming edits. Differences are printed, and at last how many rows and exports agree; the status
+is 1 if one differs.
 """
 import argparse
 import pathlib
 import sys
 
-from module_bytes import number_at, sections
+from module_bytes import name_at, sections, signed_at, unsigned_at
 from row_format import answered_bytes, bytes_of, rows_of
 
 sys.path.append(str(pathlib.Path(__file__).resolve().parent.parent / "tools"))
@@ -42,8 +40,7 @@ def quoted(text):
 
 
 class Reader:
-    """Reads bytes from an index on; of a value type, and of operators, what they are without indices, and the types that
-    they name."""
+    """Reads bytes from an index on: types and operators without their indices, and the types and items that they name."""
 
     def __init__(self, data, forms=None):
         self.data, self.at, self.forms = data, 0, forms
@@ -53,24 +50,16 @@ class Reader:
         return self.data[self.at - 1]
 
     def number(self):
-        """An unsigned number of any length."""
-        value, shift = 0, 0
-        while True:
-            byte = self.byte()
-            value |= (byte & 0x7F) << shift
-            shift += 7
-            if byte < 0x80:
-                return value
+        value, self.at = unsigned_at(self.data, self.at)
+        return value
 
     def signed(self):
-        begin = self.at
-        value, shift = self.number(), 7 * (self.at - begin)
-        return value - (1 << shift) if value >> (shift - 1) & 1 else value
+        value, self.at = signed_at(self.data, self.at)
+        return value
 
     def name(self):
-        length = self.number()
-        self.at += length
-        return self.data[self.at - length:self.at].decode()
+        text, self.at = name_at(self.data, self.at)
+        return text
 
     def several(self, item):
         return [item() for _ in range(self.number())]
@@ -210,8 +199,7 @@ class Reader:
 
 
 class Module:
-    """The items of a module: of each its first line, the items that this names, and its content, if it has one. `has_names`: a
-    name section has names of globals."""
+    """The items of a module: the first line, the named items and the content of each. `has_names`: it names globals."""
 
     def __init__(self, data, forms):
         self.forms, self.items, self.exports, self.imports, self.has_names = forms, {kind: [] for kind in ("type", *KINDS)}, [], [], False

@@ -6,11 +6,14 @@
 Followed are the views of each `impl Model` from the first crate up to wc_world, as checks/trust.py follows them. An
 equation of a view turns a variant, or a struct, into a value of `specs/`. Compared are the equations:
 
-- each name that the left side binds stands in the right side;
+- each name that the left side binds occurs in the right side;
 - no two right sides of one view can be the same value: where they differ in a constructor, or in a constant, they can't;
-- a record made of a struct cites each field that the struct has in the sources.
+- a record made of a struct cites each field that the struct has in the sources; of a field that it does not cite as a whole,
+  each field of that field's struct, and so on;
+- names agree: the words in the name of a variant, or of a record's field, occur in what it is made of, more of them than
+  where it changed places with another variant or field.
 
-Not seen is a view that makes two variants change places, or what a function does to a part that it is given whole.
+Not seen is what a function does to a part that it is given whole.
 
 A view applied to a part is one to one where its own equations are; so are texts by their bytes, lists and maps item by
 item. What a view leaves out has to stand in LEFT_OUT, and a view that joins two variants in JOINED, with the
@@ -27,6 +30,7 @@ from trust import CRATES, Walk, models
 TOKEN = re.compile(r"[^\s(){};,=]+|[(){};,=]")
 EQUATION = re.compile(r"(\w+) (.*?)\s=\s(.*)", re.DOTALL)
 STRUCT = re.compile(r"^(?:pub(?:\(crate\))? )?struct (\w+)[^{;(]*\{(.*?)^\}", re.MULTILINE | re.DOTALL)
+WORD = re.compile(r"[A-Z]?[a-z]+")
 
 # The head of a record and of its fields, as of a pair.
 FIELD = "record"
@@ -40,6 +44,14 @@ JOINED = {"types_value": "a type of few parameters and results is the same type 
 LEFT_OUT = {
     ("index_texts", "first"): "a table that is made of the entries, which the view has",
     ("index_texts", "index"): "a table that is made of the entries, which the view has",
+}
+
+# Names that agree no more than where they changed places, and why.
+UNLIKE = {
+    ("rename_in", "module_name", "original"): "parts of a text, cut at the positions where the parts begin",
+    ("rename_in", "module_name", "name"): "parts of a text, cut at the positions where the parts begin",
+    ("names_view", "syntax", "resolve"): "arguments of different types",
+    ("types_value", "Long", "Shared"): "values of different types",
 }
 
 
@@ -111,13 +123,49 @@ def unfolded(tree, constants):
 
 
 def structs():
-    """The fields of each struct of the sources."""
+    """The fields of each struct of the sources, with their types."""
     found = {}
     for path in sorted(CRATES.glob("*/src/**/*.rt")):
         for name, body in STRUCT.findall(path.read_text(encoding="utf-8")):
-            fields = re.findall(r"^    (?:pub(?:\(crate\))? )?(\w+):", body, re.MULTILINE)
-            found.setdefault((path.relative_to(CRATES).parts[0], name), fields)
+            fields = re.findall(r"^    (?:pub(?:\(crate\))? )?(\w+): (.*?),?$", body, re.MULTILINE)
+            found.setdefault((path.relative_to(CRATES).parts[0], name), dict(fields))
     return found
+
+
+def fields_of(declared, crate, name):
+    """The fields of a struct of this name, of the crate or of another one; none of another type."""
+    return next((fields for (at, it), fields in sorted(declared.items(), key=lambda it: it[0][0] != crate) if it == name), {})
+
+
+def left_out(declared, crate, of, path, cited):
+    """The fields that no cited path begins with or leads into, below a path to a struct."""
+    for field, its_type in fields_of(declared, crate, of).items():
+        here = f"{path}.{field}"
+        inner = re.sub(r"<.*|&(?:'\w+ )?", "", its_type)
+        if here not in cited and not any(it.startswith(here + ".") for it in cited):
+            yield here.partition(".")[2]
+        elif here not in cited and fields_of(declared, crate, inner):
+            yield from left_out(declared, crate, inner, here, cited)
+
+
+def words_in(tree):
+    """The words of the names in a side, each without a last `s`."""
+    return {it.lower().rstrip("s") for word in words_of(tree) for it in WORD.findall(word)}
+
+
+def exchanged(pairs):
+    """Which two of some names would agree no less with what they are made of, if they changed places."""
+    named = [(name, words_in(name.split(".")[-1]), words_in(made)) for name, made in pairs]
+    for n, (one, its, made) in enumerate(named):
+        for other, others, others_made in named[:n]:
+            if len(its & made) + len(others & others_made) <= len(its & others_made) + len(others & made):
+                yield other, one
+
+
+def constructor(left):
+    """The constructor of a left side, if it is one."""
+    name = left if isinstance(left, str) else left[0] if isinstance(left[0], str) else ""
+    return name if name.split(".")[-1][:1].isupper() else ""
 
 
 def equations(lines):
@@ -160,11 +208,18 @@ def main():
                 agree = may_agree(unfolded(right, constants), unfolded(other_right, constants), free, constructors)
                 if agree and name not in JOINED:
                     wrong.append(f"{crate} {name}: {left} and {other_left} may have one value")
-        kept = {it.split(".")[1] for _, right in its for it in words_of(right) if "." in it}
-        of = re.search(r": (\w+) →", head)
-        declared = next((fields[at, of[1]] for at in [crate, *[c for c, n in fields if n == of[1]]] if (at, of[1]) in fields), []) if of else []
-        if "record" in {word for _, right in its for word in words_of(right)}:
-            wrong += [f"{crate} {name}: the field {it} is left out" for it in declared if it not in kept and (name, it) not in LEFT_OUT]
+        types = [it.strip() for it in head.partition(" : ")[2].split("→")[:-1]]
+        for left, right in its:
+            arguments = left if isinstance(left, list) and not constructor(left) else [left]
+            made_of = [(of, it) for of, it in zip(types, arguments) if isinstance(it, str)] if FIELD in words_of(right) else []
+            lost = [it for of, argument in made_of for it in left_out(fields, crate, of, argument, words_of(right))]
+            wrong += [f"{crate} {name}: the field {it} is left out" for it in lost if (name, it) not in LEFT_OUT]
+            made = [(it[1], it[2:]) for it in right[1][1:]] if right[0] == FIELD else []
+            pairs = [it for it in exchanged(made) if (name, *it) not in UNLIKE]
+            wrong += [f"{crate} {name}: the fields {one} and {other} may have changed places" for one, other in pairs]
+        made = [(constructor(left), unfolded(right, constants)) for left, right in its if constructor(left)]
+        pairs = [it for it in exchanged(made) if (name, *it) not in UNLIKE]
+        wrong += [f"{crate} {name}: {one} and {other} may have changed places" for one, other in pairs]
     print("\n".join([*wrong, f"{views} views, {count} equations, {len(wrong)} not as wanted"]))
     return 1 if wrong else 0
 

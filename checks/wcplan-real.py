@@ -3,16 +3,15 @@
 
     wcplan-real.py [--program PROGRAM] [--rounds N] FOLDER
 
-PROGRAM is crates/wcplan/out/wcplan unless another is named. FOLDER has four files: wasi-command.json, the world
-`wasi:cli/command` as JSON; wasi-hello.wasm, a C program linked with wasi-libc; wasi-command-adapter.wasm, the adapter
-`wasi_snapshot_preview1`; and wasi-hello.expected, what a component of them is made of: the imports and exports of both
-modules, how each function is lowered and by which options, and the size and the SHA-256 of the trimmed adapter.
+PROGRAM is crates/wcplan/out/wcplan by default. FOLDER has wasi-command.json, the world `wasi:cli/command`; wasi-hello.wasm, a C
+program linked with wasi-libc; wasi-command-adapter.wasm, the adapter `wasi_snapshot_preview1`; and wasi-hello.expected: the
+imports and exports of both modules, how each function of their component is lowered and by which options, and the size and
+SHA-256 of the trimmed adapter.
 
-From the last file the script makes the lines of the plan: a line for each imported function, main module first, with a slot
-for each that is lowered indirectly, and with the module's realloc for each whose options have one. The lines that are
-printed have to be these; the trimmed adapter has to have that size and that sum; and the main module, whose imports
-don't repeat, the bytes that it has. The last line has the fastest of N runs, 20 unless another number is given, from the
-start of the process to its end. The status is 1 where something differs.
+The lines of the plan follow from the last file: a line for each imported function, main module first, with a slot if it is
+lowered indirectly, and the module's realloc if its options have one. The trimmed adapter has that size and sum, and the main
+module, whose imports don't repeat, its own bytes. The last line has the fastest of N runs (20). The status is 1 if something
+differs.
 """
 import argparse
 import hashlib
@@ -34,7 +33,7 @@ LOWERING = re.compile(r"  (\S+) GuestImport(Async)?: (Direct|Indirect) .*Require
 
 
 def modules_of(lines):
-    """Of each module its owner, the functions that it imports, and its realloc for the results of imports."""
+    """For each module its owner, the functions that it imports, and its realloc for the results of imports."""
     modules = [("main", [], ["-"])]
     for line in lines:
         if line.startswith("adapter "):
@@ -48,7 +47,7 @@ def modules_of(lines):
 
 
 def lowerings_of(lines):
-    """Of each function that is lowered whether that is indirect, and its options."""
+    """For each lowered function whether it is lowered indirectly, and its options."""
     lowerings, interface = {}, None
     for line in lines:
         found, lowering = INTERFACE.match(line), LOWERING.fullmatch(line)

@@ -3,30 +3,29 @@
 
     checks/web.py [--quick | --only NAME ..] [--fuzz N] [--wctrim PROGRAM] [--pictures FOLDER]
 
-Its parts, each of which is a line:
+Each part has a line:
 
-    calls       web/calls.mjs and python/nuigatre/_calls.py are what include/nuigatre.h says, and no language lacks a call
-    files       the page loads nothing from elsewhere, and names only files that there are
-    module      web/nuigatre.wasm is what web/nuigatre.wasm.json says; it is said whether it is made of these sources
+    calls       web/calls.mjs and python/nuigatre/_calls.py say what include/nuigatre.h says, and no language lacks a call
+    files       the page loads nothing from elsewhere, and names only files that exist
+    module      web/nuigatre.wasm is what web/nuigatre.wasm.json says, and of which sources it is made
     heap        web/heap.c, the memory of nuigatre.wasm, over refused growth (checks/c/web_heap.c): needs cc
-    memory      calls on large inputs of ten shapes take at most twice the memory that native calls have at once, which
-                web/test/native_peak.c measures over the library that the Rust crate has packed: needs node and cc
-    node        the calls of JavaScript (web/test): needs node, 20 or newer, and web/nuigatre.wasm
-    wctrim      the bytes of web/nuigatre.wasm are those of a program of this machine, for the adapters of examples and damaged
-                ones: the program that --wctrim names, or else checks/c/like_wctrim.c over the library that the Rust crate has
-                packed: needs node, and cc for that
-    python      the calls of Python (python/tests): needs pytest, and cc for the library that the Rust crate has packed, unless
-                NUIGATRE_LIBRARY names another or tools/targets.py made one
-    package     `npm pack` makes a package of web/, and the files in it run: needs npm; versions are those of the Rust crate
+    memory      calls on large inputs of ten shapes take at most twice the memory of native calls over the packed library
+                (web/test/native_peak.c): needs node and cc
+    node        the calls of JavaScript (web/test): needs node 20 and web/nuigatre.wasm
+    wctrim      the bytes of web/nuigatre.wasm are those of a program, for the adapters of examples and damaged ones: of the
+                program that --wctrim names, or of checks/c/like_wctrim.c over the packed library: needs node and cc
+    python      the calls of Python (python/tests), over the library that NUIGATRE_LIBRARY names or tools/targets.py made, or the
+                packed one: needs pytest and cc
+    package     `npm pack` makes a package of web/ whose files run, with the Rust crate's version: needs npm
     one file    the page as one file (web/one-file.py), opened from a disk in chromium and firefox-esr
-    keys        the page in chromium, by real keys: the picture is one stop of the Tab key, arrows go through it, and Enter picks
-                an import. After the window is resized it is said whether the picture is wider than its room
+    keys        the page in chromium, by real keys: the picture is one stop of the Tab key, arrows go through it, Enter picks an
+                import, and a resized page says if the picture is wider than its room
     chromium    the page, used as a person would (web/test/driver.mjs): light and dark at 320, 1000 and 2000 pixels, and N
                 damaged files
     firefox     the same in firefox-esr
 
-What is not there is said, with the package of Debian that has it, and is no fault, unless --only names the part. With --quick
-the first eight are run. With --pictures a picture of each width, light and dark, goes to the folder. The status is 1 where something is not as wanted.
+A part whose tool is missing is left out, with Debian's package, and fails only if --only names it. --quick runs the first
+eight. --pictures writes a picture of each width, light and dark. The status is 1 if a part fails.
 """
 import argparse
 import contextlib
@@ -60,11 +59,11 @@ ADDRESSES = "http://www.w3.org/2000/svg", "http://localhost:8000/web/"
 
 
 class Wrong(Exception):
-    """What is not as wanted."""
+    """Why a part fails."""
 
 
 class Missing(Exception):
-    """What a part needs, and is not there."""
+    """What a part needs, and is missing."""
 
 
 def run(words, **how):
@@ -82,7 +81,7 @@ def need(*programs):
     """The first of these programs that there is."""
     found = next(filter(None, map(shutil.which, programs)), None)
     if not found:
-        raise Missing(f"there is no {' or '.join(programs)}: apt-get install {PACKAGES.get(programs[0], programs[0])}")
+        raise Missing(f"{' or '.join(programs)} is missing: apt-get install {PACKAGES.get(programs[0], programs[0])}")
     return found
 
 
@@ -121,7 +120,7 @@ def files(_):
                 raise Wrong(f"web/{name} names {address}")
         for other in re.findall(r'(?:from|src=|href=|new URL\()\s*"(\./)?([\w.-]+\.(?:mjs|css|wasm))"', text):
             if not (WEB / other[1]).exists():
-                raise Wrong(f"web/{name} names {other[1]}, which is not there")
+                raise Wrong(f"web/{name} names {other[1]}, which is missing")
     policy = re.search(r'Content-Security-Policy" content="([^"]*)"', sources["index.html"])[1]
     for part in "default-src 'none'", "connect-src 'self'", "script-src 'self' 'wasm-unsafe-eval'":
         if part not in policy:
@@ -135,30 +134,32 @@ def files(_):
 
 
 def module(_):
-    """Of which sources the module is: that these are others is said, and is no fault, for it is made once for a version."""
+    """Says of which sources the module is made. Other sources are no fault, since it is made once for a version."""
     if not (WEB / "nuigatre.wasm").is_file():
-        raise Missing("there is no web/nuigatre.wasm: web/build.py makes it")
+        raise Missing("web/nuigatre.wasm is missing: web/build.py makes it")
     ran = subprocess.run([WEB / "build.py", "--state"], capture_output=True, text=True, check=False)
     if "is made of" not in ran.stdout:
         raise Wrong(ran.stdout + ran.stderr)
     return ran.stdout.strip()
 
 
+def compiled(folder, *sources):
+    """A program of these sources in C."""
+    program = os.path.join(folder, "program")
+    run([need("cc"), "-std=gnu11", "-Wall", "-Wextra", "-Werror", "-O2", "-I", TOP / "include", *sources, "-o", program])
+    return program
+
+
 def heap(_):
-    compiler = need("cc")
     with tempfile.TemporaryDirectory() as folder:
-        program = os.path.join(folder, "web_heap")
-        run([compiler, "-std=gnu11", "-Wall", "-Wextra", "-Werror", "-O2", TOP / "checks" / "c" / "web_heap.c", "-o", program])
-        return run([program, "300", "1"]).strip()
+        return run([compiled(folder, TOP / "checks" / "c" / "web_heap.c"), "300", "1"]).strip()
 
 
 def memory(_):
     """The memory of calls beside that of native ones."""
     words = [need("node"), WEB / "test" / "memory.mjs"]
     with tempfile.TemporaryDirectory() as folder:
-        sources = WEB / "test" / "native_peak.c", os.path.join(packed(folder), "libnuigatre.a")
-        program = os.path.join(folder, "native_peak")
-        run([need("cc"), "-std=gnu11", "-Wall", "-Wextra", "-Werror", "-O2", "-I", TOP / "include", *sources, "-o", program])
+        program = compiled(folder, WEB / "test" / "native_peak.c", os.path.join(packed(folder), "libnuigatre.a"))
         with of_these_sources():
             return run([*words, program]).strip()
 
@@ -166,7 +167,7 @@ def memory(_):
 def node(_):
     program = need("node")
     if not (WEB / "nuigatre.wasm").is_file():
-        raise Missing("there is no web/nuigatre.wasm: web/build.py makes it")
+        raise Missing("web/nuigatre.wasm is missing: web/build.py makes it")
     said = run([program, "--test", "--test-reporter=tap", *sorted((WEB / "test").glob("*.test.mjs"))])
     return " ".join(re.findall(r"^# ((?:pass|fail) \d+)$", said, re.M))
 
@@ -178,8 +179,7 @@ def wctrim(arguments):
         return run([*words, os.path.abspath(arguments.wctrim)]).strip()
     with tempfile.TemporaryDirectory() as folder:
         sources = TOP / "checks" / "c" / "like_wctrim.c", TOP / "include" / "nuigatre_heap.c", os.path.join(packed(folder), "libnuigatre.a")
-        program = os.path.join(folder, "like_wctrim")
-        run([need("cc"), "-std=gnu11", "-Wall", "-Wextra", "-Werror", "-O2", "-I", TOP / "include", *sources, "-o", program])
+        program = compiled(folder, *sources)
         with of_these_sources():
             return run([*words, program]).strip() + ", by the library that the Rust crate has packed"
 
@@ -189,7 +189,7 @@ def python(_):
     has = lambda it: subprocess.run([it, "-c", "import pytest"], capture_output=True, check=False).returncode == 0
     found = next(filter(has, pythons), None)
     if not found:
-        raise Missing("there is no pytest: apt-get install python3-pytest")
+        raise Missing("pytest is missing: apt-get install python3-pytest")
     made = TOP / "crates" / "nuigatre" / "out" / os.uname().machine / "libnuigatre.so"
     there = filter(os.path.isfile, (os.environ.get("NUIGATRE_LIBRARY", ""), made, TOP / "python" / "nuigatre" / "libnuigatre.so"))
     with tempfile.TemporaryDirectory() as folder:
@@ -227,29 +227,13 @@ def package(_):
 
 def one_file(_):
     """The page as one file, opened from a disk."""
-    there = [it for it in (browsers.Chromium, browsers.Firefox) if browsers.program_of(it)]
-    if not there:
-        raise Missing("there is neither chromium nor firefox-esr: apt-get install one")
-    said = []
-    for kind in there:
-        with tempfile.TemporaryDirectory(ignore_cleanup_errors=True) as folder:
-            page = os.path.join(folder, "nuigatre.html")
-            run([WEB / "one-file.py", page])
-            profile = os.path.join(folder, "profile")
-            os.mkdir(profile)
-            browser = kind(browsers.program_of(kind), profile)
-            try:
-                browser.open(f"file://{page}?example&seconds={SECONDS}")
-                browsers.waited(browser, '(document.querySelector("#numbers")?.textContent.length ?? 0) > 0')
-                numbers, faults = (browser.ask('document.querySelector("#%s").textContent' % it) for it in ("numbers", "faults"))
-            except browsers.Failed as why:
-                raise Wrong(f"{kind.name}: {why}") from why
-            finally:
-                browser.close()
-        if faults or "512 bytes → 317 bytes" not in numbers:
-            raise Wrong(f"{kind.name}: {numbers} {faults}")
-        said.append(kind.name)
-    return "opened from a disk in " + " and ".join(said)
+    try:
+        names = browsers.show_example(lambda path: run([WEB / "one-file.py", path]))
+    except browsers.Failed as why:
+        raise Wrong(str(why)) from why
+    if not names:
+        raise Missing("chromium and firefox-esr are missing: apt-get install one")
+    return "opened from a disk in " + " and ".join(names)
 
 
 # what has the focus: in which part it is, which box it is, and whether it is one of those that pick an import
@@ -390,7 +374,7 @@ def height_of(width):
 
 
 def judged(results):
-    """The lines on what was seen; what is not as wanted is raised."""
+    """The lines on what was seen; Wrong if a line fails."""
     if results is None:
         raise Wrong("the page sent no results")
     wrong = [it["what"] for it in results if not it["is"]]
@@ -426,7 +410,7 @@ def browser(words_of, arguments):
             address = page.address(f"width={width}&fuzz={arguments.fuzz}&{what}&{scheme}")
             results = opened(words_of(folder, address, width, picture, scheme), page)
         said += [it["what"] for it in results if "slowest" in it["what"]]
-        said.append(f"{what} at {width} pixels, {scheme}: {len(results)} as wanted")
+        said.append(f"{what} at {width} pixels, {scheme}: {len(results)} passed")
     return "; ".join(said)
 
 
@@ -471,13 +455,13 @@ def main():
     wrong = 0
     for name in arguments.only or (QUICK if arguments.quick else PARTS):
         try:
-            line = "as wanted: " + PARTS[name](arguments)
+            line = "passed: " + PARTS[name](arguments)
         except Missing as why:
             wrong += bool(arguments.only)
             line = "left out: " + str(why)
         except Wrong as why:
             wrong += 1
-            line = "NOT as wanted: " + str(why)
+            line = "FAILED: " + str(why)
         print(f"{name}: {line}", flush=True)
     return 1 if wrong else 0
 

@@ -2,9 +2,10 @@
 import json
 
 from library import BAD_ARGUMENT, DONE, FAULT, MEMORY, SAME
+from module_bytes import name_at, number_at
+from records import lines_of_place
 from row_format import BadRow, bytes_of, lines_of_bytes, quoted
 
-SECTIONS = "custom type import function table memory global export start element code data".split() + ["data count"]
 SPACES = "type", "func", "table", "memory", "global"
 
 
@@ -26,21 +27,6 @@ def member(data):
     return json.loads(data) if data else None
 
 
-def place_lines(place):
-    """The line of what a fault is about, as its `Display` has it."""
-    if place is None:
-        return ["none"]
-    if place["kind"] == "bytes":
-        section = place["section"]
-        return ["byte %d" % place["offset"] + ("" if section is None else ", in the %s section" % SECTIONS[section])]
-    if place["kind"] == "section":
-        return ["%s section" % SECTIONS[place["id"]]]
-    if place["kind"] == "body":
-        at = "" if place["operator"] is None else "operator %d of the " % place["operator"]
-        return ["%sbody of function %d" % (at, place["function"])]
-    raise BadRow("no place", json.dumps(place))
-
-
 def fault_lines(library, call, answer, names=()):
     """The line of a fault of a call on bytes."""
     if answer.status == MEMORY:
@@ -57,25 +43,24 @@ def trimmed(row, doors, realloc, page, names):
     return doors.library.ask("trim", *arguments)
 
 
-def answer_trim(row, doors):
-    names = names_from(row, 0, True)
-    answer = trimmed(row, doors, None, 16, names)
+def answer_trim(row, doors, names=None, realloc=None, page=16):
+    names = names or names_from(row, 0, True)
+    answer = trimmed(row, doors, realloc, page, names)
+    if answer.status == BAD_ARGUMENT:
+        raise BadRow("no exponent", row.argument(1))
     return lines_of_bytes("bytes", answer.bytes) if answer.status == DONE else fault_lines(doors.library, "trim", answer, names)
 
 
 def answer_trim_for(row, doors):
-    names, realloc = names_from(row, 2, True), row.argument(0)
-    answer = trimmed(row, doors, None if realloc == "-" else realloc.encode(), row.number(1, "exponent"), names)
-    if answer.status == BAD_ARGUMENT:
-        raise BadRow("no exponent", row.argument(1))
-    return lines_of_bytes("bytes", answer.bytes) if answer.status == DONE else fault_lines(doors.library, "trim", answer, names)
+    realloc = row.argument(0)
+    return answer_trim(row, doors, names_from(row, 2, True), None if realloc == "-" else realloc.encode(), row.number(1, "exponent"))
 
 
 def explained(library, call, answer, names=()):
     """`ok`; or the fault and what it is about."""
     if answer.status in (DONE, SAME):
         return ["ok"]
-    return fault_lines(library, call, answer, names) + place_lines(member(answer.bytes))
+    return fault_lines(library, call, answer, names) + lines_of_place(member(answer.bytes))
 
 
 def answer_explain_trim(row, doors):
@@ -92,25 +77,14 @@ def answer_explain_read(row, doors):
     return explained(doors.library, "scan", doors.library.ask("scan", bytes_of(row.input)))
 
 
-def leb(data, at):
-    """An unsigned number, and the index after it."""
-    value = shift = 0
-    while True:
-        value |= (data[at] & 127) << shift
-        at, shift = at + 1, shift + 7
-        if data[at - 1] < 128:
-            return value, at
-
-
 def renames_of(data):
     """The renames after a renamed module: of each its module, its original name and its new one."""
-    count, at = leb(data, 0)
+    count, at = number_at(data, 0)
     for _ in range(count):
         words = []
         for _ in range(3):
-            length, at = leb(data, at)
-            words.append(data[at : at + length].decode())
-            at += length
+            word, at = name_at(data, at)
+            words.append(word)
         yield words
 
 
@@ -166,7 +140,7 @@ def step_line(step):
 
 
 def answer_paths(row, doors):
-    """Of each import the path that leads there; the imports are those that `scan` lists."""
+    """The path to each import that `scan` lists."""
     wasm, library = bytes_of(row.input), doors.library
     answer = library.ask("paths", wasm, [], [])
     if answer.status != DONE:
@@ -189,7 +163,7 @@ def answer_function_names(row, doors):
 
 
 def answer_fronts(row, doors):
-    """Of each front of a module what reading it and trimming it return."""
+    """What reading and trimming each front of a module return."""
     wasm, names, library, lines = bytes_of(row.input), names_from(row, 0, True), doors.library, []
     for length in range(len(wasm)):
         read, cut = library.ask("scan", wasm[:length]), library.ask("trim", wasm[:length], names, False, b"", 16)

@@ -1,41 +1,17 @@
 """Modules that lines `do ..` describe, an import or an export each (docs/ROWS.md, "Calls on validated modules")."""
 import re
 
+from module_bytes import HEADER, name, number, section, vector
 from row_format import BadRow
 from words import Words
 
-HEADER = b"\0asm\1\0\0\0"
 PLAIN = {"i32": 0x7F, "i64": 0x7E, "f32": 0x7D, "f64": 0x7C, "v128": 0x7B, "funcref": 0x70, "externref": 0x6F}
 REFERENCES = {"ref:func": b"\x64\x70", "ref:extern": b"\x64\x6f"}
 REFERENCE = re.compile(r"ref(-null)?:(\d+)")
-# of a type the initialiser of a global: zero, or null
+# the initialiser of a global of each type: zero, or null
 INITIALISERS = {b"\x7f": b"\x41\0\x0b", b"\x7e": b"\x42\0\x0b", b"\x70": b"\xd0\x70\x0b", b"\x6f": b"\xd0\x6f\x0b"}
 KINDS = "func", "table", "memory", "global"
 UNREACHABLE = b"\3\0\0\x0b"
-
-
-def number(value):
-    """A number as LEB128, with the fewest bytes."""
-    made = b""
-    while value > 127:
-        made, value = made + bytes([value % 128 + 128]), value // 128
-    return made + bytes([value])
-
-
-def name(text):
-    """A name: its length and its bytes."""
-    return number(len(text.encode())) + text.encode()
-
-
-def vector(items):
-    """How many items there are, and the items."""
-    return number(len(items)) + b"".join(items)
-
-
-def section(id_of_section, items):
-    """A section of a vector; nothing where that is empty."""
-    content = vector(items)
-    return bytes([id_of_section]) + number(len(content)) + content if items else b""
 
 
 def value_type(words):
@@ -140,7 +116,7 @@ class Module:
         imports = [name(module) + name(field) + bytes([kind]) + ty for module, field, kind, ty in self.imports]
         sections = (1, self.types), (2, imports), (3, defined[0]), (4, defined[1]), (5, defined[2]), (6, globals_of_types)
         last = (7, exports), (10, [UNREACHABLE] * len(defined[0]))
-        return HEADER + b"".join(section(*it) for it in sections + last)
+        return HEADER + b"".join(section(ident, vector(items)) for ident, items in sections + last if items)
 
 
 def described(lines):

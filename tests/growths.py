@@ -1,9 +1,10 @@
 """Refuses growths of memory that rows ask for, one at a time.
 
-Of the library a call whose growth is refused has to answer that memory ran out, with its buffer as it was; or, where it does
-without, what it answers as ever. A program has to end with status 1 and a line that says so, or that a file could not be read or
-written, or as ever. Of a row with many growths some are refused, evenly spread; rows are taken in a random order, the same each time, until the time is over. The program of rows is
-run by checks/failing-allocations.py."""
+A call of the library whose growth is refused has to say that memory ran out, with its buffer as it was, or to answer as usual. A
+program has to end with status 1 and a line that says so, or that a file could not be read or written, or as usual. Of many
+growths some are refused, evenly spread. Rows come in a random order, the same each time, until the time is over.
+checks/failing-allocations.py runs the program of rows.
+"""
 import os
 import random
 import re
@@ -34,8 +35,7 @@ def numbers(count):
 
 
 class Refusing:
-    """A library, of which each call is made again and again, with growths refused. It counts these, and has a line for each that is
-    answered otherwise than it has to be."""
+    """A library whose calls are made again and again, with growths refused: their number, and a line for each wrong answer."""
 
     def __init__(self, library):
         self.library, self.refused, self.wrong = library, 0, []
@@ -110,7 +110,7 @@ def is_wanted(run, first):
 
 
 def judged(at):
-    """Of a row how many growths were refused, and what was wrong; None where the time is over."""
+    """How many growths of a row were refused, and what was wrong; None if the time is over."""
     file, name, row = Given.rows[at]
     if time.monotonic() > Given.ends:
         return None

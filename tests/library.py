@@ -110,7 +110,7 @@ def ways_to_link(archive, folder, shared):
 
 def link(archive, folder):
     """The shared library of an archive, over tests/heap.c."""
-    shared, why = folder / "libnuigatre.so", "there is no cc"
+    shared, why = folder / "libnuigatre.so", "cc is missing"
     for commands in ways_to_link(archive, folder, shared):
         try:
             for command in commands:

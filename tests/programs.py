@@ -117,8 +117,7 @@ class Folder:
             shutil.rmtree(path, ignore_errors=True)
 
     def made(self):
-        """The directories and the files that the row doesn't have: the paths of those directories that have no other one, and the
-        bytes of each file."""
+        """What the row doesn't have: the paths of the directories without others in them, and the bytes of each file."""
         given = {os.path.normpath(path): data for path, data in self.given.items()}
         own = {os.path.normpath(os.path.dirname(it.path) if it.word == "beneath" else it.path) for it in self.special}
         above = {parent for path in given for parent in parents(path)}
@@ -234,7 +233,7 @@ def failing(name):
 def full_file():
     """An output that takes nothing."""
     if not os.path.exists("/dev/full"):
-        raise LeftOut("there is no /dev/full here")
+        raise LeftOut("/dev/full is missing here")
     return "/dev/full"
 
 

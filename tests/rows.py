@@ -1,27 +1,22 @@
 #!/usr/bin/env python3
-"""Asks the rows of tests, and compares the answers with those that are wanted.
+"""Asks the rows of tests, and compares the answers.
 
     tests/rows.py [--all | --proved | --checked] [--growths] [--library FILE] [--program NAME=FILE] [FILE.rows[:ROW] ..]
     tests/rows.py [..] -
 
-docs/ROWS.md says what a row is. Those of tests/rows are asked of the library, through ctypes, and of the programs wctrim, wcwhy
-and wcplan; those of crates/wc_tests/data of the program of rows, wc_tests. Without FILE all are asked; a name stands for the file of
-that name in both folders, and another file is asked like those of tests/rows.
+docs/ROWS.md says what a row is. Rows of tests/rows are asked of the library, through ctypes, and of wctrim, wcwhy and wcplan;
+rows of crates/wc_tests/data of the program of rows, wc_tests. The default is all; a name stands for the file of that name in both
+folders. With - rows are read from standard input, and each is printed with its answer.
 
-The library is the one that was proved in this checkout (crates/nuigatre/out), or else the packed one (rust/nuigatre/lib), where its
-checksum is that of these sources, or else one that is compiled without its proof. Each program is the proved one, or else the same
-source compiled without its proof, as its script has it. What isn't there and can't be compiled, without rt on PATH, is left out, and
-so is a row for which the machine lacks something, as a file system that can only be read: a line says how many rows that leaves
-out, and why. --proved takes nothing that isn't proved. --all takes what was proved in this checkout alone, and fails where that
-lacks a program or the library; the merge gate runs that. --checked takes programs that check each access of
-memory as they run. --library and --program name others: a shared library with tests/heap.c in it, and a program.
+The library is the one proved in this checkout (crates/nuigatre/out), else the packed one (rust/nuigatre/lib), if it is made of
+these sources, else one compiled without its proof. A program is the proved one, else one compiled without its proof. What is
+missing and can't be compiled, without rt on PATH, is left out, and so is a row for which the machine lacks something; a line
+says how many rows, and why. --proved takes only what is proved. --all takes only what was proved in this checkout, and fails
+if that lacks something; the merge gate runs it. --checked takes programs that check each access of memory. --library names a
+shared library with tests/heap.c in it.
 
-A row that names no call, an answer that differs and a file that is missing have a line each with the file and the row. The last
-line is `N passed, M failed`; the status is 1 where a row failed.
-
-With --growths each growth of memory that a row asks for is then refused in turn, some of them where they are many, for two minutes
-at most: a call of the library has to answer that memory ran out, with its buffer as it was, or as ever where it does without; a
-program ends likewise. A row where it does otherwise has failed. With - rows are read from standard input, and each is printed with its answer.
+Each failed row is printed, with its file. The last line is `N passed, M failed`; the status is 1 if a row failed. --growths also
+refuses growths of memory (tests/growths.py), for two minutes at most.
 """
 import argparse
 import collections
@@ -61,7 +56,7 @@ class Doors:
         self.named, self.is_checked = dict(word.split("=", 1) for word in given.program), given.checked
 
     def known(self, name, find):
-        """What `find` returns, asked once; a LeftOut where there is none."""
+        """What `find` returns, asked once; a LeftOut if there is none."""
         if name not in self.found:
             try:
                 self.found[name] = find()
@@ -87,7 +82,7 @@ class Doors:
     def find_program(self, name):
         path = pathlib.Path(self.named.get(name) or self.path_of(name)).absolute()
         if not path.is_file():
-            raise Missing("%s is not there" % path)
+            raise Missing("%s is missing" % path)
         return path
 
     def path_of(self, name):
@@ -129,7 +124,7 @@ def door_of(row):
 
 
 def judged(at):
-    """Of a row what differs, or None; or why it is left out."""
+    """What differs in a row's answer, or None; and why the row is left out, or None."""
     file, row = Asked.rows[at]
     try:
         lines = answer(row, Asked.doors)
@@ -219,8 +214,8 @@ def refuse(doors, outside, inside, total):
 
 
 def alone(folder, path, name):
-    """A file of one row of a file, with the fixtures that it uses."""
-    (folder / path.name).write_text("".join(row.text for row in growths.failing.rows_of(path) if row.name == name), encoding="utf-8")
+    """A file of one row of a file."""
+    (folder / path.name).write_text("\n".join(row.text() for row in rows_of(path) if row.name == name), encoding="utf-8")
     return folder / path.name
 
 

@@ -4,40 +4,23 @@ import re
 from row_format import BadRow
 
 NUMBER = re.compile(r"\d+")
+TOKEN = re.compile(r'[ \t,]+|"((?:[^"\\]|\\.)*)"|([():]|[^ \t,():"][^ \t,()"]*)', re.S)
 
 
 def words_of(line):
-    """The words of a line, each with whether it is quoted. Blanks and commas separate words; `(`, `)` and the `:` that a
-    word ends with are words of their own."""
-    words, text, at = [], "", 0
-
-    def end():
-        nonlocal text
-        if len(text) > 1 and text.endswith(":"):
-            words.extend([(text[:-1], False), (":", False)])
-        elif text:
-            words.append((text, False))
-        text = ""
-
+    """The words of a line, each with whether it is quoted; `(`, `)` and the `:` that ends a word are words of their own."""
+    words, at = [], 0
     while at < len(line):
-        character = line[at]
-        at += 1
-        if character in " \t,":
-            end()
-        elif character in "()" or (character == ":" and not text):
-            end()
-            words.append((character, False))
-        elif character == '"':
-            end()
-            quoted = re.compile(r'((?:[^"\\]|\\.)*)"', re.S).match(line, at)
-            if not quoted:
-                raise BadRow("a quote is open", line)
-            escaped = {"\\n": "\n"}
-            words.append((re.sub(r"\\.", lambda it: escaped.get(it[0], it[0][1]), quoted[1]), True))
-            at = quoted.end()
-        else:
-            text += character
-    end()
+        token = TOKEN.match(line, at)
+        if not token:
+            raise BadRow("a quote is open", line)
+        at, (quoted, plain) = token.end(), token.groups()
+        if quoted is not None:
+            words.append((re.sub(r"\\(.)", lambda it: "\n" if it[1] == "n" else it[1], quoted, flags=re.S), True))
+        elif plain and len(plain) > 1 and plain.endswith(":"):
+            words += [(plain[:-1], False), (":", False)]
+        elif plain:
+            words.append((plain, False))
     return words
 
 

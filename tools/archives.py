@@ -1,27 +1,25 @@
 #!/usr/bin/env python3
-"""Puts the static libraries for x86-64 and aarch64 into the Rust crate, so that it is built where there is no rt.
+"""Puts the static libraries for x86-64 and aarch64 into the Rust crate, so that it can be built without rt.
 
     tools/archives.py                      of what is proved
     tools/archives.py --from FOLDER --out FOLDER [--unproved]
     tools/archives.py --check [--again] [TARGET ..]
 
-rust/nuigatre/lib then has, for each TARGET (x86_64 and aarch64), TARGET-unknown-linux-gnu/libnuigatre.a.gz, stripped and packed,
-and for all
+rust/nuigatre/lib then has TARGET-unknown-linux-gnu/libnuigatre.a.gz for each TARGET (x86_64 and aarch64), stripped and packed, and
 
     BUILT        the version, the commit, the kit, the number of the form, whether all is proved, a checksum of the sources,
                  and what stripped them
     SHA256SUMS   of each file
 
-The libraries are crates/nuigatre/out/TARGET/libnuigatre.a, which tools/targets.py makes, or crates/nuigatre/out/libnuigatre.a
-for x86-64, which rust/check makes, the newer one; with --from they are FOLDER/TARGET/libnuigatre.a. None may be older than its sources,
-and the sources have to be committed. Nothing is put where one is missing, calls another function than those of its heap and
-five of the C library, or was not proved (--unproved takes those too, to try this script, and wants --out), or where all have
-more than 3 MB.
+The libraries are crates/nuigatre/out/TARGET/libnuigatre.a, from tools/targets.py, or for x86-64 the newer one of that and
+crates/nuigatre/out/libnuigatre.a, from rust/check; with --from they are FOLDER/TARGET/libnuigatre.a. They may not be older than
+their sources, which have to be committed. Nothing is put if one is missing, calls other functions than its heap and five of the C
+library, or was not proved, or if all have more than 3 MB. --unproved takes such libraries too, to try this script, and needs
+--out.
 
-With --check nothing is put. Checksums, size, version and form are compared with what the files say, and each library that was
-made again, as above, with the one in the crate, byte by byte. With --again they are made again now, as tools/targets.py makes
-them, in a folder that is removed. What differs is printed, with the reason: other sources, another kit, another version. The
-status is 1 where the checksums are wrong, or bytes differ without a reason.
+--check compares checksums, size, version and form with what the files say, and each library that was made again with the one in
+the crate, byte by byte; --again makes them again now, by tools/targets.py. It prints what differs, and whether sources, kit or
+version do. The status is 1 if the checksums are wrong, or if bytes differ without such a reason.
 """
 import argparse
 import gzip
@@ -30,11 +28,10 @@ import os
 import pathlib
 import re
 import shutil
-import subprocess
 import sys
 import tempfile
 
-from repository import TOP, crates_below, files_of, need, read
+from repository import TOP, code_of, crates_below, files_of, need, read, run
 
 sys.path.append(str(TOP / "rust"))
 import pkgconfig
@@ -48,21 +45,11 @@ PACKED = ARCHIVE + ".gz"
 LIMIT = 3_000_000
 # what a library asks for: its heap, and what compilers expect of each C library
 CALLED = {"rattle_alloc", "rattle_realloc", "rattle_dealloc", "memcpy", "memmove", "memset", "memcmp", "bcmp"}
-MACHINES = {"x86_64": 62, "aarch64": 183}
-# so many of the sections that differ are named
-SHOWN = 8
+MACHINES = {"x86_64": "Advanced Micro Devices X86-64", "aarch64": "AArch64"}
 
 
 def fail(text):
     sys.exit("%s: %s" % (os.path.relpath(sys.argv[0], TOP), text))
-
-
-def run(*command, **how):
-    """What a command prints; ends where it fails."""
-    ran = subprocess.run(list(map(str, command)), capture_output=True, text=True, check=False, **how)
-    if ran.returncode:
-        fail("%s\n%s%s" % (" ".join(map(str, command)), ran.stdout, ran.stderr))
-    return ran.stdout
 
 
 def sources(crate):
@@ -82,11 +69,11 @@ def fresh(path, crate, how):
 
 
 def checksum_of_sources():
-    """A checksum of all that the library is compiled of: the texts, with their paths."""
+    """A checksum of all that the library is compiled of: the code of each file, with its path. Comments don't count."""
     digest = hashlib.sha256()
     for path in sorted(sources(CRATE)):
         digest.update(f"{path.relative_to(TOP)}\n".encode())
-        digest.update(hashlib.sha256(path.read_bytes()).digest())
+        digest.update(hashlib.sha256(code_of(path).encode()).digest())
     return digest.hexdigest()
 
 
@@ -160,7 +147,7 @@ def unfit(target, archive, is_proved):
     listed = run(targets.tool(target, "nm"), archive)
     called = set(re.findall(r" [Uw] (\w+)$", listed, re.M)) - set(re.findall(r" [TRDBVW] (\w+)$", listed, re.M))
     form = symbols.numbered("nuigatre_abi")
-    if machines(archive) != {MACHINES[target]}:
+    if set(re.findall(r"^  Machine: +(.*)$", run("readelf", "-h", archive), re.M)) != {MACHINES[target]}:
         return "it is for another processor"
     if f" T {form}\n" not in listed:
         return f"it has no symbol {form}"
@@ -169,49 +156,6 @@ def unfit(target, archive, is_proved):
     if is_proved and (symbols.numbered("nuigatre_unproved") in listed or not is_of_proof(archive)):
         return NO_PROOF
     return None
-
-
-def members(archive):
-    """The object files of a library."""
-    data, at = pathlib.Path(archive).read_bytes(), 8
-    while at + 60 <= len(data):
-        name, size = data[at : at + 16].decode().strip(), int(data[at + 48 : at + 58])
-        content, at = data[at + 60 : at + 60 + size], at + 60 + size + size % 2
-        if content[:4] == b"\x7fELF":
-            yield name, content
-
-
-def machines(archive):
-    return {number(content, 18, 2) for _, content in members(archive)}
-
-
-def number(data, at, size):
-    return int.from_bytes(data[at : at + size], "little")
-
-
-def sections(archive):
-    """The checksums of the sections of a library's object files, by their names."""
-    found = {}
-    for name, data in members(archive):
-        table, size, count, names = number(data, 40, 8), number(data, 58, 2), number(data, 60, 2), number(data, 62, 2)
-        texts = number(data, table + names * size + 24, 8)
-        for at in range(table, table + count * size, size):
-            begin, first = texts + number(data, at, 4), number(data, at + 24, 8)
-            title = data[begin : data.index(b"\0", begin)].decode()
-            # one of zeros has no bytes here
-            last = first if number(data, at + 4, 4) == 8 else first + number(data, at + 32, 8)
-            found.setdefault((name, title), hashlib.sha256()).update(data[first:last])
-    return {key: digest.digest() for key, digest in found.items()}
-
-
-def differences(one, other):
-    """What differs between two libraries, in a line: the sections, of which each function has its own."""
-    first, second = sections(one), sections(other)
-    titles = [name for name in sorted({*first, *second}) if first.get(name) != second.get(name)]
-    shown = " ".join(title for _, title in titles[:SHOWN])
-    more = f" and {len(titles) - SHOWN} more" if len(titles) > SHOWN else ""
-    sizes = "%d and %d bytes" % (os.path.getsize(one), os.path.getsize(other))
-    return f"{sizes}; of {len({*first, *second})} sections {len(titles)} differ: {shown}{more}"
 
 
 def fill(folder, asked):
@@ -284,7 +228,7 @@ def compared(target, folder, why):
         if kept.read_bytes() == again.read_bytes():
             print(f"{target}: the same bytes")
             return False
-        print(f"{target}: {differences(kept, again)}")
+        print(f"{target}: other bytes: {kept.stat().st_size} in the crate, and {again.stat().st_size} now")
         return not why
 
 
@@ -326,6 +270,7 @@ def main():
         parser.error("TARGET is %s, and needs --check" % " or ".join(targets.TARGETS))
     if asked.unproved and not asked.out:
         parser.error("--unproved needs --out: the crate gets proved libraries alone")
+    need("readelf binutils")
     for target in asked.targets or targets.TARGETS:
         need(*(f"{targets.tool(target, tool)} {targets.TARGETS[target][4]}" for tool in ("strip", "nm", "objcopy")))
     if asked.check:

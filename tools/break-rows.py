@@ -1,10 +1,10 @@
 #!/usr/bin/env python3
-"""Breaks the lines of bytes in answers of rows as the program of rows prints them: 32 bytes each.
+"""Breaks the lines of bytes in answers of rows as the program of rows prints them, at 32 bytes.
 
     tools/break-rows.py [--write] [FILE ..]
 
-FILE is a file of rows; without one all are taken. Without --write it prints the files in which a line is broken elsewhere,
-and ends with status 1 where there is one. So bytes can be put into an answer, or taken out, anywhere.
+The default is all files of rows. So bytes can be put into an answer, or taken out, anywhere. Without --write the files whose
+lines are broken elsewhere are printed; the status is then 1.
 """
 import argparse
 import itertools
@@ -44,7 +44,7 @@ def main():
         else:
             print(f"{path.name} has lines of other lengths: tools/break-rows.py --write {path}")
             wrong += 1
-    print(f"{len(files)} files, {wrong} not as wanted")
+    print(f"{len(files)} files, {wrong} wrong")
     return 1 if wrong else 0
 
 

@@ -1,12 +1,12 @@
 #!/usr/bin/env python3
-"""The calls of include/nuigatre.h as one table, for languages that call the library without its header.
+"""Makes one table of the calls of include/nuigatre.h, for languages that call the library without its header.
 
     tools/c_calls.py [--write]
 
-The table says of each call its parameters and its result, and has the fields of an answer, the statuses, the numbers of the
-calls on bytes and the faults: web/calls.mjs for JavaScript, and python/nuigatre/_calls.py for Python. --write makes both.
-Else they are compared with the header, and each call has to be made by both languages, and to be a method of the types of
-TypeScript. What differs is printed, and the status is 1.
+The table has each call's parameters and result, the fields of an answer, the statuses, the numbers of the calls on bytes, and
+the faults: web/calls.mjs for JavaScript, and python/nuigatre/_calls.py for Python. --write makes both. Without it they are
+compared with the header, and each call has to be made by both languages, and to be a method of the types of TypeScript.
+Differences are printed; the status is then 1.
 """
 import argparse
 import json
@@ -114,7 +114,7 @@ def camel(name):
     return first + "".join(it.capitalize() for it in others)
 
 
-# of each language the file, and what is there of each call
+# the file of each language, and a pattern of each call there
 MAKES = {
     ("web", "nuigatre.mjs"): lambda name: r'#call\("%s"' % name,
     ("web", "nuigatre.d.mts"): lambda name: r"^  %s\(" % camel(name),

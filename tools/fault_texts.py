@@ -7,7 +7,7 @@ import functools
 import itertools
 import re
 
-from repository import files_of, product_crates
+from repository import files_of, imports_of, product_crates
 
 TOKEN = re.compile(r'"((?:[^"\\]|\\.)*)"|(\+\+)|([()])|([^\s()"]+)')
 # The definitions of texts that aren't named after their enum.
@@ -23,16 +23,6 @@ class Definition:
         self.crate, self.names, self.type_name, self.clauses = crate, names, type_name, []
 
 
-def names_of(crate, text):
-    """What each name of a file means: a crate and a name there."""
-    found = {}
-    for of, names in re.findall(r"^use Rattle\.(\w+)\.[\w.]*\.\{([^}]*)\}", text, re.M):
-        for name in names.split(","):
-            own, _, here = name.strip().partition(" as ")
-            found[here or own] = (of, own)
-    return found
-
-
 @functools.cache
 def definitions():
     """The definitions of texts, by crate and name."""
@@ -40,7 +30,7 @@ def definitions():
     for crate in product_crates():
         for path in files_of(crate, "specs", ".antt"):
             text = re.sub(r"^--.*\n", "", path.read_text(), flags=re.M)
-            names = names_of(crate, text)
+            names = {here: (of.partition(".")[0], there) for of, there, here in imports_of(text)}
             for name, type_name in re.findall(r"^abbrev pub (\w+) : (?:(\S+) → )?(?:.* → )?List ℕ$", text, re.M):
                 found[crate, name] = Definition(crate, names, type_name)
             for name, before, after in re.findall(r"^(\w+)( [^:=\n]*)? =((?:.|\n )*)$", text, re.M):
@@ -139,7 +129,7 @@ def camel(name):
 
 
 def texts_of_faults():
-    """Of each enum and its crate, the variants: the name, a text with `{0}`, `{1}`, .., and the types of these."""
+    """The variants of each enum, by enum and crate: the name, a text with `{0}`, `{1}`, .., and the types of these."""
     found = {}
     for (enum, crate), of in main_texts().items():
         variants = []

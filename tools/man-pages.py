@@ -20,7 +20,7 @@ from repository import TOP
 
 PROGRAMS = "wctrim", "wcplan", "wcwhy"
 # sections on the repository and not on the program
-SKIPPED = "The script", "For machines", "How to run it"
+SKIPPED = "The script", "How to run it"
 TITLES = {"Exit statuses": "EXIT STATUS", "Why an input is refused": "DIAGNOSTICS", "Faults": "DIAGNOSTICS"}
 # the values of options that are files or directories
 FILES = {"FILE": "-f", "[NAME=]FILE": "-f", "NAME=FILE": "-f", "DIR": "-d"}

@@ -1,16 +1,15 @@
 #!/usr/bin/env python3
-"""Makes a release in dist: for each target an archive of the static and the shared library, for x86-64 with the programs, and
-the packages for Rust, Python and npm. tools/try-release.py tries all of it then, where there is no network.
+"""Makes a release in dist: for each target an archive of the libraries, for x86-64 with the programs, and the packages for Rust,
+Python and npm. Then tools/try-release.py tries all of it without a network.
 
     tools/release.py VERSION                                  of what is proved
-    tools/release.py --unproved [--from FOLDER] VERSION       the same of what is compiled without its proof, to try this script
+    tools/release.py --unproved [--from FOLDER] VERSION       the same of what is compiled without proof, to try this script
 
-VERSION is that of rust/nuigatre/Cargo.toml. The static libraries are those that tools/archives.py takes, and have to be the
-same, byte by byte, as those that it put into the crate. The programs are those that `./wctrim --build`, `./wcplan --build`
-and `./wcwhy --build` made. With --unproved the libraries are FOLDER/TARGET/libnuigatre.a, or rust/unproved/libnuigatre.a for
-x86-64 alone, and the programs are those that the scripts of their names keep, if they are there; the names of archives have
-`-unproved`. Without it each library and each program has to say that the kit's prover compiled it. None may be older than its
-sources. Nothing else is made anew but the shared libraries.
+VERSION is that of rust/nuigatre/Cargo.toml. The static libraries are those that tools/archives.py takes, and have the bytes of
+those in the crate. The programs are those of `./wctrim --build`, `./wcplan --build` and `./wcwhy --build`. With --unproved the
+libraries are FOLDER/TARGET/libnuigatre.a, or rust/unproved/libnuigatre.a, and the programs those that the scripts keep; names of
+archives then have `-unproved`. Otherwise each library and program has to say that the kit's prover compiled it. None may be
+older than its sources. Only the shared libraries are made here.
 
 dist/nuigatre-VERSION-TARGET-linux.tar.gz has, in a folder of its name:
 
@@ -18,19 +17,19 @@ dist/nuigatre-VERSION-TARGET-linux.tar.gz has, in a folder of its name:
     lib/                 libnuigatre.a, libnuigatre.so with its heap over malloc, and pkgconfig/nuigatre.pc
     include/             nuigatre.h, and nuigatre_heap.c for programs over the static library
     share/               the license, the pages and the examples; with the programs their man pages, and completions for bash
-    BUILT                the version, the commit, the kit, a checksum of the sources, whether all is proved, and the compiler
-    SHA256SUMS           of each file
+    BUILT, SHA256SUMS    what it is made of, as tools/archives.py says it, with the compiler; and a checksum of each file
 
 Beside the archives are
-    nuigatre-VERSION.crate               what `cargo package` makes
+
+    nuigatre-VERSION.crate               from `cargo package`
     nuigatre-VERSION.tar.gz              the source distribution for Python, with the libraries of the Rust crate
     nuigatre-VERSION-py3-none-..whl      a wheel for each target, with the shared library of its archive
-    nuigatre-VERSION.tgz                 the package for node, as `npm pack` makes it
-    nuigatre.html                        the page that says why a component imports what it imports, as one file
+    nuigatre-VERSION.tgz                 the package for node, from `npm pack`
+    nuigatre.html                        the page as one file
     README.md, CHANGELOG.md, LICENSE, SHA256SUMS
 
-The status is 1 where something is missing or differs. It needs cargo, npm, cc, strip, pkg-config and man; Python with
-setuptools, wheel, pip and venv; and for aarch64 the packages of Debian that tools/targets.py needs.
+The status is 1 if something is missing or differs. It needs cargo, npm, cc, strip, pkg-config and man; Python with setuptools,
+wheel, pip and venv; and for aarch64 the packages of Debian that tools/targets.py needs.
 """
 import argparse
 import os
@@ -42,14 +41,14 @@ import sys
 import tarfile
 import tempfile
 
-from repository import TOP, need
+from repository import TOP, need, run
 
 sys.path.append(str(TOP / "rust"))
 import archives
 import pkgconfig
 import symbols
 import targets
-from archives import ARCHIVE, fail, fresh, made, put, put_text, run, sums
+from archives import ARCHIVE, fail, fresh, made, put, put_text, sums
 
 DIST = TOP / "dist"
 PROGRAMS = "wctrim", "wcplan", "wcwhy"

@@ -4,6 +4,7 @@ import os
 import pathlib
 import re
 import shutil
+import subprocess
 import sys
 
 TOP = pathlib.Path(__file__).resolve().parent.parent
@@ -22,7 +23,7 @@ def read(*parts):
 
 
 def lines_of_crates(top=TOP):
-    """Of each line of crates.txt the crate, its kinds, as `staticlib`, and the libraries that it uses."""
+    """For each line of crates.txt the crate, its kinds, as `staticlib`, and the libraries that it uses."""
     for line in (pathlib.Path(top) / "crates.txt").read_text(encoding="utf-8").splitlines():
         head, found, libraries = line.partition("#")[0].partition(":")
         if found:
@@ -85,7 +86,7 @@ class Function:
         # the lines of the head, of the body's opening and of its end, and their places in the text
         self.head, self.first, self.last = lines
         self.begins, self.opens, self.ends = places
-        # of no other use than as it is: a const function, a default method, a function of a cycle
+        # has to stay as it is: a const function, a default method, a function of a cycle
         self.whole = whole
         module = file[len("src/") : -len(".rt")].replace("/", "::")
         self.module = "" if module in ("lib", "main") else re.sub(r"::mod$", "", module)
@@ -96,8 +97,7 @@ class Function:
 
 
 def type_name(text):
-    """The last word of a type's or a trait's path, without references, lifetimes and arguments. A tuple is named as the kit
-    names it, as `Tuple2U32RefStr`."""
+    """The last word of a type's or a trait's path, without references and arguments; of a tuple the kit's, as `Tuple2U32RefStr`."""
     text = text.strip()
     if text.startswith("(") and "," in text and "<" not in text:
         parts = [it.strip() for it in text.strip("()").split(",")]
@@ -185,6 +185,14 @@ def parts_of(text):
     return found
 
 
+def imports_of(text):
+    """The names that a file imports by lists: the path of each one's file, its name there, and its name here."""
+    for path, names in re.findall(r"^\s*(?:pub |ghost )*use (?:Rattle\.)?([^\s{]+)\.\{([^}]*)\}", text, re.M):
+        for name in names.split(","):
+            there, _, here = name.strip().partition(" as ")
+            yield path, there, here or there
+
+
 def exports_of_crate(crate):
     """The names that a library's root file exports; none of a program."""
     path = TOP / "crates" / crate / "src" / "lib.rt"
@@ -208,10 +216,18 @@ def costs_on(page):
 
 
 def need(*wanted):
-    """Ends the script where a command or a file is not there: texts of it, and of the package of Debian that has it."""
+    """Ends the script if a command or a file is missing; each text has it, and Debian's package that has it."""
     for name, package in map(str.split, wanted):
         if not (os.path.exists(name) or shutil.which(name)):
-            sys.exit(f"{sys.argv[0]}: there is no {name}: apt-get install {package}")
+            sys.exit(f"{sys.argv[0]}: {name} is missing: apt-get install {package}")
+
+
+def run(*command, **how):
+    """What a command prints; ends the script if it fails."""
+    ran = subprocess.run(list(map(str, command)), capture_output=True, text=True, check=False, **how)
+    if ran.returncode:
+        sys.exit(f"{' '.join(map(str, command))}\n{ran.stdout}{ran.stderr}")
+    return ran.stdout
 
 
 def put_between(page, begin, end, text):
@@ -224,7 +240,7 @@ def put_between(page, begin, end, text):
 
 
 def kit_folder():
-    """The folder of the kit that has the rt on PATH; None where there is no rt."""
+    """The folder of the kit that has the rt on PATH; None if there is no rt."""
     rt = shutil.which("rt")
     return None if rt is None else os.path.dirname(os.path.dirname(os.path.realpath(rt)))
 
@@ -263,10 +279,13 @@ def kit_command(what, crate, flags, top=TOP, folder_of=rlib_of):
 
 
 def edits_of(crate):
-    """The edits of a crate, which the prover has to refuse: their names, and their files."""
-    for folder in (TOP / "edits" / crate, TOP / "crates" / crate / "must-fail"):
-        for path in sorted(folder.rglob("*.edit")):
-            yield path.stem, path
+    """The edits of a crate, which the prover has to refuse: the name and the text of each, and whether the gate tries it."""
+    file = TOP / "edits" / f"{crate}.edits"
+    parts = re.split(r"(?m)^edit (\S+)\n", read(file) if file.is_file() else "")[1:]
+    for name, text in zip(parts[::2], parts[1::2]):
+        yield name, text.rstrip("\n") + "\n", False
+    for path in sorted((TOP / "crates" / crate / "must-fail").glob("*.edit")):
+        yield path.stem, read(path), True
 
 
 def changes_of(edit):
@@ -287,7 +306,7 @@ def applied(edit, texts):
     for file, old, new in changes_of(edit):
         text = made.get(file, texts.get(file))
         if text is None:
-            return {}, f"there is no file {file}"
+            return {}, f"the file {file} is missing"
         if text.count(old) != 1:
             return {}, f"an 'old:' text is in {file} {text.count(old)} times: {old[:60]}"
         made[file] = text.replace(old, new)

@@ -3,19 +3,16 @@
 
     tools/targets.py [--over FOLDER | --packed | --archive FILE | --unproved] [--jobs N] [--out FOLDER] [TARGET ..]
 
-TARGET is x86_64 or aarch64; without one it is both, and with --packed this machine's. FOLDER/TARGET has libnuigatre.a,
-libnuigatre.so and nuigatre.pc then; it is crates/nuigatre/out unless it is said. The library is proved over what `rt ci`
-proved of the crates below (in crates/*/out/rlib, or in the folder of --over), once for each target, and compiled for it. With
---unproved it is compiled of the sources without their proof. With --packed it is the proved one that the Rust crate has,
-packed, in rust/nuigatre/lib: that needs no kit, and wants --out. With --archive FILE it is an archive that is there, of the
-one TARGET that is given. The symbols of what is made have the number of their form (rust/symbols.py).
+TARGET is x86_64 or aarch64 (default: both, with --packed this machine's). FOLDER/TARGET (default: crates/nuigatre/out) then has
+libnuigatre.a, libnuigatre.so and nuigatre.pc. The library is proved over what `rt ci` proved of the crates below, in
+crates/*/out/rlib or in the folder of --over, once for each target, and compiled for it. --unproved compiles the sources without
+proof. --packed takes the proved library of rust/nuigatre/lib, needs no kit, and wants --out. --archive takes an archive for the
+one TARGET. Symbols have the number of their form (rust/symbols.py).
 
-The shared library has include/nuigatre_heap.c in it, and exports the functions of include/nuigatre.h alone. It is made by
-cc, or by aarch64-linux-gnu-gcc; what is made for another processor runs in qemu. examples/c/trim.c, linked with the archive
-and with the shared library, has to give examples/trimmed.wasm. Without --out a copy of the shared library of this machine goes
-to python/nuigatre, for its wheel and tests.
-
-The status is 1 where something is not made or runs otherwise, and 3 where a crate below is not proved.
+The shared library has include/nuigatre_heap.c in it, and exports the functions of include/nuigatre.h alone. cc makes it, or
+aarch64-linux-gnu-gcc; qemu runs what is made for another processor. examples/c/trim.c, linked with the archive and with the
+shared library, has to write examples/trimmed.wasm. Without --out a copy of this machine's shared library goes to
+python/nuigatre. The status is 1 if something fails, and 3 if a crate below is not proved.
 """
 import argparse
 import os
@@ -35,7 +32,7 @@ from repository import TOP, crates_below, kit_command, kit_folder, need, rlib_of
 CRATE = "nuigatre"
 INCLUDE = str(TOP / "include")
 OUT = str(TOP / "crates" / CRATE / "out")
-# of each target its triple, its layout of data as LLVM has it, its compiler of C, what runs its programs, and Debian's packages
+# for each target its triple, LLVM's layout of data, its C compiler, what runs its programs, and Debian's packages
 TARGETS = {
     "x86_64": ("x86_64-unknown-linux-gnu", None, "cc", [], "gcc"),
     "aarch64": ("aarch64-unknown-linux-gnu", "e-m:e-p270:32:32-p271:32:32-p272:64:64-i8:8:32-i16:16:32-i64:64-i128:128-n32:64-S128-Fn32",

@@ -1,21 +1,20 @@
 #!/usr/bin/env python3
-"""Tries what tools/release.py made, each in an empty folder, as someone without the repository and without a network does.
+"""Tries what tools/release.py made, each in an empty folder, as someone without the repository and without a network would.
 
     tools/try-release.py [--only NAME ..]
 
-It runs itself again in a namespace that has no network but the loopback (unshare, of util-linux). NAME is a part:
+It runs itself again in a namespace with no network but the loopback (unshare, of util-linux). The parts are:
 
-    archives     each is unpacked; the programs run; both examples in C are linked with the static and the shared library, by the
-                 lines of pkg-config, make and CMake, and as C++; for aarch64 they run in qemu. Each page that nuigatre.h names is
-                 there
-    crate        the package's tests run, over an archive's library by NUIGATRE_LIB_DIR; where it has libraries itself, its example
-                 runs over these, without any variable. `cargo publish --dry-run` takes it, for a registry of this folder
-    python       each wheel is installed by pip; the first example of the package's page, and the command, run. The source
-                 distribution makes a wheel by itself, of the library that is in it, with the same answers
+    archives     the programs run; both examples in C are linked with the static and the shared library, by the lines of
+                 pkg-config, make and CMake, and as C++; for aarch64 they run in qemu. The pages that nuigatre.h names exist
+    crate        the package's tests run over an archive's library, by NUIGATRE_LIB_DIR; its example runs over its own libraries,
+                 without any variable. `cargo publish --dry-run` takes it, for a registry of this folder
+    python       pip installs each wheel; the first example of the package's page, and the command, run. The source distribution
+                 makes a wheel with the same answers
     npm          npm installs the package; it is imported, required, and run by npx
-    page         the page, alone in a folder, shows its example in each browser that is there: Chromium, Firefox
+    page         the page, alone in a folder, shows its example in Chromium and Firefox, if installed
 
-What an example makes has to be what the repository's examples have. The status is 1 where something differs or fails.
+An example has to make what the repository's examples have. The status is 1 if something differs or fails.
 """
 import argparse
 import os
@@ -29,21 +28,19 @@ import tarfile
 import tempfile
 import zipfile
 
-from repository import TOP, need
+from repository import TOP, need, run
 
 sys.path += [str(TOP / "rust"), str(TOP / "checks")]
 import browsers
 import pkgconfig
 import release
 import targets
-from archives import ARCHIVE, fail, run
+from archives import ARCHIVE, fail
 
 DIST, EXAMPLES = TOP / "dist", TOP / "examples"
 ASKED = "--realloc", "cabi_realloc", "size_of"
 WARNINGS = "-O2", "-Wall", "-Wextra", "-Werror", "-pedantic"
 PLAN = "app", EXAMPLES / "wcplan/main.wasm", f"old-notes={EXAMPLES}/wcplan/adapter.wasm", "is-ready"
-# what the page may take
-SECONDS = 300
 ENVIRONMENT = {name: value for name, value in os.environ.items() if not name.startswith(("NUIGATRE", "PYTHON", "DOCS_RS", "CARGO_TARGET"))}
 
 
@@ -213,20 +210,12 @@ def npm(_):
 
 
 def page(_):
-    there = [kind for kind in (browsers.Chromium, browsers.Firefox) if browsers.program_of(kind)]
-    for kind in there:
-        with tempfile.TemporaryDirectory(ignore_cleanup_errors=True) as room, tempfile.TemporaryDirectory(ignore_cleanup_errors=True) as profile:
-            shutil.copyfile(found("nuigatre.html")[0], pathlib.Path(room, "nuigatre.html"))
-            browser = kind(browsers.program_of(kind), profile)
-            try:
-                browser.open(f"file://{room}/nuigatre.html?example&seconds={SECONDS}")
-                browsers.waited(browser, '(document.querySelector("#numbers")?.textContent.length ?? 0) > 0')
-                shown = browser.ask('document.querySelector("#numbers").textContent')
-            finally:
-                browser.close()
-            if "512 bytes → 317 bytes" not in shown:
-                fail(f"nuigatre.html, {kind.name}: {shown}")
-    print("nuigatre.html: opened in " + " and ".join(kind.name for kind in there) if there else "nuigatre.html: not opened, there is no browser")
+    source = found("nuigatre.html")[0]
+    try:
+        names = browsers.show_example(lambda path: shutil.copyfile(source, path))
+    except browsers.Failed as why:
+        fail(f"nuigatre.html, {why}")
+    print("nuigatre.html: opened in " + " and ".join(names) if names else "nuigatre.html: not opened: no browser is installed")
 
 
 PARTS = {"archives": archives, "crate": crate, "python": python, "npm": npm, "page": page}

@@ -31,7 +31,7 @@ import sys
 HERE = os.path.dirname(os.path.abspath(__file__))
 sys.path[:0] = [os.path.join(os.path.dirname(HERE), name) for name in ("tools", "rust")]
 import unproved
-from repository import TOP, crates_below, files_of, kit_command, kit_folder, need, read, rlib_of
+from repository import TOP, code_of, crates_below, files_of, kit_command, kit_folder, need, read, rlib_of
 
 CRATE = "nuigatre"
 MODULE = os.path.join(HERE, "nuigatre.wasm")
@@ -57,10 +57,10 @@ def say(text):
 
 
 def digest(paths):
-    """A digest of files, with their paths in the repository."""
+    """A digest of the code of files, with their paths in the repository. Comments of Rattle and C don't count."""
     made = hashlib.sha256()
     for path in sorted(paths):
-        content = path.read_bytes()
+        content = code_of(path).encode()
         made.update(b"%s %d\n" % (str(path.relative_to(TOP)).encode(), len(content)))
         made.update(content)
     return made.hexdigest()
