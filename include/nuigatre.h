@@ -147,6 +147,8 @@ nuigatre_answer nuigatre_why(uint64_t seed0, uint64_t seed1, const uint8_t *wasm
  *
  * NUIGATRE_DONE: `out` has modules, `module_length` bytes: the main module, with its repeated imports renamed, and the
  * trimmed adapters and the libraries that are needed. After them is the world as JSON, with the length of each adapter.
+ * Its member `export_options` has the canonical options with which each exported function is lifted: the sum of 1 for a
+ * memory, 2 for a realloc, 4 for an encoding of strings. A function that is lifted asynchronously has 8 more.
  * NUIGATRE_FAULT: a fault of nuigatre_message_fault. `out` has its text, `position` bytes, and then, if `length` is
  * more, a JSON object that says what it is about: its member `kind` says which object it is. All names that the fault
  * has are members of it, so nothing has to be read out of the text.

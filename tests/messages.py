@@ -266,6 +266,12 @@ def lines_of_live(world, _modules):
     return [" ".join(["i%d:" % it["interface"], *map("t%d".__mod__, it["types"])]) for it in world["live_type_imports"]]
 
 
+def lines_of_export_options(world, _modules):
+    """For each exported function its interface, or `none`, and its options."""
+    shown = lambda it: "none" if it["interface"] is None else "i%d" % it["interface"]
+    return ["%s %s: %d" % (shown(it), shown_name(it["name"]), it["options"]) for it in world["export_options"]]
+
+
 PARTS_OF_WORLDS = {
     "main": lambda world, modules: lines_of_imports(world["info"]),
     "adapters": lines_of_adapters,
@@ -273,6 +279,7 @@ PARTS_OF_WORLDS = {
     "imports": lines_of_import_map,
     "used": lines_of_used,
     "live": lines_of_live,
+    "options": lines_of_export_options,
     "explain": lambda world, modules: ["ok"],
 }
 

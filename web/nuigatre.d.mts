@@ -157,6 +157,8 @@ export interface WorldRecord {
   import_map: { name: string | null; interface: number | null; lowerings: { name: string; abi: string; lowering: { kind: string } }[] }[];
   live_type_imports: { interface: number; types: number[] }[];
   exports_used: { interface: number; uses: number[] }[];
+  /** Of each function that the world exports the options with which it is lifted synchronously; asynchronously 8 more. */
+  export_options: { interface: number | null; name: string; options: number }[];
   /** Of `plannedWorld` alone. */
   plan?: Use[];
 }

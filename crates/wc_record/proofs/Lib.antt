@@ -3,3 +3,4 @@ pub mod UsedLemmas
 pub mod LibraryRoundTripLemmas
 pub mod ListedInterfaceLemmas
 pub mod ChainLemmas
+pub mod ExportOptionLemmas

@@ -1,6 +1,7 @@
 pub mod Chains
 pub mod CoreTypes
 pub mod Exports
+pub mod ExportOptions
 pub mod Imports
 pub mod Laws
 pub mod Libraries

@@ -10,6 +10,7 @@ use Rattle.wc_encoder.specs.EncoderParts.{world_exports}
 use Rattle.wc_plan.specs.Views.{UseView}
 use Rattle.wc_world.specs.Used.{UsedView}
 use Rattle.wc_world.specs.Views.{ComponentWorldView, ImportedView, LoweringKey, LoweringView, NamedWorldAdapter, direct, indirect, resource_drop}
+use Rattle.wc_record.specs.ExportOptions.{lifted_exports, lifted_json}
 use Rattle.wc_record.specs.Libraries.{library_json}
 use Rattle.wc_record.specs.Modules.{module_json}
 use Rattle.wc_record.specs.Plans.{plan_json}
@@ -71,7 +72,8 @@ world_members w =
     (codes "info", module_json w.info) ∷ (codes "renames", array_of (map rename_json (renames_in w.encoder.module_import_map)))
     ∷ (codes "adapters", array_of (map adapter_entry_json w.adapters)) ∷ (codes "import_map", array_of (map imported_entry_json w.import_map))
     ∷ (codes "live_type_imports", array_of (map live_entry_json w.live_type_imports))
-    ∷ (codes "exports_used", array_of (map used_interface_json (used_interfaces (exported_interfaces (world_exports w.encoder)) w.exports_used))) ∷ []
+    ∷ (codes "exports_used", array_of (map used_interface_json (used_interfaces (exported_interfaces (world_exports w.encoder)) w.exports_used)))
+    ∷ (codes "export_options", array_of (map lifted_json (lifted_exports w.encoder.resolve (world_exports w.encoder)))) ∷ []
 
 abbrev pub world_json : ComponentWorldView → Json
 world_json w = object_of (world_members w)

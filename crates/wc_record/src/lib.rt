@@ -9,6 +9,7 @@
 
 mod chains;
 mod core_types;
+mod export_options;
 mod exports;
 mod imports;
 pub mod laws;

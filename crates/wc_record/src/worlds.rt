@@ -15,6 +15,7 @@ ghost use Rattle.wc_record.specs.Worlds.{lowering_json, planned_world_json, worl
 ghost use Rattle.wc_record.specs.Objects.{PutsFields, PutsJson};
 ghost use Rattle.wc_plan.specs.PlanViews.{plan_view};
 
+use crate::export_options::lifted_exports;
 use crate::maps::EntryToJson;
 use crate::objects::{
     begin_object, end_object, put_kind, put_kind_with, put_list_member, put_member,
@@ -231,12 +232,14 @@ fn put_members(
     ensures { OnOk result (PutsFields out.old out.new (world_members (world_view world.now))) }
 {
     let used = used_interfaces(alloc, world.encoder, &world.exports_used)?;
+    let lifted = lifted_exports(alloc, world.encoder)?;
     put_member(out, "info", &world.info)?;
     put_renames(out, world.encoder.module_import_map())?;
     put_member(out, "adapters", &world.adapters)?;
     put_member(out, "import_map", &world.import_map)?;
     put_member(out, "live_type_imports", &world.live_type_imports)?;
     put_member(out, "exports_used", &used)?;
+    put_member(out, "export_options", &lifted)?;
     Ok(())
 }
 
@@ -276,6 +279,9 @@ fn put_planned_world(
 ///   `direct`, `indirect` or `resource-drop`. `options` are bits: memory is 1, realloc 2, string encoding 4, async 8.
 /// - `live_type_imports`: an `interface`, and its live `types`.
 /// - `exports_used`: an exported `interface`, and those that it `uses`, in the order of the world's exports.
+/// - `export_options`: the functions that the world exports, in this order, each with `interface` (null for a function of
+///   the world itself), `name` and `options`, the bits that it needs where it is lifted synchronously. A function that is
+///   lifted asynchronously has 8 besides.
 ///
 /// # Errors
 ///

@@ -1,6 +1,7 @@
 use Rattle.std.proofs.Common.{codes, map, subst}
 use Rattle.wc_dedupe.specs.Dedupe.{renames_in}
 use Rattle.wc_texts.specs.Shapes.{array_of}
+use Rattle.wc_record.specs.ExportOptions.{lifted_json}
 use Rattle.wc_record.specs.Objects.{PutsField}
 use Rattle.wc_record.specs.Worlds.{rename_json, used_interface_json}
 use Rattle.wc_record.proofs.ShapeLemmas.{no_fields, field_then}
@@ -14,9 +15,13 @@ returns c =
     let used = subst (λ us. PutsField c.put_member-4.new.out c.put_member-5.new.out (codes "exports_used") (array_of (map used_interface_json us)))
     c.in_ok-used.ensures
     c.in_ok-put_member-5.ensures in
+    let lifted = subst (λ ls. PutsField c.put_member-5.new.out c.put_member-6.new.out (codes "export_options") (array_of (map lifted_json ls)))
+    c.in_ok-lifted.ensures
+    c.in_ok-put_member-6.ensures in
     field_then c.in_ok-put_member.ensures
     (field_then renames
     (field_then c.in_ok-put_member-2.ensures
     (field_then c.in_ok-put_member-3.ensures
     (field_then c.in_ok-put_member-4.ensures
-    (field_then used no_fields)))))
+    (field_then used
+    (field_then lifted no_fields))))))
