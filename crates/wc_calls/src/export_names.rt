@@ -6,7 +6,7 @@ ghost use Rattle.std.specs.Option.{option_map};
 ghost use Rattle.std.specs.Str.{IsUtf8};
 ghost use Rattle.wc_gc.specs.LiveItems.{names_of};
 ghost use Rattle.wc_texts.specs.Names.{first_occurrences};
-ghost use Rattle.wc_why.specs.Paths.{text_of};
+ghost use Rattle.wc_why.specs.Texts.{text_of};
 ghost use Rattle.wc_calls.specs.ExportNames.{texts, position_of};
 
 use std::alloc::{AllocError, Global};

@@ -6,14 +6,14 @@ ghost use Rattle.json.specs.Token.{key};
 ghost use Rattle.json.specs.Tree.{json_tokens};
 ghost use Rattle.wc_texts.specs.Shapes.{array_of};
 ghost use Rattle.wc_record.specs.Texts.{text_of};
-ghost use Rattle.wc_why.specs.Private.Tokens.{Puts};
+ghost use Rattle.wc_why_text.specs.Private.Tokens.{Puts};
 ghost use Rattle.wc_component_calls.specs.ComponentFault.{fault_place};
 ghost use Rattle.wc_component_calls.specs.Places.{imports_json};
 
 use crate::component_fault::ComponentFault;
 use json::Writer;
 use std::alloc::{AllocError, Global};
-use wc_why::{begin_object, end_object, put_text};
+use wc_why_text::{begin_object, end_object, put_text};
 
 /// The place of a fault, as JSON. For a key that requests no import it is an object with `kind`, which is `imports`;
 /// `key`; and `imports`, the list of the texts of all imports of the world. For other faults it is empty.

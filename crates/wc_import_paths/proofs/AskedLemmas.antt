@@ -1,18 +1,19 @@
 -- Patterns, looked up in sets.
-use Rattle.std.proofs.Common.{◌≡◌, ◌∙◌, ℕ, ◌+◌, ◌<◌, Bool, true, false, ◌&&◌, ◌||◌, cond, List, [], ◌∷◌, ◌++◌, length, map, take, get_or, Option, Some, None, refl, sym, ap, option_map}
+use Rattle.std.proofs.Common.{◌≡◌, ◌∙◌, ℕ, Bool, true, false, ◌&&◌, ◌||◌, cond, List, [], ◌∷◌, ◌++◌, Option, Some, None, refl, sym, ap, option_map}
 use Rattle.std.proofs.Math.Bool.{and-false, and-or_distrib_right, and_assoc, or-false, or_assoc}
 use Rattle.std.proofs.lemmas.Cmp.{nat_list_eq_equiv}
-use Rattle.std.proofs.lemmas.List.Folds.{list_any-append, list_any_more}
+use Rattle.std.proofs.lemmas.List.Folds.{list_any-append}
 use Rattle.std.specs.Borrow.{Bor}
 use Rattle.std.specs.List.{list_any}
 use Rattle.std.specs.Option.{option_eq}
 use Rattle.std.specs.Str.{bytes_eq}
 use Rattle.wc_read.specs.Imports.{ImportValue}
-use Rattle.wc_why.specs.Paths.{text_of}
+use Rattle.wc_why.specs.Texts.{text_of}
 use Rattle.wc_import_paths.specs.Patterns.{PatternView, is_known, is_match, is_name}
 use Rattle.wc_import_paths.specs.Private.Asked.{AddsKeys, AddsNamed, KeyView, ModuleKey, are_same_texts, has_any, has_named, in_set, is_any, is_named, is_offered, is_same, is_same_key, is_same_pattern, key_of, key_view, module_key, module_keys}
 use Rattle.wc_import_paths.specs.declared.asked.PatternKey.{PatternKey}
 use Rattle.wc_import_paths.proofs.KeyLemmas.{asks_by_keys}
+use Rattle.wc_import_paths.proofs.SearchLemmas.{any_either, any_same, none_any}
 
 -- an import is asked for by a pattern that is for imports under one of its keys
 
@@ -34,28 +35,10 @@ match_is p i =
     ∙ sym (any_and (is_same_key (module_key p.0)) (λ key. is_named (key_of p) key i.name) (is_name p.1 i.name) (module_keys i.module_name)
     (λ key. under_by p key i.name))
 
-any_same : {X : Type 0} (f g : X → Bool) (xs : List X) → ((x : X) → f x ≡ g x) → list_any f xs ≡ list_any g xs
-any_same f g [] e = refl
-any_same f g (x ∷ xs) e = rw (e x) (rw (any_same f g xs e) refl)
-
 pub known_is : (imports : List ImportValue) (p : PatternView) → is_known imports p ≡ list_any (is_offered (key_of p)) imports
 known_is imports p = any_same (is_match p) (is_offered (key_of p)) imports (match_is p)
 
 -- among patterns: each that is for imports under one of the keys, or each key that one of the patterns is for
-
-any_either : {X : Type 0} (f g : X → Bool) (xs : List X) → list_any (λ x. f x || g x) xs ≡ (list_any f xs || list_any g xs)
-any_either f g [] = refl
-any_either f g (x ∷ xs) = rw (any_either f g xs) (crossed (f x) (g x) (list_any f xs) (list_any g xs))
-  where
-    crossed : (a b c d : Bool) → ((a || b) || (c || d)) ≡ ((a || c) || (b || d))
-    crossed true b c d = refl
-    crossed false true true d = refl
-    crossed false true false d = refl
-    crossed false false c d = refl
-
-none_any : {X : Type 0} (xs : List X) → list_any (λ (x : X). false) xs ≡ false
-none_any [] = refl
-none_any (x ∷ xs) = none_any xs
 
 under_any : (patterns : List PatternView) (keys : List ModuleKey) (name : List ℕ) → list_any (λ p. is_any (key_of p) keys name) patterns ≡ has_any patterns keys name
 under_any patterns [] name = none_any patterns
@@ -135,15 +118,6 @@ both_added before next after keys others name first second q =
     ∙ (ap (λ (b : Bool). b || is_any (key_view q) others name) (first q)
     ∙ (or_assoc (in_set before q) (is_any (key_view q) keys name) (is_any (key_view q) others name)
     ∙ ap (λ (b : Bool). in_set before q || b) (sym (list_any-append (λ key. is_named (key_view q) key name) keys others))))
-
--- a list that is seen otherwise
-any_seen : {X Y : Type 0} (v : X → Y) (f : Y → Bool) (xs : List X) → list_any f (map v xs) ≡ list_any (λ x. f (v x)) xs
-any_seen v f [] = refl
-any_seen v f (x ∷ xs) = rw (any_seen v f xs) refl
-
-pub any_next : {X Y : Type 0} (v : X → Y) (f : Y → Bool) (xs : List X) (k : ℕ) (d : X) → k < length xs
-    → list_any f (map v (take (k + 1) xs)) ≡ (list_any f (map v (take k xs)) || f (v (get_or xs k d)))
-any_next v f xs k d lt = any_seen v f (take (k + 1) xs) ∙ (list_any_more (λ x. f (v x)) xs k d lt ∙ sym (rw (any_seen v f (take k xs)) refl))
 
 -- one of two is so
 pub or_first : (a b r : Bool) → r ≡ a → r ≡ true → r ≡ (a || b)

@@ -15,7 +15,7 @@ use Rattle.wc_read.specs.declared.exports.Export.{Export}
 use Rattle.wc_gc.specs.Exports.{AreNamed, IsMissingFault, by_name, export_entries, is_exported, missing_name}
 use Rattle.wc_gc.specs.declared.fault.GcFault.{GcFault}
 use Rattle.wc_gc.specs.declared.fault.GcFault.TheVariants.{Memory, MissingExport}
-use Rattle.wc_why.specs.Paths.{text_of}
+use Rattle.wc_why.specs.Texts.{text_of}
 use Rattle.wc_import_paths.specs.Roots.{export_named, exports_for, exports_named}
 use Rattle.wc_import_paths.specs.Private.Roots.{IsMissing}
 use Rattle.wc_gc.proofs.ExportLemmas.{entries_by_name, named_by_name}
@@ -113,6 +113,11 @@ module _ (es : List Export) (entries : List Pair) (names : List (Bor (List ℕ))
       → IfOk r (λ v. map export_value v.items ≡ exports_for (map text_of names) (map export_value es))
   all_found (Ok v) lt h = h ∙ (ap (λ z. exports_named z (map text_of names)) same_entries ∙ sym (for_some (map export_value es) names lt))
   all_found (Err e) lt h = tt
+
+  pub among_found : {E : Type 0} (r : Result (Vec Export Global) E) → IfOk r (λ v. map export_value v.items ≡ exports_named (export_entries entries) (map text_of names))
+      → IfOk r (λ v. map export_value v.items ≡ exports_named (map export_value es) (map text_of names))
+  among_found (Ok v) h = h ∙ ap (λ z. exports_named z (map text_of names)) same_entries
+  among_found (Err e) h = tt
 
   pub all_there : missing_name (export_entries entries) (map text_of names) ≡ None → missing_name (map export_value es) (map text_of names) ≡ None
   all_there = subst (λ z. missing_name z (map text_of names) ≡ None) same_entries

@@ -2,7 +2,6 @@
 use Rattle.std.specs.Prelude.{◌≡◌, ◌⊎◌, ⊤, ℕ, ◌^◌, List, cond, nat_lt, Option, Some, None, string_bytes}
 use Rattle.wc_read.specs.Exports.{ExportValue}
 use Rattle.wc_read.specs.Modules.{ModuleValue, SpellsModule}
-use Rattle.wc_read.specs.Names.{GlobalNameValue}
 use Rattle.wc_read.specs.Place.{IsCausePlace, IsPlaceIn}
 use Rattle.wc_read.specs.Sections.{data_count_id, data_id, element_id}
 use Rattle.wc_read.specs.declared.fault.ReadFault.{ReadFault}
@@ -23,12 +22,11 @@ use Rattle.wc_paths.specs.declared.items.PathItem.{PathItem}
 use Rattle.wc_paths.specs.declared.paths.PathFault.TheVariants.{LiveBody as live_body}
 use Rattle.wc_import_paths.specs.Roots.{exports_for}
 
--- a module with its segments, the exports at which paths may begin, and the names of its functions
+-- a module with its segments, and the exports at which paths may begin
 pub record FollowedView : Type 0 where
   pub code : ModuleValue
   pub segments : SegmentsValue
   pub exports : List ExportValue
-  pub names : List GlobalNameValue
 
 abbrev pub graph_in : FollowedView → GraphValue
 graph_in f = graph_of f.code f.segments

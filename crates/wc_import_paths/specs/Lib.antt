@@ -1,8 +1,12 @@
 pub mod Patterns
 pub mod Roots
+pub mod Functions
+pub mod Joined
 pub mod Following
-pub mod AskedMarks
-pub mod JsonPaths
-pub mod FunctionNames
+pub mod Rows
 pub mod Followed
+pub mod MainModules
+pub mod Parts
+pub mod Shown
+pub mod JsonPaths
 pub mod Private

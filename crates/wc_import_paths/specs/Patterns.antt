@@ -6,7 +6,7 @@ use Rattle.std.specs.Str.{bytes_eq}
 use Rattle.wc_texts.specs.Splits.{split_once}
 use Rattle.wc_read.specs.Imports.{ImportValue}
 use Rattle.wc_why.specs.Keys.{asks_about}
-use Rattle.wc_why.specs.Paths.{text_of}
+use Rattle.wc_why.specs.Texts.{text_of}
 use Rattle.wc_import_paths.specs.declared.patterns.ImportPattern.{ImportPattern}
 
 -- imports that are asked for: a key of modules, and a name, where only imports of this name are

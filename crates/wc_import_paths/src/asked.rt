@@ -5,7 +5,7 @@ ghost use Rattle.std.specs.List.{list_any};
 ghost use Rattle.std.specs.Option.{option_map};
 ghost use Rattle.wc_read.specs.Imports.{ImportValue, import_value};
 ghost use Rattle.wc_why.specs.Keys.{version_of};
-ghost use Rattle.wc_why.specs.Paths.{text_of};
+ghost use Rattle.wc_why.specs.Texts.{text_of};
 ghost use Rattle.wc_import_paths.specs.Patterns.{are_asked, first_unknown, is_known, is_match, is_shown, pattern_view};
 ghost use Rattle.wc_import_paths.specs.Private.Asked.{AddsKeys, AddsNamed, AddsOffered, HasOffered, HasSame, has_any, has_key, has_named, key_of, key_view, package_keys, version_keys, versioned_keys};
 

@@ -7,29 +7,30 @@ ghost use Rattle.wc_read.specs.Modules.{SpellsModule, module_value};
 ghost use Rattle.wc_gc.specs.Exports.{missing_name};
 ghost use Rattle.wc_gc.specs.declared.trim_place.TrimPlace.TheVariants.{Bytes};
 ghost use Rattle.wc_segments.specs.Segments.{SpellsSegments, segments_value};
-ghost use Rattle.wc_paths.specs.Paths.{AreClosed, ArePaths, IsReachedInAny, graph_in};
+ghost use Rattle.wc_paths.specs.Callers.{AreReached};
+ghost use Rattle.wc_paths.specs.Paths.{AreClosed, IsReachedInAny, graph_in};
 ghost use Rattle.wc_paths.specs.Roots.{roots_of, second_roots};
-ghost use Rattle.wc_why.specs.Paths.{text_of};
+ghost use Rattle.wc_why.specs.Texts.{text_of};
 ghost use Rattle.wc_import_paths.specs.Following.{IsCodeRefusal, IsRefusal, body_place, section_id};
 ghost use Rattle.wc_import_paths.specs.Roots.{exports_for};
-ghost use Rattle.wc_import_paths.specs.Followed.{AreShown, IsSource};
+ghost use Rattle.wc_import_paths.specs.Rows.{AreRowsFor};
+ghost use Rattle.wc_import_paths.specs.Followed.{IsSource};
 ghost use Rattle.wc_import_paths.specs.Private.Followed.{IsExportRefusal, IsPathsRefusal, IsSegmentsRefusal, IsUnreadRefusal, IsUnreadSegments};
 
 use crate::asked::Asked;
-use crate::function_names::{names_on, shown_on};
+use crate::reached::reached_functions;
 use crate::roots::exports_for;
+use crate::rows::ModuleRows;
 use std::alloc::{AllocError, Global};
 use wc_gc::{GcFault, TrimPlace};
-use wc_maps::{OrderedMap, Seed};
-use wc_paths::{
-    Callers, OnPaths, PathFault, PathItem, PathRoots, Paths, import_items, roots_of, second_roots,
-};
+use wc_maps::Seed;
+use wc_paths::{Callers, PathFault, PathItem, import_items, roots_of, second_roots};
 use wc_read::codes::{DATA_COUNT_ID, DATA_ID, ELEMENT_ID};
 use wc_read::{Export, Module, ReadFault, ReadPlace, read_module_explained};
 use wc_segments::{SegmentSection, Segments, read_segments};
 use wc_texts::Refused;
 
-/// A module, its segments, and the paths in it.
+/// A module, its segments, and what its items name.
 #[derive(Drop)]
 pub struct Followed<'r> {
     /// Its bytes.
@@ -39,27 +40,24 @@ pub struct Followed<'r> {
     /// Its segments.
     pub segments: Segments<'r>,
     /// The exports at which paths may begin, in order.
-    pub roots: PathRoots<'r>,
-    /// The paths from these, the start function and the active segments.
-    pub paths: Paths,
+    pub exports: Vec<Export<'r>>,
+    /// Its rows: the items that each item names.
+    pub rows: ModuleRows,
+    /// For each function whether an export at which paths may begin, the start function or an active segment leads to
+    /// it.
+    pub reached: Vec<bool>,
     /// The functions that may call through tables.
     pub callers: Callers,
     /// For each import its item.
     pub items: Vec<PathItem>,
-    /// The items on the paths to the imports that are asked for.
-    pub shown: OnPaths,
-    /// The names of the functions among these, and of those that may call through tables.
-    pub names: OrderedMap<u32, &'r str>,
 }
 
 /// Why a module can't be followed, and where: `Read`, if the bytes are no module or a section of segments can't be
 /// read; `MissingExport`; `LiveBody` of a function; or `Memory`.
 pub type Refusal = Refused<GcFault, TrimPlace>;
 
-/// Reads the module with these bytes, and finds the paths in it (`wc_paths`). Paths begin at its exports of these
-/// names, in their order, or at all exports in the order of the module if no names are given; and at the start
-/// function. The active segments are roots only for an item to which none of these leads. It also finds the names of
-/// functions on the paths to requested imports.
+/// Reads the module with these bytes, and follows it from its exports of these names, in their order, or from all in
+/// the order of the module, where there are none, from the start function, and from the active segments (`wc_paths`).
 ///
 /// It takes time and memory linear in the module and in the names that are given.
 ///
@@ -80,29 +78,25 @@ pub fn follow<'r>(
     export_names: &[&str],
 ) -> Result<Followed<'r>, Refusal>
     ensures source { IfOk result (IsSource bytes.now (map text_of export_names.now)) }
-    ensures shown { IfOk result (λ f. AreShown f asked.now) }
     ensures refused { IfErr result (λ r.
         IsRefusal bytes.now (map text_of export_names.now) r.fault r.place) }
 {
     let code = read_code(alloc, bytes)?;
     let segments = segments_of(alloc, bytes, &code)?;
     let exports = asked_exports(alloc, asked.seed(), export_names, &code)?;
-    let paths = paths_from(alloc, &code, &segments, &exports)?;
-    let roots = PathRoots::new(alloc, &paths, exports)?;
-    let callers = Callers::find(alloc, asked.seed(), &code, &segments, &paths)?;
+    let rows = ModuleRows::of(alloc, &code, &segments)?;
+    let reached = reached_from(alloc, &code, &segments, &exports, &rows)?;
+    let callers = Callers::find(alloc, asked.seed(), &code, &segments, &reached)?;
     let items = import_items(alloc, &code.imports)?;
-    let shown = shown_on(alloc, asked, &code.imports, &items, &paths)?;
-    let names = names_on(alloc, bytes, &shown, &callers)?;
     Ok(Followed {
         bytes,
         code,
         segments,
-        roots,
-        paths,
+        exports,
+        rows,
+        reached,
         callers,
         items,
-        shown,
-        names,
     })
 }
 
@@ -207,16 +201,18 @@ fn asked_exports<'r>(
     }
 }
 
-/// The paths from these exports, the start function and the active segments.
-fn paths_from(
+/// The functions to which these exports, the start function or active segments lead.
+fn reached_from(
     alloc: Global,
     code: &Module<'_>,
     segments: &Segments<'_>,
     exports: &[Export<'_>],
-) -> Result<Paths, Refusal>
-    ensures paths { IfOk result (ArePaths (graph_in code.now segments.now)
+    rows: &ModuleRows,
+) -> Result<Vec<bool>, Refusal>
+    requires { AreRowsFor (graph_in code.now segments.now) rows.now }
+    ensures reached { IfOk result (λ v. AreReached (graph_in code.now segments.now)
         (roots_of (map export_value exports.now) code.now.start)
-        (second_roots (segments_value segments.now))) }
+        (second_roots (segments_value segments.now)) v.items) }
     ensures closed { IsOk result → AreClosed (graph_in code.now segments.now)
         (IsReachedInAny (graph_in code.now segments.now)
         (roots_of (map export_value exports.now) code.now.start)
@@ -227,8 +223,8 @@ fn paths_from(
 {
     let first = roots_of(alloc, exports, code.start)?;
     let second = second_roots(alloc, segments)?;
-    match Paths::find(alloc, code, segments, &first, &second) {
-        Ok(paths) => Ok(paths),
+    match reached_functions(alloc, rows, &first, &second) {
+        Ok(reached) => Ok(reached),
         Err(PathFault::Memory) => Err(Refused::without_place(GcFault::Memory)),
         Err(PathFault::LiveBody(function)) => Err(Refused {
             fault: GcFault::LiveBody,

@@ -1,32 +1,27 @@
 //! The paths to imports as JSON.
 
-ghost use Rattle.std.specs.Prelude.{◌<◌, length, map, IfErr, IfOk, OnOk};
-ghost use Rattle.wc_why.specs.MarkedPaths.{marking_of};
-ghost use Rattle.wc_why.specs.Paths.{text_of};
+ghost use Rattle.std.specs.Prelude.{ℕ, IfErr, IfOk, List, map};
+ghost use Rattle.wc_why.specs.Texts.{text_of};
+ghost use Rattle.wc_import_paths.specs.Followed.{HasPaths, IsSource};
 ghost use Rattle.wc_import_paths.specs.Following.{IsRefusal};
 ghost use Rattle.wc_import_paths.specs.JsonPaths.{IsPathsText};
 ghost use Rattle.wc_import_paths.specs.Patterns.{pattern_view};
-ghost use Rattle.wc_import_paths.specs.Followed.{AreMarksIn, HasPaths, IsJsonIn};
-ghost use Rattle.wc_import_paths.specs.Private.Followed.{IsPathWritten};
 
 use crate::asked::Asked;
-use crate::asked_marks::marks_for;
 use crate::followed::{Followed, Refusal, follow};
-use crate::import_paths::reached_path;
 use crate::patterns::ImportPattern;
-use json::Writer;
+use crate::shown::tree_of_followed;
 use std::alloc::{AllocError, Global};
 use wc_gc::GcFault;
 use wc_maps::Seed;
-use wc_paths::Dominators;
 use wc_texts::Refused;
-use wc_why::{begin_paths, end_paths, put_marked_path};
+use wc_why_text::paths_to_json as tree_paths;
 
-/// The paths to the requested imports of the module with these bytes, as JSON in one line (`wc_why::begin_paths`). If
-/// `imports` is empty, all imports are requested. Each import, in the order of the module, has the one path to its item
-/// (`wc_paths`): its root, and its items, functions with the names that the module gives them. An import to which no
-/// path leads is left out; so is a requested import that the module does not have. If `imports` is not empty, each item
-/// has a mark: whether each path to any requested import goes through it (`marks_for`).
+/// The paths to those imports of the module with these bytes that `imports` ask for, or to all, where there are none,
+/// as JSON in a line (`wc_why_text::paths_to_json`). Of each import, in the order of the module, it is the one path of
+/// the module's tree (`tree_of_followed`): where it begins, and its items, functions with the names that the module
+/// gives them. An import to which no path leads is left out; so is what the module does not import. Where imports are
+/// asked for, items have marks: whether each path to any of them goes through the item.
 ///
 /// Paths begin at the module's exports of the names `exports`, in their order, or at all exports in the order of the
 /// module if `exports` is empty; and then at the start function. If none of these leads to an import, the path to it
@@ -76,7 +71,7 @@ fn asked_text(
         IsRefusal bytes.now (map text_of exports.now) r.fault r.place) }
 {
     match follow(alloc, asked, bytes, exports) {
-        Ok(followed) => match json_text(alloc, asked, &followed) {
+        Ok(followed) => match followed_text(alloc, asked, &followed) {
             Ok(text) => Ok(text),
             Err(AllocError) => Err(Refused::without_place(GcFault::Memory)),
         },
@@ -84,61 +79,16 @@ fn asked_text(
     }
 }
 
-/// The paths to the imports that are asked for, in order, as JSON in a line (`wc_why::begin_paths`), with marks where
-/// something is asked for (`wc_why::put_marked_path`). An import to which no path leads is left out.
-///
-/// # Errors
-///
-/// `AllocError`: an allocation failed.
-pub fn json_text(
+/// The paths in a module that is followed.
+fn followed_text(
     alloc: Global,
     asked: &Asked<'_, '_>,
     followed: &Followed<'_>,
 ) -> Result<Vec<u8>, AllocError>
     requires { HasPaths followed.now }
-    ensures { IfOk result (λ v. IsJsonIn followed.now asked.now v.items) }
+    ensures { (bytes : List ℕ) (exports : List (List ℕ)) → IsSource bytes exports followed.now
+        → IfOk result (λ v. IsPathsText bytes exports asked.now v.items) }
 {
-    let marks = marks_for(alloc, asked, followed)?;
-    marked_text(alloc, asked, followed, &marks)
-}
-
-/// The paths with these marks.
-fn marked_text(
-    alloc: Global,
-    asked: &Asked<'_, '_>,
-    followed: &Followed<'_>,
-    marks: &Option<Dominators>,
-) -> Result<Vec<u8>, AllocError>
-    requires paths { HasPaths followed.now }
-    requires marks { AreMarksIn followed.now asked.now (marking_of marks.now) }
-    ensures { IfOk result (λ v. IsJsonIn followed.now asked.now v.items) }
-{
-    let mut out = begin_paths(alloc)?;
-    for position in 0..followed.code.imports.len() {
-        let import = &followed.code.imports[position];
-        if !asked.is_shown(import) {
-            continue;
-        }
-        write_path(alloc, followed, marks, position, &mut out)?;
-    }
-    end_paths(out)
-}
-
-/// Writes the path to the import at a position, if one leads there.
-fn write_path(
-    alloc: Global,
-    followed: &Followed<'_>,
-    marks: &Option<Dominators>,
-    position: usize,
-    out: &mut Writer,
-) -> Result<(), AllocError>
-    requires paths { HasPaths followed.now }
-    requires there { position < length followed.now.code.imports.items }
-    ensures { OnOk result (IsPathWritten followed.now (marking_of marks.now) position out.old
-        out.new) }
-{
-    match reached_path(alloc, followed, position)? {
-        Some(path) => put_marked_path(out, &path, marks),
-        None => Ok(()),
-    }
+    let tree = tree_of_followed(alloc, asked, &[], followed)?;
+    tree_paths(alloc, asked.seed(), &tree)
 }

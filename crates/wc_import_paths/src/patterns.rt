@@ -4,7 +4,7 @@ ghost use Rattle.std.specs.Prelude.{◌≡◌, IfOk, map};
 ghost use Rattle.std.specs.List.{list_any};
 ghost use Rattle.std.specs.Option.{option_map};
 ghost use Rattle.wc_read.specs.Imports.{import_value};
-ghost use Rattle.wc_why.specs.Paths.{text_of};
+ghost use Rattle.wc_why.specs.Texts.{text_of};
 ghost use Rattle.wc_import_paths.specs.Patterns.{first_unknown, is_known, is_match, is_name, is_shown, pattern_of, pattern_view};
 
 use std::alloc::{AllocError, Global};

@@ -1,10 +1,10 @@
 //! The exports at which paths may begin.
 
-ghost use Rattle.std.specs.Prelude.{◌≡◌, ◌≢◌, AllPairs, IfErr, IfOk, IsOk, None, map};
-ghost use Rattle.std.specs.Option.{option_map};
+ghost use Rattle.std.specs.Prelude.{◌≡◌, ◌≢◌, ◌++◌, AllPairs, IfErr, IfOk, IsOk, None, OnOk, map};
+ghost use Rattle.std.specs.Option.{option_map, option_to_list};
 ghost use Rattle.wc_read.specs.Exports.{export_value};
 ghost use Rattle.wc_gc.specs.Exports.{AreNamed, IsMissingFault, by_name, export_entries, missing_name};
-ghost use Rattle.wc_why.specs.Paths.{text_of};
+ghost use Rattle.wc_why.specs.Texts.{text_of};
 ghost use Rattle.wc_import_paths.specs.Private.Roots.{IsMissing};
 ghost use Rattle.wc_import_paths.specs.Roots.{export_named, exports_for, exports_named};
 
@@ -78,6 +78,56 @@ fn exports_named<'r>(
         }
     }
     Ok(found)
+}
+
+/// The exports of some names, in their order; a name that is not exported is left out.
+///
+/// # Errors
+///
+/// `AllocError`: an allocation failed.
+pub fn exports_of_names<'r>(
+    alloc: Global,
+    seed: Seed,
+    names: &[&str],
+    exports: &[Export<'r>],
+) -> Result<Vec<Export<'r>>, AllocError>
+    requires { AllPairs (λ x y. x ≢ y) (map (λ e. e.name) (map export_value exports.now)) }
+    ensures { IfOk result (λ v. map export_value v.items
+        ≡ exports_named (map export_value exports.now) (map text_of names.now)) }
+{
+    let named = exports_by_name(alloc, seed, exports)?;
+    exports_among(alloc, &named, names)
+}
+
+/// The exports of those of some names that are there.
+fn exports_among<'r>(
+    alloc: Global,
+    named: &Map<&str, Export<'r>>,
+    names: &[&str],
+) -> Result<Vec<Export<'r>>, AllocError>
+    requires { AreNamed named.now.entries }
+    ensures { IfOk result (λ v. map export_value v.items
+        ≡ exports_named (export_entries named.now.entries) (map text_of names.now)) }
+{
+    let mut found = Vec::new(alloc);
+    for name in names {
+        push_some(export_named(named, name), &mut found)?;
+    }
+    Ok(found)
+}
+
+/// Appends an export, if there is one.
+fn push_some<'r>(export: Option<Export<'r>>, found: &mut Vec<Export<'r>>) -> Result<(), AllocError>
+    ensures { OnOk result (map export_value found.new.items ≡ map export_value found.old.items
+        ++ option_to_list (option_map export_value export.entry)) }
+{
+    match export {
+        Some(export) => {
+            found.push(export)?;
+            Ok(())
+        }
+        None => Ok(()),
+    }
 }
 
 /// The export of a name.

@@ -1,5 +1,5 @@
 -- What modules import, as it is noted.
-use Rattle.std.proofs.Common.{◌≡◌, ℕ, zero, suc, ◌+◌, ◌<◌, Bool, true, false, cond, ◌||◌, List, [], ◌∷◌, ◌++◌, length, map, take, get_or, is_some, Contains, option_map, Option, Some, None, String, string_bytes, refl, sym, ◌∙◌, ap, subst, inl, inr, arith}
+use Rattle.std.proofs.Common.{◌≡◌, ℕ, not, zero, suc, ◌+◌, ◌<◌, Bool, true, false, cond, ◌||◌, List, [], ◌∷◌, ◌++◌, length, map, take, get_or, is_some, Contains, option_map, Option, Some, None, String, string_bytes, refl, sym, ◌∙◌, ap, subst, inl, inr, arith}
 use Rattle.std.proofs.Math.Bool.{or-false}
 use Rattle.std.proofs.lemmas.Bool.{cases_Bool, or_left}
 use Rattle.std.proofs.lemmas.List.{map-append, take_more}
@@ -9,7 +9,7 @@ use Rattle.std.proofs.lemmas.Slice.Eq.{bytes_eq-Decides}
 use Rattle.std.specs.Borrow.{Bor}
 use Rattle.std.specs.List.{list_any, slice_get}
 use Rattle.std.specs.Map.{lookup}
-use Rattle.std.specs.Prelude.{AllPairs, MatchOption, ◌↔◌, ◌⊎◌, codes}
+use Rattle.std.specs.Prelude.{◌&&◌, AllPairs, MatchOption, ◌↔◌, ◌⊎◌, codes}
 use Rattle.std.specs.Str.{bytes_eq}
 use Rattle.std.specs.declared.alloc.Global.{Global}
 use Rattle.json.specs.Lex.{tokens}
@@ -17,6 +17,7 @@ use Rattle.json.specs.Print.{print}
 use Rattle.json.specs.Tree.{json_tokens}
 use Rattle.indexmap.specs.IndexMap.{IndexMap, insert_entry}
 use Rattle.indexmap.proofs.CallerLemmas.{insert_entry-new}
+use Rattle.wc_maps.specs.Texts.{HasTexts, is_in}
 use Rattle.wc_texts.specs.Names.{first_occurrences, named_view}
 use Rattle.wc_read.specs.Imports.{ImportValue, import_value, import_values}
 use Rattle.wc_read.specs.Modules.{ModuleValue}
@@ -29,10 +30,9 @@ use Rattle.wc_gc.specs.declared.import_chains.ImportChains.{ImportChains}
 use Rattle.wc_gc.proofs.NameSetLemmas.{same_text}
 use Rattle.wc_segments.specs.Segments.{SegmentsValue}
 use Rattle.wc_graph.proofs.ChainTreeLemmas.{none_of}
-use Rattle.wc_import_paths.proofs.FunctionNameLemmas.{names_one}
-use Rattle.wc_why.specs.Joined.{AreJoined}
-use Rattle.wc_why.specs.Paths.{text_of}
-use Rattle.wc_why.proofs.JoinedLemmas.{none_joined, one_joined}
+use Rattle.wc_import_paths.specs.Joined.{AreJoined}
+use Rattle.wc_why.specs.Texts.{text_of}
+use Rattle.wc_import_paths.proofs.JoinedLemmas.{none_joined, one_joined}
 use Rattle.wc_summary.specs.Entries.{EntriesView, IsSorted, interfaces_of, no_parts, parts_of, with_adapters, with_main}
 use Rattle.wc_summary.specs.Leads.{Tags, named_in, tag_view, tags_view}
 use Rattle.wc_summary.specs.Notes.{NotesAdapterModule, NotesParts}
@@ -46,16 +46,12 @@ use Rattle.wc_summary.proofs.NotedLemmas.{adapter_by as by_test, wanted_as, with
 use Rattle.wc_summary.proofs.TagLemmas.{lists_more, lists_none}
 use Rattle.wc_summary.proofs.UseLemmas.{same_there}
 use Rattle.wc_module_ways.specs.Adapters.{AdapterView, adapter_view}
-use Rattle.wc_module_ways.specs.Imports.{AreAdapterTags, AreEntries, AreFound, AreFoundAt, AreParts, ArePartsAt, IsAdapterTag, IsEntry, IsImportsJsonIn, IsImportsTextIn, adapter_by, is_imported, main_tags, names_of_main, segments_of}
-use Rattle.wc_module_ways.specs.Main.{MainView, code_of}
-use Rattle.wc_module_ways.specs.MainModules.{IsView, module_of}
+use Rattle.wc_module_ways.specs.Imports.{AreAdapterTags, AreEntries, AreFound, AreMainNames, AreFoundAt, AreParts, ArePartsAt, IsAdapterTag, IsEntry, IsImportsJsonIn, IsImportsTextIn, adapter_by, is_wanted, main_tags}
+use Rattle.wc_import_paths.specs.MainModules.{bytes_in, code_of, main_view, segments_of}
 use Rattle.wc_module_ways.specs.Modules.{AreView, ModulesView}
-use Rattle.wc_module_ways.specs.Private.Imports.{AreMainNames, AreWanted, NotesAdaptersOf, NotesMainOf, NotesThis, NotesWanted, has_key, segments_in, tag_at, tags_at}
-use Rattle.wc_module_ways.specs.declared.adapters.AdapterModule.{AdapterModule}
-use Rattle.wc_module_ways.specs.declared.main_module.MainModule.{MainModule}
-use Rattle.wc_module_ways.specs.declared.main_module.MainModule.TheVariants.{Whole, Unread}
+use Rattle.wc_module_ways.specs.Private.Imports.{AreWanted, NotesAdaptersOf, NotesMainOf, NotesThis, NotesWanted, has_key, tag_at, tags_at}
+use Rattle.wc_module_ways.specs.declared.adapter.AdapterModule.{AdapterModule}
 use Rattle.wc_module_ways.specs.declared.modules.Modules.{Modules}
-use Rattle.wc_module_ways.proofs.MainLemmas.{module_is}
 
 -- ---- the interfaces of imports, one after another
 
@@ -109,22 +105,86 @@ pub noted_already : (es : List (String Global × Unit {0})) (text : List ℕ) �
     → NotesWanted text es es
 noted_already es text there e = noted_or es text e (sym (same_there es text) ∙ there) (cases_Bool (bytes_eq e text))
 
-pub wanted_next : (names : List (Bor (List ℕ))) (i : ℕ) (d : Bor (List ℕ)) (old new : List (String Global × Unit {0})) → i < length names
-    → AreWanted (map text_of (take i names)) old → NotesWanted (get_or names i d).now old new → AreWanted (map text_of (take (i + 1) names)) new
-wanted_next names i d old new lt h n e =
-    n e
-    ∙ (ap (λ (b : Bool). b || bytes_eq e (get_or names i d).now) (h e)
-    ∙ sym (ap (λ (z : List (Bor (List ℕ))). list_any (bytes_eq e) (map text_of z)) (take_more names i d lt)
+more_wanted : (a k e : Bool) → ((not a && k) || (not a && e)) ≡ (not a && (k || e))
+more_wanted true k e = refl
+more_wanted false k e = refl
+
+all_names : (names : List (Bor (List ℕ))) (i : ℕ) (d : Bor (List ℕ)) (e : List ℕ) → i < length names
+    → list_any (bytes_eq e) (map text_of (take (i + 1) names)) ≡ (list_any (bytes_eq e) (map text_of (take i names)) || bytes_eq e (get_or names i d).now)
+all_names names i d e lt =
+    ap (λ (z : List (Bor (List ℕ))). list_any (bytes_eq e) (map text_of z)) (take_more names i d lt)
     ∙ (ap (list_any (bytes_eq e)) (map-append text_of (take i names) (get_or names i d ∷ []))
     ∙ (list_any-append (bytes_eq e) (map text_of (take i names)) ((get_or names i d).now ∷ [])
-    ∙ ap (λ (b : Bool). list_any (bytes_eq e) (map text_of (take i names)) || b) (or-false (bytes_eq e (get_or names i d).now))))))
+    ∙ ap (λ (b : Bool). list_any (bytes_eq e) (map text_of (take i names)) || b) (or-false (bytes_eq e (get_or names i d).now))))
+
+-- one name more, which is none of those that are always needed; and one that is
+
+pub wanted_next : (always : List (List ℕ)) (names : List (Bor (List ℕ))) (i : ℕ) (d : Bor (List ℕ)) (old new : List (String Global × Unit {0})) → i < length names
+    → is_in always (get_or names i d).now ≡ false → AreWanted always (map text_of (take i names)) old → NotesWanted (get_or names i d).now old new
+    → AreWanted always (map text_of (take (i + 1) names)) new
+wanted_next always names i d old new lt other h n e =
+    let a = is_in always e in
+    n e
+    ∙ (ap (λ (b : Bool). b || bytes_eq e (get_or names i d).now) (h e)
+    ∙ (named_other always (get_or names i d).now e other (list_any (bytes_eq e) (map text_of (take i names)))
+    ∙ (more_wanted a (list_any (bytes_eq e) (map text_of (take i names))) (bytes_eq e (get_or names i d).now)
+    ∙ ap (λ (b : Bool). not a && b) (sym (all_names names i d e lt)))))
+  where
+    pick : (always : List (List ℕ)) (name e : List ℕ) → is_in always name ≡ false → (b : Bool) → bytes_eq e name ≡ b
+        → b ≡ (not (is_in always e) && b)
+    pick always name e other true is =
+        let same : is_in always e ≡ false = ap (λ z. is_in always z) ((bytes_eq-Decides e name).0 is) ∙ other in
+        sym (ap (λ b. not b && true) same)
+    pick always name e other false is = none (is_in always e)
+      where
+        none : (a : Bool) → false ≡ (not a && false)
+        none true = refl
+        none false = refl
+
+    named_other : (always : List (List ℕ)) (name e : List ℕ) → is_in always name ≡ false → (k : Bool)
+        → ((not (is_in always e) && k) || bytes_eq e name)
+        ≡ ((not (is_in always e) && k) || (not (is_in always e) && bytes_eq e name))
+    named_other always name e other k =
+        ap (λ b. (not (is_in always e) && k) || b) (pick always name e other (bytes_eq e name) refl)
+
+pub wanted_past : (always : List (List ℕ)) (names : List (Bor (List ℕ))) (i : ℕ) (d : Bor (List ℕ)) (old : List (String Global × Unit {0})) → i < length names
+    → is_in always (get_or names i d).now ≡ true → AreWanted always (map text_of (take i names)) old
+    → AreWanted always (map text_of (take (i + 1) names)) old
+wanted_past always names i d old lt one h e =
+    h e
+    ∙ (past (list_any (bytes_eq e) (map text_of (take i names))) (bytes_eq e (get_or names i d).now) refl
+    ∙ ap (λ (b : Bool). not (is_in always e) && b) (sym (all_names names i d e lt)))
+  where
+    or_false : (k : Bool) → k ≡ (k || false)
+    or_false true = refl
+    or_false false = refl
+
+    past : (k b : Bool) → bytes_eq e (get_or names i d).now ≡ b
+        → (not (is_in always e) && k) ≡ (not (is_in always e) && (k || b))
+    past k true is =
+        let same : is_in always e ≡ true = ap (λ z. is_in always z) ((bytes_eq-Decides e (get_or names i d).now).0 is) ∙ one in
+        ap (λ a. not a && k) same ∙ sym (ap (λ a. not a && (k || true)) same)
+    past k false is = ap (λ b. not (is_in always e) && b) (or_false k)
+
+-- one name more, by whether it is in a set that has these texts
+
+pub outside_next : (keys always : List (List ℕ)) (same : HasTexts always keys) (names : List (Bor (List ℕ))) (i : ℕ) (d : Bor (List ℕ))
+    (old new : List (String Global × Unit {0})) → i < length names → (is_in keys (get_or names i d).now ≡ true → new ≡ old)
+    → (is_in keys (get_or names i d).now ≡ false → NotesWanted (get_or names i d).now old new) → AreWanted always (map text_of (take i names)) old
+    → AreWanted always (map text_of (take (i + 1) names)) new
+outside_next keys always same names i d old new lt kept noted h = elim (cases_Bool (is_in keys (get_or names i d).now)) [
+  | inl one ↦
+      subst (AreWanted always (map text_of (take (i + 1) names))) (sym (kept one))
+      (wanted_past always names i d old lt (sym (same (get_or names i d).now) ∙ one) h)
+  | inr other ↦ wanted_next always names i d old new lt (sym (same (get_or names i d).now) ∙ other) h (noted other)
+]
 
 -- ---- an adapter, by the names that the main module imports from it
 
 pub adapter_noted : (imports : List ImportValue) (a : AdapterView) (tags : Tags) (is : List ℕ → Bool) (old new : EntriesView) → AreAdapterTags a tags
-    → ((e : List ℕ) → is e ≡ is_imported imports a.name e) → NotesAdapterModule (by_test a.name a.code tags a.required is) old new → NotesThis imports a old new
+    → ((e : List ℕ) → is e ≡ is_wanted imports a e) → NotesAdapterModule (by_test a.name a.code tags a.required is) old new → NotesThis imports a old new
 adapter_noted imports a tags is old new t same h =
-    (tags, t, wanted_as a.name a.code tags a.required is (is_imported imports a.name) same old new h)
+    (tags, t, wanted_as a.name a.code tags a.required is (is_wanted imports a) same old new h)
 
 -- whether an import of an adapter stays, and the interface to which it belongs
 stays_by : (a : AdapterView) (i : ImportValue) (x : ItemIndex) (order : List ItemIndex) (position : Option ℕ)
@@ -219,26 +279,18 @@ far_all imports adapters k old new all s = subst (λ (n : ℕ). NotesSoFar impor
 
 -- ---- all entries
 
-segments_are : (p : MainModule) (v : MainView) → IsView p v → segments_in p ≡ segments_of v
-segments_are (Whole f) v h = sym (ap segments_of h.2)
-segments_are (Unread code why) v h = sym (ap segments_of h)
-
-pub names_are : (p : MainModule) (v : MainView) (names : List GlobalNameValue) → IsView p v → AreMainNames p names → names ≡ names_of_main v
-names_are (Whole f) v names h are = names_one f.bytes.now names h.0 are h.1 ∙ sym (ap names_of_main h.2)
-names_are (Unread code why) v names h are = are ∙ sym (ap names_of_main h)
-
-module _ (p : Modules) (w : ModulesView) (v : AreView p w) (start main adapters sorted : EntriesView) (none : start ≡ []) (in_main : NotesMainOf p.main w.given start main)
-    (in_adapters : NotesAdaptersOf (module_of p.main).imports (map adapter_view p.adapters.items) main adapters) (order : IsSorted adapters sorted)
+module _ (p : Modules) (w : ModulesView) (v : AreView p w) (start main adapters sorted : EntriesView) (none : start ≡ []) (in_main : NotesMainOf (main_view p.main) w.given start main)
+    (in_adapters : NotesAdaptersOf (code_of (main_view p.main)).imports (map adapter_view p.adapters.items) main adapters) (order : IsSorted adapters sorted)
   where
-    code : module_of p.main ≡ code_of w.main
-    code = module_is p.main w.main v.main
+    code : code_of (main_view p.main) ≡ code_of w.main
+    code = ap code_of v.main
 
     abbrev names : List (List ℕ)
     names = first_occurrences (named_in (main_tags w.given (code_of w.main).imports) ++ in_adapters.found)
 
     interfaces : interfaces_of adapters ≡ names
     interfaces =
-        lists_more start main adapters (named_in (main_tags w.given (module_of p.main).imports)) in_adapters.found in_main.listed in_adapters.listed [] (ap interfaces_of none)
+        lists_more start main adapters (named_in (main_tags w.given (code_of (main_view p.main)).imports)) in_adapters.found in_main.listed in_adapters.listed [] (ap interfaces_of none)
         ∙ ap (λ (m : ModuleValue). first_occurrences (named_in (main_tags w.given m.imports) ++ in_adapters.found)) code
 
     entry_is : (e : EntryView) → Contains sorted e → IsEntry w e
@@ -252,11 +304,11 @@ module _ (p : Modules) (w : ModulesView) (v : AreView p w) (start main adapters 
         let is : with_adapters b.0 (with_main a.0 no_parts) ≡ e.1 = sym noted ∙ found in
         record {
           main = subst (λ (z : PartsView). IsMainPartOf (code_of w.main) (segments_of w.main) (main_tags w.given (code_of w.main).imports) e.0 z.main) is
-              (subst (λ (s : Option SegmentsValue). IsMainPartOf (code_of w.main) s (main_tags w.given (code_of w.main).imports) e.0 a.0) (segments_are p.main w.main v.main)
-              (subst (λ (m : ModuleValue). IsMainPartOf m (segments_in p.main) (main_tags w.given m.imports) e.0 a.0) code a.1));
+              (subst (λ (s : Option SegmentsValue). IsMainPartOf (code_of w.main) s (main_tags w.given (code_of w.main).imports) e.0 a.0) (ap segments_of v.main)
+              (subst (λ (m : ModuleValue). IsMainPartOf m (segments_of (main_view p.main)) (main_tags w.given m.imports) e.0 a.0) code a.1));
           adapters = subst (λ (z : PartsView). AreParts (code_of w.main).imports w.adapters e.0 z.adapters) is
               (subst (λ (m : ModuleValue). AreParts m.imports w.adapters e.0 b.0) code
-              (subst (λ (z : List AdapterView). AreParts (module_of p.main).imports z e.0 b.0) v.adapters b.1));
+              (subst (λ (z : List AdapterView). AreParts (code_of (main_view p.main)).imports z e.0 b.0) v.adapters b.1));
           types = ap (λ (z : PartsView). z.types) (sym is);
         }
 
@@ -274,15 +326,16 @@ module _ (p : Modules) (w : ModulesView) (v : AreView p w) (start main adapters 
 
 -- ---- texts
 
-pub text_is : (p : Modules) (names : List GlobalNameValue) (entries : List EntryView) (text : List ℕ) → AreMainNames p.main names
-    → ((w : ModulesView) → AreView p w → AreEntries w entries) → text ≡ entry_lines names entries → IsImportsTextIn p text
-text_is p names entries text are each is w v = (entries, each w v, is ∙ ap (λ (n : List GlobalNameValue). entry_lines n entries) (names_are p.main w.main names v.main are))
+pub names_are : (p : Modules) (w : ModulesView) (names : List GlobalNameValue) → AreView p w → AreMainNames (bytes_in p.main) (main_view p.main) names
+    → AreMainNames w.bytes w.main names
+names_are p w names v are =
+    subst (λ z. AreMainNames z w.main names) v.bytes (subst (λ z. AreMainNames (bytes_in p.main) z names) v.main are)
 
-pub json_is : (p : Modules) (names : List GlobalNameValue) (entries : List EntryView) (text : List ℕ) → AreMainNames p.main names
+pub text_is : (p : Modules) (names : List GlobalNameValue) (entries : List EntryView) (text : List ℕ) → AreMainNames (bytes_in p.main) (main_view p.main) names
+    → ((w : ModulesView) → AreView p w → AreEntries w entries) → text ≡ entry_lines names entries → IsImportsTextIn p text
+text_is p names entries text are each is w v = (names, entries, names_are p w names v are, each w v, is)
+
+pub json_is : (p : Modules) (names : List GlobalNameValue) (entries : List EntryView) (text : List ℕ) → AreMainNames (bytes_in p.main) (main_view p.main) names
     → ((w : ModulesView) → AreView p w → AreEntries w entries) → text ≡ print (json_tokens (entries_json names entries)) ++ codes "\n"
     → tokens (print (json_tokens (entries_json names entries))) ≡ json_tokens (entries_json names entries) → IsImportsJsonIn p text
-json_is p names entries text are each put back w v =
-    let same : names ≡ names_of_main w.main = names_are p.main w.main names v.main are in
-    let both = subst (λ (n : List GlobalNameValue). (text ≡ print (json_tokens (entries_json n entries)) ++ codes "\n")
-    × (tokens (print (json_tokens (entries_json n entries))) ≡ json_tokens (entries_json n entries))) same (put, back) in
-    (entries, each w v, both.0, both.1)
+json_is p names entries text are each put back w v = (names, entries, names_are p w names v are, each w v, put, back)

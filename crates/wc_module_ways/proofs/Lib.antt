@@ -1,13 +1,9 @@
-pub mod PickedLemmas
 pub mod NameListLemmas
-pub mod FunctionLemmas
+pub mod PlaceLemmas
+pub mod LinkLemmas
+pub mod AdapterPartLemmas
+pub mod EndLemmas
+pub mod TreeLemmas
 pub mod RequiredLemmas
-pub mod MainLemmas
-pub mod StepLemmas
-pub mod PrintedLemmas
-pub mod WayLemmas
 pub mod ModuleLemmas
 mod ImportLemmas
-pub mod FoundLemmas
-pub mod MainEndLemmas
-pub mod TreeLemmas

@@ -11,29 +11,29 @@ use Rattle.std.specs.Option.{option_to_list}
 use Rattle.std.specs.Str.{bytes_eq}
 use Rattle.wc_read.specs.Imports.{ImportValue}
 use Rattle.wc_read.specs.Modules.{ModuleValue, SpellsModule}
-use Rattle.wc_read.specs.Reading.Names.{AreFunctionNames}
-use Rattle.wc_gc.specs.LiveItems.{IsFault}
+use Rattle.wc_read.specs.Laws.{HasOneValue}
+use Rattle.wc_gc.specs.LiveChains.{AreImportChains, AreWhyImports}
+use Rattle.wc_gc.specs.LiveItems.{IsFault, TrimInput}
+use Rattle.wc_gc.specs.declared.import_chains.ImportChains.{ImportChains}
 use Rattle.wc_gc.specs.TrimPlace.{IsExplained}
 use Rattle.wc_gc.specs.declared.fault.GcFault.{GcFault}
 use Rattle.wc_gc.specs.declared.trim_place.TrimPlace.{TrimPlace}
-use Rattle.wc_why.specs.Joined.{AreJoined}
-use Rattle.wc_why.proofs.JoinedLemmas.{one_more}
+use Rattle.wc_import_paths.specs.Joined.{AreJoined}
+use Rattle.wc_import_paths.proofs.JoinedLemmas.{one_more}
 use Rattle.wc_module_ways.specs.AdapterNames.{HasNames, is_name}
 use Rattle.wc_module_ways.specs.Adapters.{AdapterView, AreAdapters, Given, IsAdapterFor, IsPartAt, IsRead, adapter_view, given_view, is_needed_as, search_input}
-use Rattle.wc_module_ways.specs.Functions.{AreFunctions}
-use Rattle.wc_module_ways.specs.MainModules.{IsMainOf, module_of}
-use Rattle.wc_module_ways.specs.Modules.{AreImportsIn, AreModules, InputView, imports_through, is_of_main}
+use Rattle.wc_import_paths.specs.MainModules.{IsMainOf, code_of, main_view}
+use Rattle.wc_module_ways.specs.NameLists.{AreListed}
+use Rattle.wc_module_ways.specs.Modules.{AreImportsIn, AreModules, InputView, IsWholeIf, imports_through, is_of_main}
 use Rattle.wc_module_ways.specs.Names.{NamePair, function_pairs, names_under}
 use Rattle.wc_module_ways.specs.Private.Others.{AreOthers}
-use Rattle.wc_module_ways.specs.Refusals.{IsAdapterUnread, IsAdaptersRefusal, IsGivenRefusal, IsOfAdapter, IsOfMain, IsReadRefusal, IsThisRefusal, IsWaysRefusal}
-use Rattle.wc_module_ways.specs.Main.{IsMainRefusal}
-use Rattle.wc_module_ways.specs.Required.{is_needed, required_names}
-use Rattle.wc_module_ways.specs.declared.main_module.MainModule.{MainModule}
+use Rattle.wc_module_ways.specs.Refusals.{IsAdapterUnread, IsAdaptersRefusal, IsGivenRefusal, IsMainFault, IsOfAdapter, IsOfMain, IsReadRefusal, IsThisRefusal, IsWaysRefusal}
+use Rattle.wc_module_ways.specs.Required.{always_names, is_needed, required_names}
+use Rattle.wc_import_paths.specs.declared.main_module.MainModule.{MainModule}
 use Rattle.wc_module_ways.specs.declared.modules.Modules.{Modules}
 use Rattle.wc_module_ways.specs.declared.modules.Others.{Others}
 use Rattle.wc_module_ways.specs.declared.refusals.ModulesRefusal.{ModulesRefusal}
-use Rattle.wc_module_ways.proofs.MainLemmas.{module_is}
-use Rattle.wc_module_ways.proofs.PickedLemmas.{taken_more}
+use Rattle.wc_import_paths.proofs.PickedLemmas.{taken_more}
 
 abbrev pub GivenPair : Type 0
 GivenPair = Bor (List ℕ) × Bor (List ℕ)
@@ -68,14 +68,14 @@ module _ (imported asked : List NamePair) (g : Given) (one other : List (List �
   pub adapter_left : (m : ModuleValue) → SpellsModule g.1 m → is_needed one m other ≡ false → IsAdapterFor imported asked g None
   adapter_left m spelled off = (m, spelled, sym (needed_is m) ∙ off)
 
-  pub adapter_there : (a : AdapterView) → a.name ≡ g.0 → a.bytes ≡ g.1 → SpellsModule g.1 a.code → AreFunctionNames g.1 a.names
-      → a.required ≡ required_names one a.code other → is_needed one a.code other ≡ true → IsAdapterFor imported asked g (Some a)
-  adapter_there a name bytes spelled named required on = record {
+  pub adapter_there : (a : AdapterView) → a.name ≡ g.0 → a.bytes ≡ g.1 → SpellsModule g.1 a.code
+      → a.required ≡ required_names one a.code other → a.always ≡ always_names a.code other → is_needed one a.code other ≡ true → IsAdapterFor imported asked g (Some a)
+  adapter_there a name bytes spelled required always on = record {
     name = name;
     bytes = bytes;
     spelled = spelled;
-    named = named;
     required = required ∙ (λ t. required_names (are t) a.code (also t));
+    always = always ∙ ap (always_names a.code) also;
     needed = sym (needed_is a.code) ∙ on;
   }
 
@@ -117,12 +117,17 @@ module _ (imported asked : List NamePair) where
           | inr past ↦ absurd (let le = past.0 in let lt = slice_get_within j.parts k part e in let each = j.each in omega (arith, lt, le, each))
         ]
 
+-- the chains of an adapter are those of its module
+pub chains_of_read : (one : HasOneValue SpellsModule) (w : TrimInput) (m : ModuleValue) (c : ImportChains) → SpellsModule w.bytes m → AreWhyImports w c
+    → AreImportChains w.required m c
+chains_of_read one w m c spelled (n, also, chains) = subst (λ (k : ModuleValue). AreImportChains w.required k c) (one w.bytes n m also spelled) chains
+
 -- ---- refusals
 
-pub main_refused : (bytes : List ℕ) (exports : List (List ℕ)) (given : List Given) (f : GcFault) (place : Option TrimPlace) (r : ModulesRefusal)
-    → IsOfMain f place r → IsMainRefusal bytes exports f place → IsReadRefusal bytes exports given r
-main_refused bytes exports given f place r of h =
-    inl (of.0, subst (λ z. IsMainRefusal bytes exports z r.place) (sym of.1) (subst (λ z. IsMainRefusal bytes exports f z) (sym of.2) h))
+pub main_refused : (i : InputView) (f : GcFault) (place : Option TrimPlace) (r : ModulesRefusal) → IsOfMain f place r
+    → IsMainFault i.is_whole i.main i.exports f place → IsReadRefusal i r
+main_refused i f place r of h =
+    inl (of.0, subst (λ z. IsMainFault i.is_whole i.main i.exports z r.place) (sym of.1) (subst (λ z. IsMainFault i.is_whole i.main i.exports f z) (sym of.2) h))
 
 pub one_refused : (given : List Given) (g : Given) (k : ℕ) (r : ModulesRefusal) → slice_get given k ≡ Some g → IsGivenRefusal g r → IsAdaptersRefusal given r
 one_refused given g k r at h = inr (g, (k, slice_get_within given k g at, get_or_from_slice_get given k g g at), h)
@@ -148,45 +153,41 @@ given_refused g f place r of h =
 
 -- ---- all of them
 
-pub modules_read : (i : InputView) (p : Modules) → IsMainOf i.main i.exports p.main → AreFunctions (module_of p.main).imports p.functions
-    → AreAdapters (function_pairs (module_of p.main).imports) i.adapter_exports i.adapters (map adapter_view p.adapters.items) → HasNames i.adapters p.names.keys
-    → AreModules i p
-modules_read i p h functions adapters names =
-    let same = module_is p.main h.view h.is_view in
-    record {
-      view = record { main = h.view; adapters = map adapter_view p.adapters.items; given = i.adapters };
-      is_modules = record {
-        main = h.is_main;
-        adapters = subst (λ (m : ModuleValue). AreAdapters (function_pairs m.imports) i.adapter_exports i.adapters (map adapter_view p.adapters.items)) same adapters;
-        given = refl;
-      };
-      are_view = record { main = h.is_view; adapters = refl; names = names };
-      has_modules = record {
-        main = h.has_main;
-        functions = functions;
-        adapters = all_read (function_pairs (module_of p.main).imports) i.adapter_exports i.adapters (map adapter_view p.adapters.items) adapters;
-      };
-    }
+pub modules_read : (i : InputView) (p : Modules) → IsMainOf i.main i.exports p.main → IsWholeIf i.is_whole (main_view p.main)
+    → AreListed (function_pairs (code_of (main_view p.main)).imports) p.functions.entries
+    → AreAdapters (function_pairs (code_of (main_view p.main)).imports) i.adapter_exports i.adapters (map adapter_view p.adapters.items)
+    → HasNames i.adapters p.names.keys → AreModules i p
+modules_read i p h all functions adapters names = record {
+  view = record { main = main_view p.main; bytes = i.main; adapters = map adapter_view p.adapters.items; given = i.adapters };
+  is_modules = record { main = h.is_main; is_whole = all; bytes = refl; adapters = adapters; given = refl };
+  are_view = record { main = refl; bytes = h.spelled; adapters = refl; names = names };
+  has_modules = record {
+    main = h.has_main;
+    functions = functions;
+    adapters = all_read (function_pairs (code_of (main_view p.main)).imports) i.adapter_exports i.adapters (map adapter_view p.adapters.items) adapters;
+  };
+}
 
 -- of a main module, and others
-pub modules_made : (i : InputView) (main : MainModule) (o : Others) (p : Modules) → IsMainOf i.main i.exports main → AreOthers i (module_of main).imports o
-    → p.main ≡ main → p.adapters.items ≡ o.adapters.items → p.functions ≡ o.functions → p.names.keys ≡ o.names.keys → AreModules i p
-modules_made i main o p h others is adapters functions names =
+pub modules_made : (i : InputView) (main : MainModule) (o : Others) (p : Modules) → IsMainOf i.main i.exports main → IsWholeIf i.is_whole (main_view main)
+    → AreOthers i (code_of (main_view main)).imports o → p.main ≡ main → p.adapters.items ≡ o.adapters.items → p.functions.entries ≡ o.functions.entries
+    → p.names.keys ≡ o.names.keys → AreModules i p
+modules_made i main o p h all others is adapters functions names =
     let m : IsMainOf i.main i.exports p.main = subst (IsMainOf i.main i.exports) (sym is) h in
-    let all = subst (λ (z : MainModule). AreOthers i (module_of z).imports o) (sym is) others in
-    modules_read i p m (subst (AreFunctions (module_of p.main).imports) (sym functions) all.functions)
-    (subst (λ v. AreAdapters (function_pairs (module_of p.main).imports) i.adapter_exports i.adapters (map adapter_view v)) (sym adapters) all.adapters)
-    (subst (HasNames i.adapters) (sym names) all.names)
+    let whole = subst (λ (z : MainModule). IsWholeIf i.is_whole (main_view z)) (sym is) all in
+    let rest = subst (λ (z : MainModule). AreOthers i (code_of (main_view z)).imports o) (sym is) others in
+    modules_read i p m whole (subst (AreListed (function_pairs (code_of (main_view p.main)).imports)) (sym functions) rest.functions)
+    (subst (λ v. AreAdapters (function_pairs (code_of (main_view p.main)).imports) i.adapter_exports i.adapters (map adapter_view v)) (sym adapters) rest.adapters)
+    (subst (HasNames i.adapters) (sym names) rest.names)
 
-pub others_refused : {T : Type 0} (bytes : List ℕ) (exports : List (List ℕ)) (given : List Given) (r : Result T ModulesRefusal)
-    → IfErr r (IsAdaptersRefusal given) → IfErr r (IsReadRefusal bytes exports given)
-others_refused bytes exports given (Ok x) h = tt
-others_refused bytes exports given (Err e) h = inr h
+pub others_refused : {T : Type 0} (i : InputView) (r : Result T ModulesRefusal) → IfErr r (IsAdaptersRefusal i.adapters) → IfErr r (IsReadRefusal i)
+others_refused i (Ok x) h = tt
+others_refused i (Err e) h = inr h
 
 -- the imports of the main module, and of all adapters, put after none
 pub imports_are : (p : Modules) (none first all : List ImportValue) → none ≡ []
-    → ((given : List Given) → HasNames given p.names.keys → first ≡ none ++ filter (is_of_main given) (module_of p.main).imports)
+    → ((given : List Given) → HasNames given p.names.keys → first ≡ none ++ filter (is_of_main given) (code_of (main_view p.main)).imports)
     → all ≡ first ++ flat_map imports_through (map adapter_view p.adapters.items) → AreImportsIn p all
 imports_are p none first all empty main put w v =
     put
-    ∙ ((λ t. (main w.given v.names ∙ (λ u. empty u ++ filter (is_of_main w.given) (module_is p.main w.main v.main u).imports)) t ++ flat_map imports_through (v.adapters t)))
+    ∙ ((λ t. (main w.given v.names ∙ (λ u. empty u ++ filter (is_of_main w.given) (ap code_of v.main u).imports)) t ++ flat_map imports_through (v.adapters t)))

@@ -11,10 +11,10 @@ use Rattle.std.proofs.lemmas.Cmp.{nat_list_eq_equiv}
 use Rattle.std.proofs.lemmas.List.{map-append}
 use Rattle.std.proofs.lemmas.Map.{lookup-set_value}
 use Rattle.std.proofs.lemmas.Slice.Eq.{bytes_eq-Decides}
-use Rattle.wc_why.specs.Paths.{text_of}
+use Rattle.wc_why.specs.Texts.{text_of}
 use Rattle.wc_module_ways.specs.NameLists.{AreListed, ListsUnder, NameLists, listed}
 use Rattle.wc_module_ways.specs.Names.{NamePair, names_under, pair_view}
-use Rattle.wc_module_ways.proofs.PickedLemmas.{picked_more, taken_more}
+use Rattle.wc_import_paths.proofs.PickedLemmas.{picked_more, taken_more}
 
 abbrev pub Text : Type 0
 Text = Bor (List ℕ)

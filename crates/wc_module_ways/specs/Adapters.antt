@@ -1,16 +1,15 @@
 -- The adapters of a component, and what is required of each.
-use Rattle.std.specs.Prelude.{◌≡◌, ℕ, Bool, true, false, List, length, Option, Some, None}
+use Rattle.std.specs.Prelude.{◌≡◌, ℕ, Bool, true, false, List, length, map, Option, Some, None}
 use Rattle.std.specs.Borrow.{Bor}
 use Rattle.std.specs.List.{slice_get}
 use Rattle.std.specs.Option.{option_to_list}
 use Rattle.wc_gc.specs.LiveItems.{TrimInput, names_of}
 use Rattle.wc_read.specs.Modules.{ModuleValue, SpellsModule, module_value}
-use Rattle.wc_read.specs.Names.{GlobalNameValue, name_entries}
-use Rattle.wc_read.specs.Reading.Names.{AreFunctionNames}
-use Rattle.wc_why.specs.Joined.{AreJoined}
+use Rattle.wc_import_paths.specs.Joined.{AreJoined}
+use Rattle.wc_why.specs.Texts.{text_of}
 use Rattle.wc_module_ways.specs.Names.{NamePair, names_under}
-use Rattle.wc_module_ways.specs.Required.{is_needed, required_names}
-use Rattle.wc_module_ways.specs.declared.adapters.AdapterModule.{AdapterModule}
+use Rattle.wc_module_ways.specs.Required.{always_names, is_needed, required_names}
+use Rattle.wc_module_ways.specs.declared.adapter.AdapterModule.{AdapterModule}
 
 -- an adapter as it is given: its name, and its bytes
 abbrev pub Given : Type 0
@@ -19,21 +18,22 @@ Given = List ℕ × List ℕ
 abbrev pub given_view : Bor (List ℕ) × Bor (List ℕ) → Given
 given_view g = (g.0.now, g.1.now)
 
--- an adapter: its name, its bytes, its module, the names of its functions, and the exports that are required of it
+-- an adapter: its name, its bytes, its module, the exports that are required of it, and of these the ones that it has to have whatever
+-- the main module imports
 pub record AdapterView : Type 0 where
   pub name : List ℕ
   pub bytes : List ℕ
   pub code : ModuleValue
-  pub names : List GlobalNameValue
   pub required : List (List ℕ)
+  pub always : List (List ℕ)
 
 abbrev pub adapter_view : AdapterModule → AdapterView
 adapter_view a = record {
   name = a.name.now;
   bytes = a.bytes.now;
   code = module_value a.code;
-  names = name_entries a.names;
   required = names_of a.required.keys;
+  always = map text_of a.always.items;
 }
 
 -- its bytes spell its module
@@ -56,11 +56,11 @@ module _ (imported asked : List NamePair) where
     pub name : a.name ≡ g.0
     pub bytes : a.bytes ≡ g.1
     pub spelled : SpellsModule g.1 a.code
-    pub named : AreFunctionNames g.1 a.names
     pub required : a.required ≡ required_names (names_under imported g.0) a.code (names_under asked g.0)
+    pub always : a.always ≡ always_names a.code (names_under asked g.0)
     pub needed : is_needed_as g.0 a.code ≡ true
 
-  -- that, if a component needs it; else none
+  -- that, if a component needs it; otherwise none
   abbrev pub IsAdapterFor : Given → Option AdapterView → Type 0
   IsAdapterFor g (Some a) = IsAdapter g a
   IsAdapterFor g None = (m : ModuleValue) × SpellsModule g.1 m × (is_needed_as g.0 m ≡ false)

@@ -1,25 +1,26 @@
 -- What the modules of a component import, by interfaces, where no world says it: the interface of an import is its module's name.
-use Rattle.std.specs.Prelude.{◌≡◌, ◌↔◌, ◌⊎◌, ℕ, List, [], ◌++◌, AllPairs, Bool, Contains, cond, codes, length, map, Option, Some, None}
+use Rattle.std.specs.Prelude.{◌≡◌, ◌↔◌, ◌⊎◌, ℕ, List, [], ◌++◌, AllPairs, Bool, ◌&&◌, not, Contains, cond, codes, length, map, Option, Some, None}
 use Rattle.std.specs.List.{list_any, slice_get}
 use Rattle.std.specs.Str.{bytes_eq}
 use Rattle.json.specs.Lex.{tokens}
 use Rattle.json.specs.Print.{print}
 use Rattle.json.specs.Tree.{json_tokens}
+use Rattle.wc_maps.specs.Texts.{is_in}
 use Rattle.wc_texts.specs.Names.{first_occurrences}
 use Rattle.wc_read.specs.Imports.{ImportValue}
 use Rattle.wc_read.specs.Names.{GlobalNameValue}
+use Rattle.wc_read.specs.Reading.Names.{AreFunctionNames}
 use Rattle.wc_read.specs.Decoded.{ItemIndex}
 use Rattle.wc_gc.specs.LiveItems.{IsLive}
 use Rattle.wc_read.specs.ImportItems.{IsImportItem}
-use Rattle.wc_segments.specs.Segments.{SegmentsValue}
 use Rattle.wc_summary.specs.Leads.{Tags, found_in, named_in}
 use Rattle.wc_summary.specs.Parts.{AdapterValue, ArePartsOf, IsAdapterPartOf, IsMainPartOf}
 use Rattle.wc_summary.specs.Summary.{AdapterPartView, EntryView, IsListedBefore}
 use Rattle.wc_summary.specs.SummaryJson.{entries_json}
 use Rattle.wc_summary.specs.SummaryLines.{entry_lines}
-use Rattle.wc_why.specs.Joined.{AreJoined}
+use Rattle.wc_import_paths.specs.Joined.{AreJoined}
 use Rattle.wc_module_ways.specs.Adapters.{AdapterView, Given}
-use Rattle.wc_module_ways.specs.Main.{MainView, code_of, unread, whole}
+use Rattle.wc_import_paths.specs.MainModules.{MainView, code_of, segments_of, unread, whole}
 use Rattle.wc_module_ways.specs.Modules.{AreView, ModulesView, is_of_adapter, is_of_main}
 use Rattle.wc_module_ways.specs.Names.{function_pairs, names_under}
 use Rattle.wc_module_ways.specs.declared.modules.Modules.{Modules}
@@ -41,18 +42,17 @@ pub record AreAdapterTags (a : AdapterView) (tags : Tags) : Type 0 where
   pub at : (k : ℕ) (i : ImportValue) (x : ItemIndex) (tag : Option (List ℕ)) → slice_get a.code.imports k ≡ Some i → IsImportItem a.code.imports k x
       → slice_get tags k ≡ Some tag → IsAdapterTag a i x tag
 
--- the segments of a main module, if it can be followed, and the names of its functions
-abbrev pub segments_of : MainView → Option SegmentsValue
-segments_of (whole f) = Some f.segments
-segments_of (unread m why) = None
+-- the names of the functions of a main module with these bytes; none, where it can't be followed
+abbrev pub AreMainNames : List ℕ → MainView → List GlobalNameValue → Type 0
+AreMainNames bytes (whole f) names = AreFunctionNames bytes names
+AreMainNames bytes (unread m why) names = names ≡ []
 
-abbrev pub names_of_main : MainView → List GlobalNameValue
-names_of_main (whole f) = f.names
-names_of_main (unread m why) = []
-
--- the main module imports the function of a name from an adapter
+-- the main module imports the function of a name from an adapter, which needn't have it otherwise
 abbrev pub is_imported : List ImportValue → List ℕ → List ℕ → Bool
 is_imported imports adapter name = list_any (bytes_eq name) (names_under (function_pairs imports) adapter)
+
+abbrev pub is_wanted : List ImportValue → AdapterView → List ℕ → Bool
+is_wanted imports a name = not (is_in a.always name) && is_imported imports a.name name
 
 -- an adapter, by the imports of the main module, and the interfaces of its own
 abbrev pub adapter_by : List ImportValue → AdapterView → Tags → AdapterValue
@@ -61,7 +61,7 @@ adapter_by imports a tags = record {
   value = a.code;
   tags = tags;
   required = a.required;
-  is_wanted = is_imported imports a.name;
+  is_wanted = is_wanted imports a;
 }
 
 -- what adapters import of an interface, in their order
@@ -98,12 +98,14 @@ pub record AreEntries (w : ModulesView) (entries : List EntryView) : Type 0 wher
 
 -- as lines, and as JSON, in a line: it is read back as this JSON
 abbrev pub IsImportsText : ModulesView → List ℕ → Type 0
-IsImportsText w text = (entries : List EntryView) × AreEntries w entries × (text ≡ entry_lines (names_of_main w.main) entries)
+IsImportsText w text =
+    (names : List GlobalNameValue) × (entries : List EntryView) × AreMainNames w.bytes w.main names × AreEntries w entries × (text ≡ entry_lines names entries)
 
 abbrev pub IsImportsJson : ModulesView → List ℕ → Type 0
 IsImportsJson w text =
-    (entries : List EntryView) × AreEntries w entries × (text ≡ print (json_tokens (entries_json (names_of_main w.main) entries)) ++ codes "\n")
-    × (tokens (print (json_tokens (entries_json (names_of_main w.main) entries))) ≡ json_tokens (entries_json (names_of_main w.main) entries))
+    (names : List GlobalNameValue) × (entries : List EntryView) × AreMainNames w.bytes w.main names × AreEntries w entries
+    × (text ≡ print (json_tokens (entries_json names entries)) ++ codes "\n")
+    × (tokens (print (json_tokens (entries_json names entries))) ≡ json_tokens (entries_json names entries))
 
 -- of modules that were read
 abbrev pub IsImportsTextIn : Modules → List ℕ → Type 0

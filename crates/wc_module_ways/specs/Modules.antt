@@ -1,25 +1,26 @@
 -- The modules of a component before it is made.
-use Rattle.std.specs.Prelude.{◌≡◌, ℕ, All, Bool, ◌&&◌, not, List, ◌++◌, map, filter, codes}
+use Rattle.std.specs.Prelude.{◌≡◌, ℕ, All, Bool, true, false, ⊤, ◌&&◌, not, List, ◌++◌, map, filter, codes}
 use Rattle.std.specs.List.{flat_map, list_any}
 use Rattle.std.specs.Str.{bytes_eq}
 use Rattle.wc_read.specs.Imports.{ImportValue}
 use Rattle.wc_import_paths.specs.Patterns.{PatternView, is_shown}
-use Rattle.wc_why.specs.Paths.{text_of}
+use Rattle.wc_why.specs.Texts.{text_of}
 use Rattle.wc_module_ways.specs.Adapters.{AdapterView, AreAdapters, Given, IsRead, adapter_view, given_view}
-use Rattle.wc_module_ways.specs.Main.{IsMain, MainView, code_of}
-use Rattle.wc_module_ways.specs.MainModules.{HasMain, IsView, module_of}
+use Rattle.wc_import_paths.specs.MainModules.{HasMain, IsMain, IsWhole, MainView, bytes_in, code_of, main_view}
 use Rattle.wc_module_ways.specs.Names.{NamePair, function_pairs, pair_view}
-use Rattle.wc_module_ways.specs.Functions.{AreFunctions}
+use Rattle.wc_module_ways.specs.NameLists.{AreListed}
 use Rattle.wc_module_ways.specs.AdapterNames.{HasNames}
 use Rattle.wc_module_ways.specs.declared.modules.Modules.{Modules}
 use Rattle.wc_module_ways.specs.declared.modules.ModulesInput.{ModulesInput}
 
--- the main module's bytes, and its exports at which paths begin; the adapters; and exports that are asked of adapters
+-- the main module's bytes, and its exports at which paths begin; the adapters; exports that are asked of adapters; and whether the main
+-- module has to be followed
 pub record InputView : Type 0 where
   pub main : List ℕ
   pub exports : List (List ℕ)
   pub adapters : List Given
   pub adapter_exports : List NamePair
+  pub is_whole : Bool
 
 abbrev pub input_view : ModulesInput → InputView
 input_view i = record {
@@ -27,16 +28,25 @@ input_view i = record {
   exports = map text_of i.exports.now;
   adapters = map given_view i.adapters.now;
   adapter_exports = map pair_view i.adapter_exports.now;
+  is_whole = i.is_whole;
 }
 
--- the main module, the adapters that a component of it needs, and all that are given
+-- the main module with its bytes, the adapters that a component of it needs, and all that are given
 pub record ModulesView : Type 0 where
   pub main : MainView
+  pub bytes : List ℕ
   pub adapters : List AdapterView
   pub given : List Given
 
+-- the main module is followed, if it has to be
+abbrev pub IsWholeIf : Bool → MainView → Type 0
+IsWholeIf false v = ⊤
+IsWholeIf true v = IsWhole v
+
 pub record IsModules (i : InputView) (w : ModulesView) : Type 0 where
   pub main : IsMain i.main i.exports w.main
+  pub is_whole : IsWholeIf i.is_whole w.main
+  pub bytes : w.bytes ≡ i.main
   pub adapters : AreAdapters (function_pairs (code_of w.main).imports) i.adapter_exports i.adapters w.adapters
   pub given : w.given ≡ i.adapters
 
@@ -71,14 +81,15 @@ imports_of w = filter (is_of_main w.given) (code_of w.main).imports ++ flat_map 
 
 -- they are these modules
 pub record AreView (p : Modules) (w : ModulesView) : Type 0 where
-  pub main : IsView p.main w.main
+  pub main : main_view p.main ≡ w.main
+  pub bytes : bytes_in p.main ≡ w.bytes
   pub adapters : map adapter_view p.adapters.items ≡ w.adapters
   pub names : HasNames w.given p.names.keys
 
 -- the paths in them were found
 pub record HasModules (p : Modules) : Type 0 where
   pub main : HasMain p.main
-  pub functions : AreFunctions (module_of p.main).imports p.functions
+  pub functions : AreListed (function_pairs (code_of (main_view p.main)).imports) p.functions.entries
   pub adapters : All IsRead (map adapter_view p.adapters.items)
 
 -- they are the modules of this input

@@ -1,7 +1,6 @@
 -- Names that are listed under names, and the functions that a module imports.
-use Rattle.std.specs.Prelude.{◌≡◌, ◌<◌, ℕ, List, map, filter, Bool, true, false, Some}
+use Rattle.std.specs.Prelude.{ℕ, List, map, filter, Bool, true, false}
 use Rattle.std.specs.Borrow.{Bor}
-use Rattle.std.specs.List.{slice_get}
 use Rattle.std.specs.Str.{bytes_eq}
 use Rattle.wc_read.specs.Imports.{ImportValue}
 use Rattle.wc_read.specs.declared.types.ImportType.{ImportType}
@@ -27,18 +26,3 @@ is_function (Global t) = false
 
 abbrev pub function_pairs : List ImportValue → List NamePair
 function_pairs imports = map (λ (i : ImportValue). (i.module_name, i.name)) (filter (λ (i : ImportValue). is_function i.ty) imports)
-
--- a function of a name that is imported from a module
-abbrev pub IsFunctionOf : ImportValue → List ℕ → List ℕ → Type 0
-IsFunctionOf i from name = (is_function i.ty ≡ true) × (i.module_name ≡ from) × (i.name ≡ name)
-
--- none of these imports is one
-abbrev pub HasNoFunction : List ImportValue → List ℕ → List ℕ → Type 0
-HasNoFunction imports from name = (k : ℕ) (i : ImportValue) → slice_get imports k ≡ Some i → ¬ (IsFunctionOf i from name)
-
--- the first import that is one, at this position
-pub record IsFirstFunction (imports : List ImportValue) (from name : List ℕ) (position : ℕ) : Type 0 where
-  pub import : ImportValue
-  pub at : slice_get imports position ≡ Some import
-  pub is : IsFunctionOf import from name
-  pub first : (k : ℕ) (other : ImportValue) → k < position → slice_get imports k ≡ Some other → ¬ (IsFunctionOf other from name)

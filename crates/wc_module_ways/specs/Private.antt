@@ -1,6 +1,5 @@
 -- Words of contracts of private functions. No contract of a public function cites these, directly or through others.
 pub mod Others
-pub mod Walks
+pub mod Places
+pub mod Parts
 pub mod Imports
-pub mod Found
-pub mod MainEnds

@@ -1,14 +1,15 @@
 -- Why nothing can be said of modules, and where.
-use Rattle.std.specs.Prelude.{◌≡◌, ◌⊎◌, ℕ, List, Contains, Option, Some, None}
+use Rattle.std.specs.Prelude.{◌≡◌, ◌⊎◌, ℕ, Bool, true, false, List, Contains, Option, Some, None}
 use Rattle.std.specs.Option.{option_map}
-use Rattle.wc_gc.specs.LiveItems.{IsFault}
+use Rattle.wc_gc.specs.LiveItems.{IsFault, IsLivenessCause}
 use Rattle.wc_gc.specs.TrimPlace.{IsExplained}
 use Rattle.wc_gc.specs.declared.fault.GcFault.{GcFault}
 use Rattle.wc_gc.specs.declared.fault.GcFault.TheVariants.{Memory}
 use Rattle.wc_gc.specs.declared.trim_place.TrimPlace.{TrimPlace}
-use Rattle.wc_import_paths.specs.Following.{IsCodeRefusal}
+use Rattle.wc_import_paths.specs.Following.{IsCodeRefusal, IsRefusal}
 use Rattle.wc_module_ways.specs.Adapters.{AdapterView, Given, given_view, search_input}
-use Rattle.wc_module_ways.specs.Main.{IsMainRefusal}
+use Rattle.wc_import_paths.specs.MainModules.{IsMainRefusal}
+use Rattle.wc_module_ways.specs.Modules.{InputView}
 use Rattle.wc_module_ways.specs.declared.refusals.ModulesRefusal.{ModulesRefusal}
 
 -- the adapter that is at fault; none for the main module
@@ -33,9 +34,15 @@ IsGivenRefusal g r = (adapter_in r ≡ Some g) × IsAdapterUnread g.1 r.fault r.
 abbrev pub IsAdaptersRefusal : List Given → ModulesRefusal → Type 0
 IsAdaptersRefusal given r = (r.fault ≡ Memory) ⊎ ((g : Given) × Contains given g × IsGivenRefusal g r)
 
+-- why bytes are no main module, or none that is followed, if it has to be
+abbrev pub IsMainFault : Bool → List ℕ → List (List ℕ) → GcFault → Option TrimPlace → Type 0
+IsMainFault false main exports f place = IsMainRefusal main exports f place
+IsMainFault true main exports f place = IsRefusal main exports f place
+
 -- memory ran out; or the main module, or an adapter, is refused
-abbrev pub IsReadRefusal : List ℕ → List (List ℕ) → List Given → ModulesRefusal → Type 0
-IsReadRefusal main exports given r = ((adapter_in r ≡ None) × IsMainRefusal main exports r.fault r.place) ⊎ IsAdaptersRefusal given r
+abbrev pub IsReadRefusal : InputView → ModulesRefusal → Type 0
+IsReadRefusal i r =
+    ((adapter_in r ≡ None) × IsMainFault i.is_whole i.main i.exports r.fault r.place) ⊎ IsAdaptersRefusal i.adapters r
 
 -- an adapter has this fault, which comes before other ones of it, at this place
 abbrev pub IsAdapterFault : AdapterView → ModulesRefusal → Type 0
@@ -47,3 +54,7 @@ IsThisRefusal a r = (r.fault ≡ Memory) ⊎ IsAdapterFault a r
 
 abbrev pub IsWaysRefusal : List AdapterView → ModulesRefusal → Type 0
 IsWaysRefusal adapters r = (r.fault ≡ Memory) ⊎ ((a : AdapterView) × Contains adapters a × IsAdapterFault a r)
+
+-- an adapter can be trimmed for what is required of it
+abbrev pub HasNoCause : AdapterView → Type 0
+HasNoCause a = (f : GcFault) → ¬ (IsLivenessCause (search_input a) f)

@@ -7,10 +7,14 @@ use Rattle.wc_gc.specs.Found.{is_empty}
 use Rattle.wc_texts.specs.Names.{first_occurrences}
 use Rattle.wc_module_ways.specs.ComponentExports.{component_exports, has_hash}
 
--- the exports that are required of an adapter: the functions of these names, which the main module imports; the exports that a
--- component may need; and those that are asked for; each once, in this order
+-- the exports that an adapter has to have whatever the main module imports: those that a component may need, and those that are asked for
+abbrev pub always_names : ModuleValue → List (List ℕ) → List (List ℕ)
+always_names m asked = component_exports m ++ asked
+
+-- the exports that are required of an adapter: the functions of these names, which the main module imports; and the exports that it has to
+-- have whatever the main module imports; each once, in this order
 abbrev pub required_names : List (List ℕ) → ModuleValue → List (List ℕ) → List (List ℕ)
-required_names imported m asked = first_occurrences (imported ++ (component_exports m ++ asked))
+required_names imported m asked = first_occurrences (imported ++ always_names m asked)
 
 -- a component needs an adapter: the main module imports a function of it, an export of it is asked for, or it exports a function
 -- of an interface

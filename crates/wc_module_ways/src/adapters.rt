@@ -2,36 +2,20 @@
 
 ghost use Rattle.std.specs.Prelude.{◌≡◌, [], ◌++◌, IfErr, IfOk, List, OnOk, map};
 ghost use Rattle.std.specs.Option.{option_map, option_to_list};
-ghost use Rattle.wc_read.specs.Names.{name_entries};
-ghost use Rattle.wc_read.specs.Reading.Names.{AreFunctionNames};
-ghost use Rattle.wc_why.specs.Paths.{text_of};
+ghost use Rattle.wc_why.specs.Texts.{text_of};
 ghost use Rattle.wc_module_ways.specs.Adapters.{AreAdapters, IsAdapterFor, adapter_view, given_view};
 ghost use Rattle.wc_module_ways.specs.Names.{NamePair};
 ghost use Rattle.wc_module_ways.specs.Refusals.{IsAdapterUnread, IsAdaptersRefusal, IsGivenRefusal};
 ghost use Rattle.wc_module_ways.specs.NameLists.{AreListed, listed};
 
+use crate::adapter::AdapterModule;
 use crate::name_lists::NameLists;
 use crate::refusals::{ModulesRefusal, of_adapter};
-use crate::required::{is_needed, required_names};
+use crate::required::{always_names, is_needed, required_names};
 use std::alloc::{AllocError, Global};
-use wc_import_paths::{Refusal, read_code};
-use wc_maps::{OrderedMap, Seed, Set};
-use wc_read::{Module, function_names};
-
-/// An adapter of a component.
-#[derive(Drop)]
-pub struct AdapterModule<'r> {
-    /// Its name.
-    pub name: &'r str,
-    /// The bytes of its module.
-    pub bytes: &'r [u8],
-    /// Its module.
-    pub code: Module<'r>,
-    /// The names of its functions.
-    pub names: OrderedMap<u32, &'r str>,
-    /// The exports that are required of it.
-    pub required: Set<String>,
-}
+use wc_import_paths::{ModuleRows, Refusal, read_code};
+use wc_maps::{Seed, Set};
+use wc_read::Module;
 
 /// Wanted functions and exports of adapters, under the adapters' names.
 #[derive(Clone, Copy)]
@@ -123,13 +107,15 @@ fn read_adapter<'r>(
         return Ok(None);
     }
     let required = required_names(alloc, seed, imported, &code, asked)?;
-    let names = names_of(alloc, bytes)?;
+    let always = always_names(alloc, &code, asked)?;
+    let rows = ModuleRows::bare(alloc, &code)?;
     Ok(Some(AdapterModule {
         name,
         bytes,
         code,
-        names,
+        rows,
         required,
+        always,
     }))
 }
 
@@ -145,16 +131,5 @@ pub(crate) fn names_at<'l, 'a>(
     match lists.get(key) {
         Some(names) => names.as_slice(),
         None => none,
-    }
-}
-
-/// The names of the functions of a module with these bytes.
-fn names_of(alloc: Global, bytes: &[u8]) -> Result<OrderedMap<u32, &str>, AllocError>
-    ensures { IfOk result (λ m. AreFunctionNames bytes.now (name_entries m)) }
-{
-    match function_names(alloc, bytes) {
-        Ok(names) => Ok(names),
-        // The bytes are those of a module: there is no fault but that memory runs out.
-        Err(_) => Err(AllocError),
     }
 }

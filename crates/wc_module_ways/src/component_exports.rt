@@ -7,7 +7,7 @@ ghost use Rattle.wc_gc.specs.Found.{are_i32, is_i32};
 ghost use Rattle.wc_read.specs.Exports.{export_value};
 ghost use Rattle.wc_read.specs.Modules.{module_value};
 ghost use Rattle.wc_read.specs.Types.{func_type_value};
-ghost use Rattle.wc_why.specs.Paths.{text_of};
+ghost use Rattle.wc_why.specs.Texts.{text_of};
 ghost use Rattle.wc_module_ways.specs.ComponentExports.{component_exports, has_hash, is_component_export, is_component_function, is_component_item, is_component_name, is_initializer, is_realloc, is_realloc_name, is_standard, needed_names, type_of};
 
 use std::alloc::{AllocError, Global};

@@ -1,35 +1,33 @@
 //! The imports of a component's modules, by interfaces.
 
-ghost use Rattle.std.specs.Prelude.{◌≡◌, IfErr, IfOk, List, OnOk, length, map, string_bytes};
-ghost use Rattle.std.specs.Option.{option_map};
+ghost use Rattle.std.specs.Prelude.{◌≡◌, ℕ, IfErr, IfOk, List, OnOk, false, length, map, string_bytes, true};
+ghost use Rattle.wc_maps.specs.Texts.{HasTexts, is_in};
 ghost use Rattle.wc_read.specs.Imports.{import_value, import_values};
 ghost use Rattle.wc_read.specs.Names.{name_entries};
-ghost use Rattle.wc_segments.specs.Segments.{segments_value};
 ghost use Rattle.wc_summary.specs.Entries.{entries_view};
 ghost use Rattle.wc_summary.specs.Leads.{tag_view, tags_view};
 ghost use Rattle.wc_summary.specs.Summary.{entry_view};
-ghost use Rattle.wc_why.specs.Paths.{text_of};
+ghost use Rattle.wc_why.specs.Texts.{text_of};
 ghost use Rattle.wc_module_ways.specs.AdapterNames.{HasNames};
 ghost use Rattle.wc_module_ways.specs.Adapters.{Given, IsRead, adapter_view};
-ghost use Rattle.wc_module_ways.specs.Imports.{AreEntries, IsImportsJsonIn, IsImportsTextIn, main_tags, tag_if};
-ghost use Rattle.wc_module_ways.specs.MainModules.{module_of};
+ghost use Rattle.wc_module_ways.specs.Imports.{AreEntries, AreMainNames, IsImportsJsonIn, IsImportsTextIn, main_tags, tag_if};
+ghost use Rattle.wc_import_paths.specs.MainModules.{bytes_in, code_of, main_view};
 ghost use Rattle.wc_module_ways.specs.Modules.{AreView, HasModules, ModulesView, is_of_main};
 ghost use Rattle.wc_module_ways.specs.Refusals.{IsThisRefusal, IsWaysRefusal};
-ghost use Rattle.wc_module_ways.specs.Private.Imports.{AreMainNames, AreWanted, NotesAdaptersOf, NotesFor, NotesMainOf, NotesWanted, segments_in, tag_at, tags_at};
-ghost use Rattle.wc_module_ways.specs.Private.Walks.{AreChainsOf};
+ghost use Rattle.wc_module_ways.specs.Private.Imports.{AreChainsOf, AreWanted, NotesAdaptersOf, NotesFor, NotesMainOf, NotesWanted, tag_at, tags_at};
 
-use crate::adapters::{AdapterModule, names_at};
-use crate::functions::Functions;
-use crate::main_module::MainModule;
+use crate::adapter::AdapterModule;
+use crate::adapters::names_at;
 use crate::modules::Modules;
+use crate::name_lists::NameLists;
 use crate::refusals::{ModulesRefusal, of_adapter};
 use crate::shared::{is_of_adapter, is_of_main};
 use std::alloc::{AllocError, Global};
 use wc_gc::{ImportChains, why_imports_explained};
-use wc_maps::{Map, OrderedMap, Seed, Set};
+use wc_import_paths::MainModule;
+use wc_maps::{Map, OrderedMap, Seed, Set, is_in_set, text_set};
 use wc_read::laws::modules_unique;
 use wc_read::{Import, function_names};
-use wc_segments::Segments;
 use wc_summary::{
     AdapterImports, Entries, Required, json_of, lines_of, note_adapter_module, note_main_module,
     sort_entries,
@@ -57,7 +55,7 @@ use wc_summary::{
 ///
 /// # Errors
 ///
-/// Those of `ways_text`.
+/// Those of `tree_of_modules`.
 pub fn imports_text<'r>(alloc: Global, modules: &Modules<'r>) -> Result<String, ModulesRefusal<'r>>
     requires { HasModules modules.now }
     ensures text { IfOk result (λ s. IsImportsTextIn modules.now (string_bytes s)) }
@@ -75,7 +73,7 @@ pub fn imports_text<'r>(alloc: Global, modules: &Modules<'r>) -> Result<String, 
 ///
 /// # Errors
 ///
-/// Those of `ways_text`.
+/// Those of `tree_of_modules`.
 pub fn imports_json<'r>(alloc: Global, modules: &Modules<'r>) -> Result<Vec<u8>, ModulesRefusal<'r>>
     requires { HasModules modules.now }
     ensures json { IfOk result (λ v. IsImportsJsonIn modules.now v.items) }
@@ -88,11 +86,12 @@ pub fn imports_json<'r>(alloc: Global, modules: &Modules<'r>) -> Result<Vec<u8>,
 }
 
 /// The names of the functions of a main module; none, where it can't be followed.
-pub(crate) fn main_names<'r>(
+fn main_names<'r>(
     alloc: Global,
     main: &MainModule<'r>,
 ) -> Result<OrderedMap<u32, &'r str>, AllocError>
-    ensures { IfOk result (λ m. AreMainNames main.now (name_entries m)) }
+    ensures { IfOk result (λ m. AreMainNames (bytes_in main.now) (main_view main.now)
+        (name_entries m)) }
 {
     match main {
         MainModule::Whole(followed) => match function_names(alloc, followed.bytes) {
@@ -100,7 +99,7 @@ pub(crate) fn main_names<'r>(
             // The bytes are those of a module: there is no fault but that memory runs out.
             Err(_) => Err(AllocError),
         },
-        MainModule::Unread { code: _, why: _ } => Ok(OrderedMap::new(alloc)),
+        MainModule::Unread { .. } => Ok(OrderedMap::new(alloc)),
     }
 }
 
@@ -126,22 +125,12 @@ fn note_main(
     entries: &mut Entries<'_>,
 ) -> Result<(), AllocError>
     ensures { (given : List Given) → HasNames given modules.now.names.keys
-        → OnOk result (NotesMainOf modules.now.main given
+        → OnOk result (NotesMainOf (main_view modules.now.main) given
         (entries_view entries.old.entries) (entries_view entries.new.entries)) }
 {
     let code = modules.main.code();
     let tags = main_tags(alloc, &modules.names, &code.imports)?;
-    note_main_module(alloc, code, segments_in(&modules.main), &tags, entries)
-}
-
-/// The segments of a main module, if it can be followed.
-fn segments_in<'m, 'r>(main: &'m MainModule<'r>) -> Option<&'m Segments<'r>>
-    ensures { option_map (λ s. segments_value s.now) result ≡ segments_in main.now }
-{
-    match main {
-        MainModule::Whole(followed) => Some(&followed.segments),
-        MainModule::Unread { code: _, why: _ } => None,
-    }
+    note_main_module(alloc, code, modules.main.segments(), &tags, entries)
 }
 
 /// The interface of each of these imports of the main module, if it is from no adapter, of which these are the names.
@@ -224,7 +213,7 @@ fn note_adapters<'r>(
     entries: &mut Entries<'r>,
 ) -> Result<(), ModulesRefusal<'r>>
     requires { HasModules modules.now }
-    ensures notes { OnOk result (NotesAdaptersOf (module_of modules.now.main).imports
+    ensures notes { OnOk result (NotesAdaptersOf (code_of (main_view modules.now.main)).imports
         (map adapter_view modules.now.adapters.items)
         (entries_view entries.old.entries) (entries_view entries.new.entries)) }
     ensures refused { IfErr result
@@ -239,12 +228,12 @@ fn note_adapters<'r>(
 /// Notes what an adapter imports, by the functions that the main module imports.
 fn note_adapter<'r>(
     alloc: Global,
-    functions: &Functions<'r>,
+    functions: &NameLists<'r>,
     adapter: &AdapterModule<'r>,
     entries: &mut Entries<'r>,
 ) -> Result<(), ModulesRefusal<'r>>
     requires { IsRead (adapter_view adapter.now) }
-    ensures notes { OnOk result (NotesFor functions.now (adapter_view adapter.now)
+    ensures notes { OnOk result (NotesFor functions.now.entries (adapter_view adapter.now)
         (entries_view entries.old.entries) (entries_view entries.new.entries)) }
     ensures refused { IfErr result (IsThisRefusal (adapter_view adapter.now)) }
 {
@@ -258,18 +247,18 @@ fn note_adapter<'r>(
 /// Notes what an adapter imports that can be trimmed, and has these chains.
 fn note_trimmed<'r>(
     alloc: Global,
-    functions: &Functions<'r>,
+    functions: &NameLists<'r>,
     adapter: &AdapterModule<'r>,
     chains: &ImportChains<'_>,
     entries: &mut Entries<'r>,
 ) -> Result<(), AllocError>
     requires { AreChainsOf (adapter_view adapter.now) chains.now }
-    ensures { OnOk result (NotesFor functions.now (adapter_view adapter.now)
+    ensures { OnOk result (NotesFor functions.now.entries (adapter_view adapter.now)
         (entries_view entries.old.entries) (entries_view entries.new.entries)) }
 {
     let tags = adapter_tags(alloc, &adapter.code.imports, &chains.imports)?;
-    let imported = names_at(&functions.names, adapter.name, &[]);
-    let wanted = wanted_names(alloc, *adapter.required.hasher(), imported)?;
+    let imported = names_at(functions, adapter.name, &[]);
+    let wanted = wanted_names(alloc, *adapter.required.hasher(), imported, &adapter.always)?;
     let imports = AdapterImports {
         name: adapter.name,
         code: &adapter.code,
@@ -282,15 +271,52 @@ fn note_trimmed<'r>(
     note_adapter_module(alloc, &imports, entries)
 }
 
-/// Names as the keys of a map.
-fn wanted_names(alloc: Global, seed: Seed, names: &[&str]) -> Result<Map<String, ()>, AllocError>
-    ensures { IfOk result (λ m. AreWanted (map text_of names.now) m.entries) }
+/// These names, but those that are always needed, as the keys of a map.
+fn wanted_names(
+    alloc: Global,
+    seed: Seed,
+    names: &[&str],
+    always: &[&str],
+) -> Result<Map<String, ()>, AllocError>
+    ensures { IfOk result (λ m. AreWanted (map text_of always.now) (map text_of names.now)
+        m.entries) }
 {
-    let mut wanted = Map::with_hasher(alloc, seed);
+    let set = text_set(alloc, seed, always)?;
+    names_outside(alloc, names, &set)
+}
+
+/// These names, but those of a set, as the keys of a map.
+fn names_outside(
+    alloc: Global,
+    names: &[&str],
+    set: &Set<&str>,
+) -> Result<Map<String, ()>, AllocError>
+    ensures { (always : List (List ℕ)) → HasTexts always (map text_of set.now.keys)
+        → IfOk result (λ m. AreWanted always (map text_of names.now) m.entries) }
+{
+    let mut wanted = Map::with_hasher(alloc, *set.hasher());
     for name in names {
-        note_wanted(alloc, name, &mut wanted)?;
+        note_outside(alloc, name, set, &mut wanted)?;
     }
     Ok(wanted)
+}
+
+/// Notes a name, unless it is in a set.
+fn note_outside(
+    alloc: Global,
+    name: &str,
+    set: &Set<&str>,
+    wanted: &mut Map<String, ()>,
+) -> Result<(), AllocError>
+    ensures in_set { is_in (map text_of set.now.keys) name.now ≡ true
+        → OnOk result (wanted.new.entries ≡ wanted.old.entries) }
+    ensures outside { is_in (map text_of set.now.keys) name.now ≡ false
+        → OnOk result (NotesWanted name.now wanted.old.entries wanted.new.entries) }
+{
+    if is_in_set(set, name) {
+        return Ok(());
+    }
+    note_wanted(alloc, name, wanted)
 }
 
 /// Notes a name, unless it is noted.

@@ -2,31 +2,26 @@
 //! path leads from its root in the main module to one of the main module's imports, or through its import of an
 //! adapter's export to an import of the adapter.
 //!
-//! `Modules::read` follows the main module (`wc_import_paths`) and reads its adapters, with the exports of each that a
-//! component may need. `put_ways` prints the paths to the requested imports to any printer of paths
-//! (`wc_why::PathPrinter`). `ways_text` returns them as lines, `ways_json` as a tree in JSON, and `ways_graph` as a
-//! graph of this tree. `imports_text` and `imports_json` return the imports of the modules by interface.
+//! `Modules::read` follows the main module (`wc_import_paths`) and reads its adapters, with the exports that a component
+//! may need of each. `tree_of_modules` is the tree of the paths to the imports and the functions that are asked
+//! for (`wc_why`). `imports_text` and `imports_json` say what the modules import, by interfaces.
 #![tactic(auto)]
 
+mod adapter;
 mod adapters;
 mod component_exports;
-mod found;
 mod functions;
 mod imports;
-mod main_module;
 mod modules;
 mod name_lists;
-mod paths;
+mod parts;
 mod refusals;
 mod required;
 mod shared;
 mod tree;
-mod ways;
 
-pub use adapters::AdapterModule;
+pub use adapter::AdapterModule;
 pub use imports::{imports_json, imports_text};
-pub use main_module::MainModule;
 pub use modules::{Modules, ModulesInput};
 pub use refusals::ModulesRefusal;
-pub use tree::{ways_graph, ways_json};
-pub use ways::{put_ways, ways_text};
+pub use tree::tree_of_modules;

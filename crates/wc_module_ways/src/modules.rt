@@ -2,24 +2,25 @@
 
 ghost use Rattle.std.specs.Prelude.{◌≡◌, ◌++◌, IfErr, IfOk, List, OnOk, map};
 ghost use Rattle.std.specs.List.{flat_map};
-ghost use Rattle.wc_read.specs.Imports.{ImportValue, import_values};
-ghost use Rattle.wc_why.specs.Paths.{text_of};
+ghost use Rattle.wc_read.specs.Imports.{import_values};
+ghost use Rattle.wc_why.specs.Texts.{text_of};
 ghost use Rattle.wc_module_ways.specs.Adapters.{AreAdapters, adapter_view, given_view};
-ghost use Rattle.wc_module_ways.specs.Functions.{AreFunctions};
-ghost use Rattle.wc_module_ways.specs.MainModules.{IsMainOf};
-ghost use Rattle.wc_module_ways.specs.Names.{function_pairs};
+ghost use Rattle.wc_import_paths.specs.MainModules.{IsMainOf, main_view};
+ghost use Rattle.wc_module_ways.specs.NameLists.{AreListed};
+ghost use Rattle.wc_module_ways.specs.Names.{NamePair};
 ghost use Rattle.wc_module_ways.specs.Private.Others.{AreOthers};
-ghost use Rattle.wc_module_ways.specs.Modules.{AreImportsIn, AreModules, imports_through, input_view};
-ghost use Rattle.wc_module_ways.specs.Refusals.{IsAdaptersRefusal, IsReadRefusal};
+ghost use Rattle.wc_module_ways.specs.Modules.{AreImportsIn, AreModules, IsWholeIf, imports_through, input_view};
+ghost use Rattle.wc_module_ways.specs.Refusals.{IsAdaptersRefusal, IsMainFault, IsReadRefusal};
 ghost use Rattle.wc_module_ways.specs.AdapterNames.{HasNames};
 
-use crate::adapters::{AdapterModule, Wanted, read_adapters};
-use crate::functions::Functions;
-use crate::main_module::MainModule;
-use crate::name_lists::list_names;
+use crate::adapter::AdapterModule;
+use crate::adapters::{Wanted, read_adapters};
+use crate::functions::function_names_of;
+use crate::name_lists::{NameLists, list_names};
 use crate::refusals::{ModulesRefusal, of_main};
 use crate::shared::{push_adapter_imports, push_main_imports};
 use std::alloc::{AllocError, Global};
+use wc_import_paths::{MainModule, Refusal};
 use wc_maps::{Seed, Set};
 use wc_read::Import;
 
@@ -34,6 +35,8 @@ pub struct ModulesInput<'a, 's> {
     pub adapters: &'s [(&'a str, &'a [u8])],
     /// Exports that are asked of adapters, each after the name of its adapter.
     pub adapter_exports: &'s [(&'a str, &'a str)],
+    /// Whether what can't be read of the main module is a fault.
+    pub is_whole: bool,
 }
 
 /// The modules of a component before it is made: the main module, and the adapters that it needs.
@@ -43,8 +46,8 @@ pub struct Modules<'r> {
     pub main: MainModule<'r>,
     /// The adapters that a component of it needs, in order.
     pub adapters: Vec<AdapterModule<'r>>,
-    /// The functions that the main module imports.
-    pub(crate) functions: Functions<'r>,
+    /// The names of the functions that the main module imports, under the modules that they come from.
+    pub(crate) functions: NameLists<'r>,
     /// The names of all adapters.
     pub(crate) names: Set<&'r str>,
 }
@@ -66,8 +69,9 @@ impl<'r> Modules<'r> {
     ///
     /// Of several causes the first in this order is named; `Memory` may come in place of any.
     ///
-    /// - Of the main module: `Read`, with the byte at which it stops being a module; `MissingExport`, for an export
-    ///   that it lacks. A section of segments, or a body, that can't be read is no fault.
+    /// - Of the main module: `Read`, with the byte at which it stops to be a module; `MissingExport`, an export that is
+    ///   not there. A section of segments, or a body, that can't be read is one only where the main module has to be
+    ///   whole.
     /// - Of an adapter, in order: `Read`, with the byte at which it stops to be a module.
     /// - `Memory`: an allocation failed.
     pub fn read(
@@ -76,10 +80,9 @@ impl<'r> Modules<'r> {
         input: &ModulesInput<'r, '_>,
     ) -> Result<Modules<'r>, ModulesRefusal<'r>>
         ensures modules { IfOk result (AreModules (input_view input.now)) }
-        ensures refused { IfErr result (IsReadRefusal input.now.main.now
-            (map text_of input.now.exports.now) (map given_view input.now.adapters.now)) }
+        ensures refused { IfErr result (IsReadRefusal (input_view input.now)) }
     {
-        match MainModule::read(alloc, seed, input.main, input.exports) {
+        match main_of(alloc, seed, input) {
             Ok(main) => read_with(alloc, seed, input, main),
             Err(refused) => Err(of_main(refused)),
         }
@@ -99,6 +102,24 @@ impl<'r> Modules<'r> {
         push_main_imports(&self.names, &self.main.code().imports, &mut imports)?;
         push_all_imports(&self.adapters, &mut imports)?;
         Ok(imports)
+    }
+}
+
+/// The main module.
+fn main_of<'r>(
+    alloc: Global,
+    seed: Seed,
+    input: &ModulesInput<'r, '_>,
+) -> Result<MainModule<'r>, Refusal>
+    ensures main { IfOk result (IsMainOf input.now.main.now (map text_of input.now.exports.now)) }
+    ensures whole { IfOk result (λ m. IsWholeIf input.now.is_whole (main_view m)) }
+    ensures refused { IfErr result (λ r. IsMainFault input.now.is_whole input.now.main.now
+        (map text_of input.now.exports.now) r.fault r.place) }
+{
+    if input.is_whole {
+        MainModule::follow(alloc, seed, input.main, input.exports)
+    } else {
+        MainModule::read(alloc, seed, input.main, input.exports)
     }
 }
 
@@ -123,7 +144,8 @@ fn read_with<'r>(
     input: &ModulesInput<'r, '_>,
     main: MainModule<'r>,
 ) -> Result<Modules<'r>, ModulesRefusal<'r>>
-    requires { IsMainOf input.now.main.now (map text_of input.now.exports.now) main }
+    requires is_main { IsMainOf input.now.main.now (map text_of input.now.exports.now) main }
+    requires whole { IsWholeIf input.now.is_whole (main_view main) }
     ensures modules { IfOk result (AreModules (input_view input.now)) }
     ensures refused { IfErr result (IsAdaptersRefusal (map given_view input.now.adapters.now)) }
 {
@@ -137,7 +159,7 @@ fn read_with<'r>(
 fn modules_of<'r>(main: MainModule<'r>, others: Others<'r>) -> Modules<'r>
     ensures main { result.main ≡ main.entry }
     ensures adapters { result.adapters.items ≡ others.entry.adapters.items }
-    ensures functions { result.functions ≡ others.entry.functions }
+    ensures functions { result.functions.entries ≡ others.entry.functions.entries }
     ensures names { result.names.keys ≡ others.entry.names.keys }
 {
     let Others {
@@ -157,7 +179,7 @@ fn modules_of<'r>(main: MainModule<'r>, others: Others<'r>) -> Modules<'r>
 #[derive(Drop)]
 struct Others<'r> {
     adapters: Vec<AdapterModule<'r>>,
-    functions: Functions<'r>,
+    functions: NameLists<'r>,
     names: Set<&'r str>,
 }
 
@@ -171,7 +193,7 @@ fn read_others<'r>(
     ensures others { IfOk result (AreOthers (input_view input.now) (import_values imports.now)) }
     ensures refused { IfErr result (IsAdaptersRefusal (map given_view input.now.adapters.now)) }
 {
-    let functions = Functions::find(alloc, seed, imports)?;
+    let functions = function_names_of(alloc, seed, imports)?;
     let adapters = adapters_for(alloc, seed, input, &functions)?;
     let names = adapter_names(alloc, seed, input.adapters)?;
     Ok(Others {
@@ -186,17 +208,17 @@ fn adapters_for<'r>(
     alloc: Global,
     seed: Seed,
     input: &ModulesInput<'r, '_>,
-    functions: &Functions<'r>,
+    functions: &NameLists<'r>,
 ) -> Result<Vec<AdapterModule<'r>>, ModulesRefusal<'r>>
-    ensures adapters { (imports : List ImportValue) → AreFunctions imports functions.now →
-        IfOk result (λ v. AreAdapters (function_pairs imports)
+    ensures adapters { (imported : List NamePair) → AreListed imported functions.now.entries →
+        IfOk result (λ v. AreAdapters imported
         (input_view input.now).adapter_exports (map given_view input.now.adapters.now)
         (map adapter_view v.items)) }
     ensures refused { IfErr result (IsAdaptersRefusal (map given_view input.now.adapters.now)) }
 {
     let asked = list_names(alloc, seed, input.adapter_exports)?;
     let wanted = Wanted {
-        imported: &functions.names,
+        imported: functions,
         asked: &asked,
     };
     read_adapters(alloc, seed, input.adapters, wanted)

@@ -5,9 +5,9 @@ ghost use Rattle.wc_gc.specs.LiveItems.{names_of};
 ghost use Rattle.wc_read.specs.Exports.{export_value};
 ghost use Rattle.wc_read.specs.Modules.{module_value};
 ghost use Rattle.wc_texts.specs.Names.{first_occurrences};
-ghost use Rattle.wc_why.specs.Paths.{text_of};
+ghost use Rattle.wc_why.specs.Texts.{text_of};
 ghost use Rattle.wc_module_ways.specs.ComponentExports.{component_exports, has_hash};
-ghost use Rattle.wc_module_ways.specs.Required.{has_interface_export, is_needed, required_names};
+ghost use Rattle.wc_module_ways.specs.Required.{always_names, has_interface_export, is_needed, required_names};
 
 use crate::component_exports::{has_hash, push_component_exports};
 use std::alloc::{AllocError, Global};
@@ -28,6 +28,22 @@ pub(crate) fn required_names(
 {
     let names = all_names(alloc, imported, code, asked)?;
     name_set(alloc, seed, &names)
+}
+
+/// The names of the exports that an adapter has to have whatever the main module imports: those that a component may
+/// need, and those that are asked for. Some may be repeated.
+pub(crate) fn always_names<'a>(
+    alloc: Global,
+    code: &Module<'a>,
+    asked: &[&'a str],
+) -> Result<Vec<&'a str>, AllocError>
+    ensures { IfOk result (λ v. map text_of v.items
+        ≡ always_names (module_value code.now) (map text_of asked.now)) }
+{
+    let mut names = Vec::new(alloc);
+    push_component_exports(code, &mut names)?;
+    names.extend_from_slice(asked)?;
+    Ok(names)
 }
 
 /// The names of these exports, some of them repeated.

@@ -1,17 +1,13 @@
 -- Functions that are reached and call through tables are those that may call.
-use Rattle.std.proofs.Common.{◌≡◌, ℕ, suc, ◌+◌, ◌-◌, ◌<◌, ◌≤◌, ◌^◌, Bool, true, false, cond, List, [], ◌∷◌, ◌++◌, length, map, take, get_or, Option, Some, None, nat_eq, ◌||◌, ◌&&◌, refl, sym, ◌∙◌, ap, subst, arith, inl, inr, All, append-nil}
-use Rattle.std.specs.Prelude.{Contains, MatchOption, filter, not}
+use Rattle.std.proofs.Common.{◌≡◌, ℕ, zero, suc, ◌+◌, ◌-◌, ◌<◌, Bool, true, false, cond, List, [], ◌∷◌, ◌++◌, length, map, Option, Some, None, nat_eq, ◌||◌, ◌&&◌, refl, sym, ◌∙◌, ap, subst, arith, inl, inr, All, append-nil}
+use Rattle.std.specs.Prelude.{Contains, MatchOption, filter}
 use Rattle.std.specs.Borrow.{Bor}
-use Rattle.std.specs.List.{flat_map, list_any, range_with_len, slice_get}
-use Rattle.std.specs.Map.{lookup}
+use Rattle.std.specs.List.{list_any, range_with_len, slice_get}
 use Rattle.std.specs.Option.{option_and_then, option_map, option_map_or}
-use Rattle.std.specs.declared.alloc.Global.{Global}
-use Rattle.std.specs.declared.vec.Vec.{Vec}
 use Rattle.std.proofs.lemmas.Bool.{and_from, and_parts, cases_Bool, eqb-true, or_cases}
-use Rattle.std.proofs.lemmas.Grind.{flat_map-append}
-use Rattle.std.proofs.lemmas.List.{length-map, take_all, take_more}
+use Rattle.std.proofs.lemmas.List.{length-map}
 use Rattle.std.proofs.lemmas.List.Elements.{All-filter, filter-append}
-use Rattle.std.proofs.lemmas.List.Folds.{list_any-append, list_any_at}
+use Rattle.std.proofs.lemmas.List.Folds.{list_any_at}
 use Rattle.std.proofs.lemmas.List.FromFn.{get_or-range_with_len, length-range_with_len}
 use Rattle.std.proofs.lemmas.Option.{get_or_from_slice_get, same_Some, slice_get-map, slice_get_cases, slice_get_within}
 use Rattle.wc_read.specs.Bodies.{BodyValue}
@@ -30,96 +26,19 @@ use Rattle.wc_graph.proofs.ListLemmas.{range_more}
 use Rattle.wc_segments.specs.Elements.{ElementValue, element_value}
 use Rattle.wc_segments.specs.declared.elements.ElementSegment.{ElementSegment}
 use Rattle.wc_paths.specs.CallLists.{CallKey, CallLists, is_call_key, listed}
-use Rattle.wc_paths.specs.Callers.{AreCallers, AreCallersBetween, CallsThrough, HasCall, IsCalling, call_key as key_between, calling_of, filled_table, put_in_table, table_of}
+use Rattle.wc_paths.specs.Callers.{AreCallers, AreCallersBetween, AreReached, CallsThrough, HasCall, IsCalling, calling_of, filled_table, function_type, is_reached, put_in_table, table_of}
 use Rattle.wc_graph.specs.Private.Places.{entry_by}
-use Rattle.wc_paths.specs.Counts.{counts_value}
-use Rattle.wc_paths.specs.Items.{CountsValue, GraphValue, counts_of, has_item}
-use Rattle.wc_paths.specs.Numbers.{item_count, number_of, numbers_in, numbers_of}
-use Rattle.wc_paths.specs.Paths.{AreChainsFrom, ArePaths, IsReachedIn, IsReachedInAny}
+use Rattle.wc_segments.specs.Modes.{ModeValue, passive, active, declarative}
+use Rattle.wc_paths.specs.Roots.{is_active}
+use Rattle.wc_paths.specs.Items.{GraphValue}
 use Rattle.wc_paths.specs.Private.CallLists.{ListsUnder, call_key, is_call, is_last, key_by, with_last}
-use Rattle.wc_paths.specs.Private.Callers.{HasListed, PutsIndices, calls_at, calls_reached, def_calls, is_reached, leads_to, list_at}
+use Rattle.wc_paths.specs.Private.Callers.{calls_at, calls_reached, def_calls}
 use Rattle.wc_paths.specs.Private.EqualTypes.{AreFirstEqual, IsFirstType}
-use Rattle.wc_graph.specs.Private.Places.{is_missing, is_missing_at}
 use Rattle.wc_paths.specs.declared.callers.Callers.{Callers}
-use Rattle.wc_graph.specs.declared.chains.Chains.{Chains}
 use Rattle.wc_paths.specs.declared.items.PathItem.{PathItem}
 use Rattle.wc_paths.specs.declared.items.PathItem.TheVariants.{Item, Elements, Data}
-use Rattle.wc_paths.specs.declared.paths.Paths.{Paths}
 use Rattle.wc_paths.proofs.CallListLemmas.{key_same, nat_eq_same}
 use Rattle.wc_paths.proofs.EqualTypeLemmas.{first_one, first_same}
-use Rattle.wc_paths.proofs.NumbersLemmas.{item_back, number_below}
-use Rattle.wc_graph.proofs.OnChainLemmas.{missing_unreached}
-use Rattle.wc_paths.proofs.PathLemmas.{IsThere, item_reached, number_reached, reached_there}
-
--- an item is reached exactly where its number was found
-
-module _ (g : GraphValue) (roots : List PathItem) (k : Chains) (a : AreChainsFrom g roots k) (x : PathItem) (there : IsThere g x) where
-  abbrev n : ℕ
-  n = number_of (counts_of g) x
-
-  found_at : (o : Option (Option ℕ)) → slice_get k.places.items n ≡ o → not (is_missing (entry_by o)) ≡ true → (j : ℕ) × (slice_get k.tree.order.items j ≡ Some n)
-  found_at None e h = absurd (let bad : ⊥ = cc h in bad)
-  found_at (Some None) e h = absurd (let bad : ⊥ = cc h in bad)
-  found_at (Some (Some j)) e h = (j, a.places.at n (Some j) e)
-
-  pub found_reached : not (is_missing_at k.places.items n) ≡ true → IsReachedIn g roots x
-  found_reached h =
-      let f = found_at (slice_get k.places.items n) refl h in
-      let c : Contains k.tree.order.items n =
-      (f.0, slice_get_within k.tree.order.items f.0 n f.1, get_or_from_slice_get k.tree.order.items f.0 n n f.1) in
-      subst (IsReachedIn g roots) (item_back (counts_of g) x there) (item_reached g roots n ((a.tree.reached n).0 c))
-
-  pub reached_found : IsReachedIn g roots x → not (is_missing_at k.places.items n) ≡ true
-  reached_found r =
-      elim (cases_Bool (is_missing_at k.places.items n)) [
-        | inl missing ↦ absurd (missing_unreached (numbers_in g) (numbers_of g roots) k.tree.order.items k.tree.finder.items a.tree.reached a.tree.once
-            a.tree.chains k.tree.finders k.places.items (item_count (counts_of g)) a.places n (number_below (counts_of g) x there) missing
-            (number_reached g roots x r))
-        | inr found ↦ ap not found
-      ]
-
-module _ (g : GraphValue) (first second : List PathItem) (p : Paths) (a : ArePaths g first second p) (x : PathItem) where
-  by_counts : (c : CountsValue) → c ≡ counts_of g → (b : Bool) → b ≡ (has_item c x && leads_to p (number_of c x)) → b ≡ true
-      → IsThere g x × (leads_to p (number_of (counts_of g) x) ≡ true)
-  by_counts c e b is h =
-      and_parts (has_item (counts_of g) x) (leads_to p (number_of (counts_of g) x))
-      (subst (λ (z : CountsValue). (has_item z x && leads_to p (number_of z x)) ≡ true) e (sym is ∙ h))
-
-  or_left : (b d : Bool) → b ≡ true → (b || d) ≡ true
-  or_left true d h = refl
-  or_left false d h = absurd (let bad : ⊥ = cc h in bad)
-
-  or_right : (b d : Bool) → d ≡ true → (b || d) ≡ true
-  or_right true d h = refl
-  or_right false d h = h
-
-  pub reached_to : is_reached p x ≡ true → IsReachedInAny g first second x
-  reached_to h =
-      let both = by_counts (counts_value p.counts) a.counted (is_reached p x) refl h in
-      elim (or_cases (not (is_missing_at p.first.places.items (number_of (counts_of g) x))) (not (is_missing_at p.second.places.items (number_of (counts_of g) x))) both.1) [
-        | inl one ↦ inl (found_reached g first p.first a.first_chains x both.0 one)
-        | inr two ↦ inr (found_reached g second p.second a.second_chains x both.0 two)
-      ]
-
-  leads : IsReachedInAny g first second x → IsThere g x × (leads_to p (number_of (counts_of g) x) ≡ true)
-  leads (inl r) =
-      let there = reached_there g first x r in (
-        there,
-        or_left (not (is_missing_at p.first.places.items (number_of (counts_of g) x))) (not (is_missing_at p.second.places.items (number_of (counts_of g) x)))
-            (reached_found g first p.first a.first_chains x there r),
-      )
-  leads (inr r) =
-      let there = reached_there g second x r in (
-        there,
-        or_right (not (is_missing_at p.first.places.items (number_of (counts_of g) x))) (not (is_missing_at p.second.places.items (number_of (counts_of g) x)))
-            (reached_found g second p.second a.second_chains x there r),
-      )
-
-  pub reached_from : IsReachedInAny g first second x → is_reached p x ≡ true
-  reached_from r =
-      let both = leads r in
-      subst (λ (z : CountsValue). (has_item z x && leads_to p (number_of z x)) ≡ true) (sym a.counted)
-      (and_from (has_item (counts_of g) x) (leads_to p (number_of (counts_of g) x)) both.0 both.1)
 
 -- an operator calls exactly where it has the key
 
@@ -269,7 +188,7 @@ module _ (g : GraphValue) (firsts : List ℕ) (f : AreFirstEqual g.code.types fi
 
 -- those that are listed are those that may call
 
-module _ (g : GraphValue) (first second : List PathItem) (p : Paths) (a : ArePaths g first second p) (firsts : List ℕ) (f : AreFirstEqual g.code.types firsts) (c : Callers)
+module _ (g : GraphValue) (first second : List PathItem) (p : List Bool) (a : AreReached g first second p) (firsts : List ℕ) (f : AreFirstEqual g.code.types firsts) (c : Callers)
     (tables : c.tables.items ≡ map (λ (e : ElementValue). table_of e.mode) g.segments.elements)
     (types : c.types.items ≡ map (λ (z : FuncCode). slice_get firsts z.ty) g.code.funcs)
     (lists : (q : CallKey) → listed c.lists.entries q ≡ filter (calls_reached p firsts g.code.funcs q) (range_with_len 0 (length g.code.funcs))) where
@@ -278,10 +197,10 @@ module _ (g : GraphValue) (first second : List PathItem) (p : Paths) (a : ArePat
     is_caller = calls_reached p firsts g.code.funcs q;
     tells = λ n. (
       (λ h.
-          let both = and_parts (is_reached p (Item Funcs n)) (calls_at firsts g.code.funcs q n) h in
-          (reached_to g first second p a (Item Funcs n) both.0, calls_to g firsts f q ty is n both.1)),
+          let both = and_parts (is_reached p n) (calls_at firsts g.code.funcs q n) h in
+          ((a n).0 both.0, calls_to g firsts f q ty is n both.1)),
       (λ h.
-          and_from (is_reached p (Item Funcs n)) (calls_at firsts g.code.funcs q n) (reached_from g first second p a (Item Funcs n) h.0)
+          and_from (is_reached p n) (calls_at firsts g.code.funcs q n) ((a n).1 h.0)
           (calls_from g firsts f q ty is n h.1)),
     );
     are = lists q;
@@ -349,6 +268,40 @@ module _ (g : GraphValue) (first second : List PathItem) (p : Paths) (a : ArePat
   callers_between (Item space n) y = refl
   callers_between (Data n) y = refl
 
+-- where no element segment is active nothing is put in a table, so that nothing calls
+
+neither : (a b : Bool) → (a || b) ≡ false → (a ≡ false) × (b ≡ false)
+neither true b e = absurd (let bad : ⊥ = cc e in bad)
+neither false b e = (refl, e)
+
+no_table : (m : ModeValue) → is_active m ≡ false → table_of m ≡ None
+no_table passive h = refl
+no_table (active index offset) h = absurd (let bad : ⊥ = cc h in bad)
+no_table declarative h = refl
+
+none_filled : (es : List ElementSegment) (n : ℕ) → list_any (λ (e : ElementSegment). is_active (element_value e).mode) es ≡ false
+    → filled_table (map element_value es) n ≡ None
+none_filled [] n h = refl
+none_filled (e ∷ es) zero h = let off = neither (is_active (element_value e).mode) (list_any (λ (e : ElementSegment). is_active (element_value e).mode) es) h in no_table (element_value e).mode off.0
+none_filled (e ∷ es) (suc n) h =
+    none_filled es n (neither (is_active (element_value e).mode) (list_any (λ (e : ElementSegment). is_active (element_value e).mode) es) h).1
+
+pub callers_none : (g : GraphValue) (first second : List PathItem) (es : List ElementSegment) (c : Callers) → g.segments.elements ≡ map element_value es
+    → list_any (λ (e : ElementSegment). is_active (element_value e).mode) es ≡ false → c.tables.items ≡ [] → IsCalling g first second (calling_of c)
+callers_none g first second es c is none no_tables (Elements n) (Item Funcs m) =
+    subst (λ (p : Option (ℕ × FuncTypeValue)). MatchOption p (calling_of c (Elements n) (Item Funcs m) ≡ []) (λ p. AreCallers g first second p.0 p.1 (calling_of c (Elements n) (Item Funcs m))))
+    (sym (ap (option_and_then (λ table. option_map (λ ty. (table, ty)) (function_type g.code m))) (ap (λ (xs : List ElementValue). filled_table xs n) is ∙ none_filled es n none)))
+    (ap (λ (xs : List (Option ℕ)). option_map_or (listed c.lists.entries)
+    (option_and_then (λ table. option_map (λ ty. (table, ty)) (entry_by (slice_get c.types.items m))) (entry_by (slice_get xs n))) []) no_tables)
+callers_none g first second es c is none no_tables (Elements n) (Item Types m) = refl
+callers_none g first second es c is none no_tables (Elements n) (Item Tables m) = refl
+callers_none g first second es c is none no_tables (Elements n) (Item Memories m) = refl
+callers_none g first second es c is none no_tables (Elements n) (Item Globals m) = refl
+callers_none g first second es c is none no_tables (Elements n) (Elements m) = refl
+callers_none g first second es c is none no_tables (Elements n) (Data m) = refl
+callers_none g first second es c is none no_tables (Item space n) y = refl
+callers_none g first second es c is none no_tables (Data n) y = refl
+
 -- functions as they were read
 pub funcs_are : (fs : List (code_item ℕ (Bor (List ℕ)))) → map func_code fs ≡ map (item_seen body_in) (map func_value fs)
 funcs_are [] = refl
@@ -409,101 +362,17 @@ functions_more test n old new h put q =
 
 -- a function that is not reached, and one that is
 
-pub list_unreached : (p : Paths) (firsts : List ℕ) (funcs : List FuncCode) (n : ℕ) (lists : CallLists) → is_reached p (Item Funcs n) ≡ false
+pub list_unreached : (p : List Bool) (firsts : List ℕ) (funcs : List FuncCode) (n : ℕ) (lists : CallLists) → is_reached p n ≡ false
     → ListsUnder (λ q. calls_reached p firsts funcs q n) n lists lists
 list_unreached p firsts funcs n lists e q =
     ap (λ b. cond (b && calls_at firsts funcs q n) (with_last n (listed lists q)) (listed lists q)) (sym e)
 
-pub list_reached : (p : Paths) (firsts : List ℕ) (funcs : List FuncCode) (n : ℕ) (old new : CallLists) (f : FuncCode) → is_reached p (Item Funcs n) ≡ true
+pub list_reached : (p : List Bool) (firsts : List ℕ) (funcs : List FuncCode) (n : ℕ) (old new : CallLists) (f : FuncCode) → is_reached p n ≡ true
     → slice_get funcs n ≡ Some f → ListsUnder (λ q. def_calls firsts q f.def) n old new → ListsUnder (λ q. calls_reached p firsts funcs q n) n old new
 list_reached p firsts funcs n old new f e at h q =
     h q
     ∙ (ap (λ (o : Option FuncCode). cond (option_map_or (λ (z : FuncCode). def_calls firsts q z.def) o false) (with_last n (listed old q)) (listed old q)) (sym at)
     ∙ ap (λ b. cond (b && calls_at firsts funcs q n) (with_last n (listed old q)) (listed old q)) (sym e))
-
--- numbers that are appended
-
-pub puts_one : (number : ℕ) (old new : List ℕ) → new ≡ old ++ number ∷ [] → PutsIndices (number ∷ []) old new
-puts_one number old new is n lt = ap (list_any (nat_eq n)) is ∙ list_any-append (nat_eq n) old (number ∷ [])
-
-pub puts_none : (number : ℕ) (old : List ℕ) → 2 ^ 32 ≤ number → PutsIndices (number ∷ []) old old
-puts_none number old past n lt = sym (by (nat_eq n number) refl (list_any (nat_eq n) old)) where
-  by : (b : Bool) → nat_eq n number ≡ b → (a : Bool) → (a || (b || false)) ≡ a
-  by true e a = absurd (let same = eqb-true n number e in omega (arith, same, lt, past))
-  by false e true = refl
-  by false e false = refl
-
-pub puts_start : (old : List ℕ) → PutsIndices [] old old
-puts_start old n lt = by (list_any (nat_eq n) old) where
-  by : (a : Bool) → a ≡ (a || false)
-  by true = refl
-  by false = refl
-
-puts_join : (a b first now new : List ℕ) → PutsIndices a first now → PutsIndices b now new → PutsIndices (a ++ b) first new
-puts_join a b first now new h k n lt =
-    k n lt ∙ (ap (λ z. z || list_any (nat_eq n) b) (h n lt)
-    ∙ (by (list_any (nat_eq n) first) (list_any (nat_eq n) a) (list_any (nat_eq n) b) ∙ ap (λ z. list_any (nat_eq n) first || z) (sym (list_any-append (nat_eq n) a b))))
-  where
-    by : (x y z : Bool) → ((x || y) || z) ≡ (x || (y || z))
-    by true y z = refl
-    by false y z = refl
-
-pub puts_more : (xs : List ℕ) (i d : ℕ) (first now new : List ℕ) → i < length xs → PutsIndices (take i xs) first now → PutsIndices (get_or xs i d ∷ []) now new
-    → PutsIndices (take (i + 1) xs) first new
-puts_more xs i d first now new lt h k =
-    subst (λ ys. PutsIndices ys first new) (sym (take_more xs i d lt)) (puts_join (take i xs) (get_or xs i d ∷ []) first now new h k)
-
--- lists one after another
-abbrev pub all_listed : CallLists → List ℕ
-all_listed es = flat_map (λ (e : CallKey × Vec ℕ Global). e.1.items) es
-
-pub lists_next : (es : CallLists) (i : ℕ) (now new : List ℕ) → i < length es → PutsIndices (all_listed (take i es)) [] now → PutsIndices (list_at es i) now new
-    → PutsIndices (all_listed (take (i + 1) es)) [] new
-lists_next es i now new lt h k =
-    elim (slice_get_cases es i).1 [
-      | inl there ↦ at there.0 there.2 there.3
-      | inr past ↦ absurd (let le = past.0 in omega (arith, lt, le))
-    ]
-  where
-    at : (e : CallKey × Vec ℕ Global) → slice_get es i ≡ Some e → get_or es i e ≡ e → PutsIndices (all_listed (take (i + 1) es)) [] new
-    at e is got =
-        subst (λ ys. PutsIndices ys [] new)
-        (sym (ap all_listed (take_more es i e lt ∙ ap (λ z. take i es ++ z ∷ []) got) ∙ (flat_map-append (λ (z : CallKey × Vec ℕ Global). z.1.items) (take i es) (e ∷ [])
-        ∙ ap (λ z. all_listed (take i es) ++ z) (append-nil e.1.items))))
-        (puts_join (all_listed (take i es)) e.1.items [] now new h
-        (subst (λ ys. PutsIndices ys now new) (ap (λ (o : Option (CallKey × Vec ℕ Global)). option_map_or (λ (z : CallKey × Vec ℕ Global). z.1.items) o []) is) k))
-
-or_true : (a : Bool) → (a || true) ≡ true
-or_true true = refl
-or_true false = refl
-
-looked_any : (test : CallKey → Bool) (n : ℕ) (es : CallLists) (v : Vec ℕ Global) → lookup test es ≡ Some v → list_any (nat_eq n) v.items ≡ true
-    → list_any (nat_eq n) (all_listed es) ≡ true
-looked_any test n [] v e h = absurd (let bad : ⊥ = cc e in bad)
-looked_any test n (x ∷ es) v e h =
-    list_any-append (nat_eq n) x.1.items (all_listed es) ∙ by (test x.0) e (looked_any test n es v) where
-      by : (b : Bool) → cond b (Some x.1) (lookup test es) ≡ Some v
-          → (lookup test es ≡ Some v → list_any (nat_eq n) v.items ≡ true → list_any (nat_eq n) (all_listed es) ≡ true)
-          → (list_any (nat_eq n) x.1.items || list_any (nat_eq n) (all_listed es)) ≡ true
-      by true is next =
-          ap (λ z. z || list_any (nat_eq n) (all_listed es)) (ap (λ (w : Vec ℕ Global). list_any (nat_eq n) w.items) (same_Some x.1 v is) ∙ h)
-      by false rest next = ap (λ z. list_any (nat_eq n) x.1.items || z) (next rest h) ∙ or_true (list_any (nat_eq n) x.1.items)
-
-pub lists_all : (es : CallLists) (i : ℕ) (functions : List ℕ) → length es ≤ i → PutsIndices (all_listed (take i es)) [] functions → HasListed es functions
-lists_all es i functions all h q n lt c =
-    subst (λ ys. PutsIndices (all_listed ys) [] functions) (take_all i es all) h n lt ∙ by (lookup (is_call_key q) es) refl c where
-      by : (o : Option (Vec ℕ Global)) → lookup (is_call_key q) es ≡ o → Contains (option_map_or (λ (v : Vec ℕ Global). v.items) o []) n
-          → list_any (nat_eq n) (all_listed es) ≡ true
-      by None e (k, less, is) = absurd (omega (arith, less))
-      by (Some v) e (k, less, is) =
-          looked_any (is_call_key q) n es v e (list_any_at (nat_eq n) v.items k n less (ap (nat_eq n) is ∙ nat_eq_same n))
-
-pub between_listed : (c : Callers) (functions : List ℕ) → HasListed c.lists.entries functions → (x y : PathItem) (n : ℕ) → n < 2 ^ 32
-    → Contains (calling_of c x y) n → list_any (nat_eq n) functions ≡ true
-between_listed c functions h x y n lt there = by (key_between c x y) there where
-  by : (o : Option CallKey) → Contains (option_map_or (listed c.lists.entries) o []) n → list_any (nat_eq n) functions ≡ true
-  by None (k, less, is) = absurd (omega (arith, less))
-  by (Some q) w = h q n lt w
 
 -- what was made of a module that was read
 
@@ -517,7 +386,7 @@ pub types_are : (firsts : List ℕ) (fs : List (code_item ℕ (Bor (List ℕ))))
 types_are firsts [] = refl
 types_are firsts (f ∷ fs) = ap (λ z. slice_get firsts (func_code f).ty ∷ z) (types_are firsts fs)
 
-pub lists_are : (p : Paths) (xs ys : List ℕ) (fs gs : List (code_item ℕ (Bor (List ℕ)))) (es : CallLists) → xs ≡ ys → fs ≡ gs
+pub lists_are : (p : List Bool) (xs ys : List ℕ) (fs gs : List (code_item ℕ (Bor (List ℕ)))) (es : CallLists) → xs ≡ ys → fs ≡ gs
     → ((q : CallKey) → listed es q ≡ filter (calls_reached p xs (map func_code fs) q) (range_with_len 0 (length fs)))
     → (q : CallKey) → listed es q ≡ filter (calls_reached p ys (map (item_seen body_in) (map func_value gs)) q)
     (range_with_len 0 (length (map (item_seen body_in) (map func_value gs))))

@@ -1,11 +1,10 @@
 -- Lists that are appended part by part.
-use Rattle.std.proofs.Common.{◌≡◌, Some, ℕ, ◌+◌, ◌<◌, List, [], ◌∷◌, ◌++◌, length, map, take, get_or, sym, ◌∙◌, ap, append_assoc, append-nil}
+use Rattle.std.proofs.Common.{◌≡◌, ℕ, ◌+◌, ◌<◌, List, [], ◌∷◌, ◌++◌, length, map, take, get_or, sym, ◌∙◌, ap, append_assoc, append-nil}
 use Rattle.std.specs.List.{flat_map}
 use Rattle.std.proofs.lemmas.List.{map-append, take_more}
 use Rattle.std.proofs.lemmas.List.Elements.{filter_map-append}
 use Rattle.std.proofs.lemmas.Grind.{flat_map-append}
-use Rattle.wc_read.specs.Bodies.{BodyValue, local_types}
-use Rattle.wc_read.specs.BodyOperators.{body_in}
+use Rattle.wc_read.specs.Bodies.{local_types}
 use Rattle.wc_read.specs.Operators.{InstrValue, instr_value, instr_values}
 use Rattle.wc_read.specs.Types.{type_index, type_indices}
 use Rattle.wc_read.specs.declared.bodies.Locals.{Locals}
@@ -14,7 +13,7 @@ use Rattle.wc_read.specs.declared.types.ValType.{ValType}
 use Rattle.wc_read.specs.Entries.{type_items, val_type_refs}
 use Rattle.wc_read.specs.declared.operators.Space.TheVariants.{Types}
 use Rattle.wc_segments.specs.declared.elements.Expression.{Expression}
-use Rattle.wc_paths.specs.Items.{body_items, code_items, init_items, operator_items, space_item, space_items}
+use Rattle.wc_paths.specs.Items.{code_items, init_items, operator_items, space_item, space_items}
 use Rattle.wc_paths.specs.declared.items.PathItem.{PathItem}
 
 module _ {A B : Type 0} (parts : List A → List B) (join : (xs ys : List A) → parts (xs ++ ys) ≡ parts xs ++ parts ys) where
@@ -61,10 +60,3 @@ expressions_more view es i d old now new lt e f =
     appended (λ xs. flat_map init_items (map view xs))
     (λ xs ys. ap (flat_map init_items) (map-append view xs ys) ∙ flat_map-append init_items (map view xs) (map view ys)) es i d old now new
     (init_items (view (get_or es i d))) lt e f (sym (append-nil (init_items (view (get_or es i d)))))
-
--- what a body names: the types of its locals, and then its operators
-pub body_named : (bytes : List ℕ) (b : BodyValue) → body_in bytes ≡ Some b → (old mid new : List PathItem) → mid ≡ old ++ types_parts (local_types b.locals)
-    → new ≡ mid ++ code_items b.operators → new ≡ old ++ body_items (body_in bytes)
-body_named bytes b is old mid new e f =
-    f ∙ (ap (λ z. z ++ code_items b.operators) e ∙ (append_assoc old (types_parts (local_types b.locals)) (code_items b.operators)
-    ∙ ap (λ z. old ++ body_items z) (sym is)))

@@ -2,28 +2,25 @@
 use Rattle.std.proofs.Common.{◌≡◌, ℕ, ◌+◌, ◌<◌, List, [], ◌∷◌, ◌++◌, length, map, take, get_or, refl, sym, ◌∙◌, ap, subst, Bool, true, false, ◌&&◌, inl, inr, arith}
 use Rattle.std.specs.Prelude.{All, Contains, filter}
 use Rattle.std.specs.List.{list_all}
-use Rattle.std.proofs.lemmas.Bool.{both_ways}
 use Rattle.std.proofs.lemmas.List.{get_or-map, length-map, map-append, take_more}
 use Rattle.std.proofs.lemmas.List.Elements.{All-contains, filter-append, filter_passes}
 use Rattle.std.proofs.lemmas.List.Folds.{list_all-append}
-use Rattle.wc_read.specs.declared.operators.Space.TheVariants.{Types, Funcs, Tables, Memories, Globals}
+use Rattle.wc_read.specs.declared.operators.Space.TheVariants.{Types, Funcs}
 use Rattle.wc_read.specs.Modules.{module_value}
 use Rattle.wc_read.specs.declared.core_module.Module.{Module}
 use Rattle.wc_segments.specs.Segments.{segments_value}
 use Rattle.wc_segments.specs.declared.segments.Segments.{Segments}
 use Rattle.wc_read.specs.Decoded.{decoded_module}
-use Rattle.wc_graph.specs.ShortestChains.{IsShortestChain}
 use Rattle.wc_graph.specs.Reached.{IsPath, IsReachedFrom}
 use Rattle.wc_paths.specs.Items.{CountsValue, GraphValue, counts_of, graph_of, has_item, is_closed, is_closed_item, is_item_code, items_of, names_in}
 use Rattle.wc_paths.specs.Numbers.{item_at, item_count, number_of, numbers_in, numbers_of, present}
-use Rattle.wc_paths.specs.Paths.{IsFaultFrom, IsReachedIn, IsReachedInAny, IsShortestIn}
+use Rattle.wc_paths.specs.Paths.{IsFaultFrom, IsReachedIn, IsReachedInAny}
 use Rattle.wc_paths.specs.declared.paths.PathFault.{PathFault}
 use Rattle.wc_paths.specs.declared.paths.PathFault.TheVariants.{LiveBody, Memory}
-use Rattle.wc_paths.specs.Private.Paths.{IsFunction}
 use Rattle.wc_paths.specs.declared.items.PathItem.{PathItem}
-use Rattle.wc_paths.specs.declared.items.PathItem.TheVariants.{Item, Elements, Data}
+use Rattle.wc_paths.specs.declared.items.PathItem.TheVariants.{Item}
 use Rattle.wc_paths.proofs.NamesLemmas.{appended}
-use Rattle.wc_graph.proofs.NumberingLemmas.{chain_numbers, chain_things, reached_number, reached_thing}
+use Rattle.wc_graph.proofs.NumberingLemmas.{reached_number, reached_thing}
 use Rattle.wc_paths.proofs.NumbersLemmas.{item_back, number_below}
 
 -- numbers of the items that are there
@@ -76,16 +73,6 @@ graph_closed g c e n x is named are code there closed h k r =
     r ∙ (ap (λ b. is_closed_item x b there) h ∙ (ap (is_closed_item x (is_item_code g.code x)) (k ∙ (ap (list_all (has_item c)) are
     ∙ ap (λ (z : CountsValue). list_all (has_item z) (items_of g x)) e)) ∙ ap (is_closed g) (is ∙ ap (λ (z : CountsValue). item_at z n) e)))
 
--- only a function is not closed
-pub not_closed : (g : GraphValue) (x : PathItem) → is_closed g x ≡ false → IsFunction x
-not_closed g (Item Funcs n) e = tt
-not_closed g (Item Types n) e = both_ways true e refl
-not_closed g (Item Tables n) e = both_ways true e refl
-not_closed g (Item Memories n) e = both_ways true e refl
-not_closed g (Item Globals n) e = both_ways true e refl
-not_closed g (Elements n) e = both_ways true e refl
-not_closed g (Data n) e = both_ways true e refl
-
 -- what is reached is there
 
 abbrev pub IsThere : GraphValue → PathItem → Type 0
@@ -105,37 +92,10 @@ pub reached_there : (g : GraphValue) (roots : List PathItem) (x : PathItem) → 
 reached_there g roots x (r, h, path, w) =
     path_there g r path x (All-contains (λ z. has_item (counts_of g) z ≡ true) (present g roots) r (roots_there g roots) h) w
 
-pub missing_unreached : (g : GraphValue) (c : CountsValue) → c ≡ counts_of g → (roots : List PathItem) (x : PathItem) → has_item c x ≡ false → ¬ (IsReachedIn g roots x)
-missing_unreached g c e roots x out r = both_ways (has_item c x) out (ap (λ (z : CountsValue). has_item z x) e ∙ reached_there g roots x r)
-
--- chains of numbers
-
-pub path_shown : (g : GraphValue) (c : CountsValue) → c ≡ counts_of g → (roots : List PathItem) (x : PathItem) → has_item c x ≡ true → (n : ℕ) → n ≡ number_of c x
-    → (chain : List ℕ) → IsShortestChain (numbers_in g) (numbers_of g roots) n chain → (items : List PathItem) → items ≡ map (item_at c) chain
-    → IsShortestIn g roots x items
-path_shown g c e roots x there n is chain w items are =
-    let here : IsThere g x = sym (ap (λ (z : CountsValue). has_item z x) e) ∙ there in
-    subst (IsShortestIn g roots x) (sym (are ∙ ap (λ (z : CountsValue). map (item_at z) chain) e))
-    (chain_things (number_of (counts_of g)) (item_at (counts_of g)) (IsThere g) (item_back (counts_of g)) (names_in g) (named_there g) (present g roots) (roots_there g roots)
-    x chain here (subst (λ k. IsShortestChain (numbers_in g) (numbers_of g roots) k chain) (is ∙ ap (λ (z : CountsValue). number_of z x) e) w))
-
--- its numbers are those of items that are there
-pub chain_there : (g : GraphValue) (roots : List PathItem) (x : PathItem) → IsThere g x → (chain : List ℕ)
-    → IsShortestChain (numbers_in g) (numbers_of g roots) (number_of (counts_of g) x) chain
-    → (chain ≡ map (number_of (counts_of g)) (map (item_at (counts_of g)) chain)) × All (IsThere g) (map (item_at (counts_of g)) chain)
-chain_there g roots x here chain w =
-    chain_numbers (number_of (counts_of g)) (item_at (counts_of g)) (IsThere g) (item_back (counts_of g)) (names_in g) (named_there g) (present g roots) (roots_there g roots)
-    x chain here w
-
 pub number_reached : (g : GraphValue) (roots : List PathItem) (x : PathItem) → IsReachedIn g roots x
     → IsReachedFrom (numbers_in g) (numbers_of g roots) (number_of (counts_of g) x)
 number_reached g roots x r =
     reached_number (number_of (counts_of g)) (item_at (counts_of g)) (IsThere g) (item_back (counts_of g)) (names_in g) (named_there g) (present g roots) (roots_there g roots) x r
-
-pub number_unreached : (g : GraphValue) (c : CountsValue) → c ≡ counts_of g → (roots : List PathItem) (x : PathItem) (n : ℕ) → n ≡ number_of c x
-    → ¬ (IsReachedFrom (numbers_in g) (numbers_of g roots) n) → ¬ (IsReachedIn g roots x)
-number_unreached g c e roots x n is out r =
-    out (subst (IsReachedFrom (numbers_in g) (numbers_of g roots)) (sym (is ∙ ap (λ (z : CountsValue). number_of z x) e)) (number_reached g roots x r))
 
 -- a number that is reached is that of an item which is
 pub item_reached : (g : GraphValue) (roots : List PathItem) (n : ℕ) → IsReachedFrom (numbers_in g) (numbers_of g roots) n

@@ -1,5 +1,5 @@
 -- Functions that may call what an element segment puts in a table.
-use Rattle.std.specs.Prelude.{◌≡◌, ◌↔◌, ℕ, List, [], length, filter, Bool, true, Contains, MatchOption, Option, Some, None}
+use Rattle.std.specs.Prelude.{◌≡◌, ◌↔◌, ℕ, List, [], length, filter, Bool, true, false, Contains, MatchOption, Option, Some, None}
 use Rattle.std.specs.List.{range_with_len, slice_get}
 use Rattle.std.specs.Option.{option_and_then, option_map, option_map_or}
 use Rattle.wc_read.specs.Bodies.{BodyValue}
@@ -13,11 +13,10 @@ use Rattle.wc_segments.specs.Elements.{ElementValue}
 use Rattle.wc_segments.specs.Modes.{ModeValue, passive, active, declarative}
 use Rattle.wc_paths.specs.CallLists.{CallKey, listed}
 use Rattle.wc_paths.specs.Items.{GraphValue}
-use Rattle.wc_paths.specs.Paths.{ArePaths, IsReachedInAny}
+use Rattle.wc_paths.specs.Paths.{IsReachedInAny}
 use Rattle.wc_paths.specs.declared.callers.Callers.{Callers}
 use Rattle.wc_paths.specs.declared.items.PathItem.{PathItem}
 use Rattle.wc_paths.specs.declared.items.PathItem.TheVariants.{Item, Elements}
-use Rattle.wc_paths.specs.declared.paths.Paths.{Paths}
 use Rattle.wc_graph.specs.Private.Places.{entry_by}
 
 -- an operator calls with a type through a table: it names a type that is equal, and then the table. Of all operators
@@ -88,6 +87,14 @@ call_key c x y = None
 abbrev pub calling_of : Callers → Calling
 calling_of c x y = option_map_or (listed c.lists.entries) (call_key c x y) []
 
--- in whatever graph, and from whatever roots, these are the paths, they are those that may call
-abbrev pub AreCallersIn : GraphValue → Paths → Callers → Type 0
-AreCallersIn g p c = (first second : List PathItem) → ArePaths g first second p → IsCalling g first second (calling_of c)
+-- for each function whether a root of either list leads there
+
+abbrev pub is_reached : List Bool → ℕ → Bool
+is_reached reached n = option_map_or (λ (b : Bool). b) (slice_get reached n) false
+
+abbrev pub AreReached : GraphValue → List PathItem → List PathItem → List Bool → Type 0
+AreReached g first second reached = (n : ℕ) → (is_reached reached n ≡ true) ↔ IsReachedInAny g first second (Item Funcs n)
+
+-- in whatever graph, and from whatever roots, these are reached, they are those that may call
+abbrev pub AreCallersIn : GraphValue → List Bool → Callers → Type 0
+AreCallersIn g reached c = (first second : List PathItem) → AreReached g first second reached → IsCalling g first second (calling_of c)

@@ -7,10 +7,4 @@ pub mod PathRoots
 pub mod Paths
 pub mod CallLists
 pub mod Callers
-pub mod OnPaths
-pub mod Dominators
 pub mod Private
-pub mod PathTree
-pub mod Lists
-pub mod Parts
-pub mod Marks

@@ -1,13 +1,11 @@
 -- Where a path begins: at an export, at the start function, or at an active segment.
-use Rattle.std.specs.Prelude.{◌≡◌, ◌≢◌, ◌<◌, ℕ, List, [], ◌∷◌, Bool, true, false, All, Some}
+use Rattle.std.specs.Prelude.{ℕ, List}
 use Rattle.std.specs.List.{slice_get}
 use Rattle.std.specs.Option.{option_map_or}
-use Rattle.wc_read.specs.Exports.{ExportValue}
 use Rattle.wc_segments.specs.Data.{DataValue}
 use Rattle.wc_segments.specs.Elements.{ElementValue}
 use Rattle.wc_segments.specs.Modes.{ModeValue, passive, active, declarative}
 use Rattle.wc_segments.specs.Segments.{SegmentsValue}
-use Rattle.wc_paths.specs.Roots.{export_item}
 use Rattle.wc_paths.specs.declared.items.PathItem.{PathItem}
 use Rattle.wc_paths.specs.declared.items.PathItem.TheVariants.{Item, Elements, Data}
 use Rattle.wc_paths.specs.declared.path_roots.PathRoot.{PathRoot}
@@ -26,23 +24,7 @@ root_view Start = by_start
 root_view (FillsTable index) = by_table index
 root_view (FillsMemory index) = by_memory index
 
--- the name of the first of these exports that has an item
-pub record IsFirstExport (exports : List ExportValue) (x : PathItem) (name : List ℕ) : Type 0 where
-  pub index : ℕ
-  pub export : ExportValue
-  pub is : slice_get exports index ≡ Some export
-  pub has : export_item export ≡ x
-  pub named : export.name ≡ name
-  pub first : (j : ℕ) (other : ExportValue) → j < index → slice_get exports j ≡ Some other → export_item other ≢ x
-
--- of the first list of roots: the first export that has the item; or the start function, where none has
-abbrev pub IsRootOf : List ExportValue → PathItem → RootView → Type 0
-IsRootOf exports x (by_export name) = IsFirstExport exports x name
-IsRootOf exports x by_start = All (λ e. export_item e ≢ x) exports
-IsRootOf exports x (by_table index) = ⊥
-IsRootOf exports x (by_memory index) = ⊥
-
--- of the second list: what an active segment fills
+-- what an active segment fills
 abbrev pub filled_table : ModeValue → RootView
 filled_table passive = by_start
 filled_table (active index offset) = by_table index
@@ -57,12 +39,3 @@ abbrev pub filled_by : SegmentsValue → PathItem → RootView
 filled_by s (Item space n) = by_start
 filled_by s (Elements n) = option_map_or (λ (e : ElementValue). filled_table e.mode) (slice_get s.elements n) by_start
 filled_by s (Data n) = option_map_or (λ (d : DataValue). filled_memory d.mode) (slice_get s.data_segments n) by_start
-
--- where a path begins, of the first list of roots or of the second
-abbrev pub IsRootFrom : List ExportValue → SegmentsValue → Bool → PathItem → RootView → Type 0
-IsRootFrom exports s false x root = IsRootOf exports x root
-IsRootFrom exports s true x root = root ≡ filled_by s x
-
-abbrev pub IsPathRoot : List ExportValue → SegmentsValue → Bool → List PathItem → RootView → Type 0
-IsPathRoot exports s is_second [] root = root ≡ by_start
-IsPathRoot exports s is_second (x ∷ path) root = IsRootFrom exports s is_second x root

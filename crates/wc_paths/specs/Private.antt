@@ -1,12 +1,5 @@
-pub mod Dominators
 pub mod Roots
-pub mod Paths
-pub mod PathRoots
-pub mod OnPaths
 pub mod CallLists
 pub mod EqualTypes
 pub mod Callers
-pub mod PathTree
-pub mod Joined
-pub mod Links
-pub mod ComponentGraph
+pub mod BodyNames

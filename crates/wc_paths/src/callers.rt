@@ -1,19 +1,20 @@
 //! The functions that may call what an element segment puts in a table.
 
-ghost use Rattle.std.specs.Prelude.{◌≡◌, ◌<◌, ◌^◌, ℕ, ◌∷◌, [], Contains, IfOk, OnOk, length, map, nat_eq, true};
+ghost use Rattle.std.specs.Prelude.{◌≡◌, ◌<◌, [], IfOk, OnOk, length, map};
 ghost use Rattle.std.specs.List.{list_any, slice_get};
 ghost use Rattle.wc_read.specs.Decoded.{func_code};
 ghost use Rattle.wc_segments.specs.Elements.{element_value};
 ghost use Rattle.wc_segments.specs.Modes.{mode_value};
 ghost use Rattle.wc_graph.specs.Private.Places.{entry_by};
-ghost use Rattle.wc_paths.specs.Callers.{table_of};
+ghost use Rattle.wc_paths.specs.Callers.{is_reached, table_of};
+ghost use Rattle.wc_paths.specs.Roots.{is_active};
 ghost use Rattle.wc_paths.specs.Private.CallLists.{ListsUnder};
-ghost use Rattle.wc_paths.specs.Private.Callers.{AreListed, HasListed, PutsIndices, def_calls, is_calling, list_at};
+ghost use Rattle.wc_paths.specs.Private.Callers.{AreListed, def_calls, is_calling};
 
 use crate::call_lists::{CallKey, CallLists, list_body};
 use crate::equal_types::first_equal;
 use crate::items::PathItem;
-use crate::paths::Paths;
+use crate::roots::is_active;
 use std::alloc::{AllocError, Global};
 use wc_maps::{Map, Seed};
 use wc_read::{Def, Func, Module, Space};
@@ -37,8 +38,8 @@ impl Callers {
     ghost use Rattle.wc_paths.specs.CallLists.{listed};
     ghost use Rattle.wc_paths.specs.Paths.{graph_in};
 
-    /// Finds the functions that call through tables. `paths`: the paths in this module, with these segments; `seed`:
-    /// the seed of maps. It takes time and memory linear in the module: each reachable body is read once.
+    /// Finds the functions that call through tables. `reached`: for each function of this module, by its index, whether roots lead
+    /// there; `seed`: the seed of maps. It takes time and memory linear in the module: each body that is reached is read once.
     ///
     /// # Errors
     ///
@@ -48,17 +49,27 @@ impl Callers {
         seed: Seed,
         module: &Module<'_>,
         segments: &Segments<'_>,
-        paths: &Paths,
+        reached: &[bool],
     ) -> Result<Callers, AllocError>
-        ensures { IfOk result (AreCallersIn (graph_in «module».now segments.now) paths.now) }
+        ensures { IfOk result (AreCallersIn (graph_in «module».now segments.now) reached.now) }
     {
+        if !has_active(&segments.elements) {
+            let tables = Vec::new(alloc);
+            let types = Vec::new(alloc);
+            let lists = Map::with_hasher(alloc, seed);
+            return Ok(Callers {
+                tables,
+                types,
+                lists,
+            });
+        }
         let firsts = first_equal(alloc, seed, &module.types)?;
         let tables = filled_tables(alloc, &segments.elements)?;
         let types = types_of(alloc, &firsts, &module.funcs)?;
         let functions = Functions {
             funcs: &module.funcs,
             firsts: &firsts,
-            paths,
+            reached,
         };
         let lists = lists_of(alloc, seed, functions)?;
         Ok(Callers {
@@ -103,18 +114,6 @@ impl Callers {
             None => &[],
         }
     }
-
-    /// The functions that may call some item, by their indices below 2^32, in any order, repeated or not.
-    ///
-    /// # Errors
-    ///
-    /// `AllocError`: an allocation failed.
-    pub fn functions(&self, alloc: Global) -> Result<Vec<u32>, AllocError>
-        ensures { IfOk result (λ v. (x y : PathItem) (n : ℕ) → n < 2 ^ 32
-            → Contains (calling_of self.now x y) n → list_any (nat_eq n) v.items ≡ true) }
-    {
-        listed_functions(alloc, &self.lists)
-    }
 }
 
 /// An entry; `None` past the last one.
@@ -127,49 +126,11 @@ fn entry_at(entries: &[Option<usize>], index: usize) -> Option<usize>
     }
 }
 
-/// The functions that are listed, with an index below 2^32.
-fn listed_functions(alloc: Global, lists: &CallLists) -> Result<Vec<u32>, AllocError>
-    ensures { IfOk result (λ v. HasListed lists.now.entries v.items) }
+/// Whether an element segment is active.
+fn has_active(elements: &[ElementSegment<'_>]) -> bool
+    ensures { result ≡ list_any (λ e. is_active (element_value e).mode) elements.now }
 {
-    let mut functions = Vec::new(alloc);
-    for position in 0..lists.len() {
-        put_list(lists, position, &mut functions)?;
-    }
-    Ok(functions)
-}
-
-/// Appends those of the list at a position that are below 2^32.
-fn put_list(lists: &CallLists, position: usize, out: &mut Vec<u32>) -> Result<(), AllocError>
-    ensures { OnOk result (PutsIndices (list_at lists.now.entries position) out.old.items
-        out.new.items) }
-{
-    match lists.get_index(position) {
-        Some((_, list)) => put_indices(list, out),
-        None => Ok(()),
-    }
-}
-
-/// Appends those of some numbers that are below 2^32.
-fn put_indices(numbers: &[usize], out: &mut Vec<u32>) -> Result<(), AllocError>
-    ensures { OnOk result (PutsIndices numbers.now out.old.items out.new.items) }
-{
-    for number in numbers {
-        put_index(*number, out)?;
-    }
-    Ok(())
-}
-
-/// Appends a number, if it is below 2^32.
-fn put_index(number: usize, out: &mut Vec<u32>) -> Result<(), AllocError>
-    ensures { OnOk result (PutsIndices (number ∷ []) out.old.items out.new.items) }
-{
-    match u32::try_from(number) {
-        Ok(index) => {
-            out.push(index)?;
-            Ok(())
-        }
-        Err(_) => Ok(()),
-    }
+    elements.iter().any(|element| is_active(&element.mode))
 }
 
 /// For each element segment the table that it fills, if it is active.
@@ -224,8 +185,8 @@ struct Functions<'a, 'm> {
     funcs: &'a [Func<'m>],
     /// For each type the index of the first that is equal to it.
     firsts: &'a [usize],
-    /// The paths in the module.
-    paths: &'a Paths,
+    /// For each function whether roots lead there.
+    reached: &'a [bool],
 }
 
 /// The functions that are reached, listed under what they call. `seed`: that of a map.
@@ -255,15 +216,22 @@ fn list_function(
     ensures { OnOk result (ListsUnder (λ q. is_calling functions.entry q index) index
         lists.old.entries lists.new.entries) }
 {
-    if !functions
-        .paths
-        .is_reached(PathItem::Item(Space::Funcs, index))
-    {
+    if !is_reached(functions.reached, index) {
         return Ok(());
     }
     let func = functions.funcs[index];
     list_def(alloc, functions.firsts, func, index, lists)?;
     Ok(())
+}
+
+/// Whether roots lead to the function of an index.
+fn is_reached(reached: &[bool], index: usize) -> bool
+    ensures { result ≡ is_reached reached.now index }
+{
+    match reached.get(index) {
+        Some(reached) => *reached,
+        None => false,
+    }
 }
 
 /// Lists a function, of an index, under what it calls.

@@ -1,23 +1,21 @@
 //! The items that each item of a module names.
 
-ghost use Rattle.std.specs.Prelude.{◌≡◌, ◌++◌, is_some, map, IfOk, OnOk};
+ghost use Rattle.std.specs.Prelude.{◌≡◌, ◌++◌, map, IfOk, OnOk};
 ghost use Rattle.std.specs.List.{flat_map};
 ghost use Rattle.wc_read.specs.Types.{func_type_value};
-ghost use Rattle.wc_read.specs.BodyOperators.{body_in};
 ghost use Rattle.wc_read.specs.declared.operators.Space.TheVariants.{Funcs};
 ghost use Rattle.wc_read.specs.Decoded.{func_code, global_code, is_code};
 ghost use Rattle.wc_read.specs.Entries.{func_type_refs};
 ghost use Rattle.wc_segments.specs.Data.{data_value};
 ghost use Rattle.wc_segments.specs.Elements.{element_value, elements_value};
 ghost use Rattle.wc_segments.specs.Modes.{mode_value};
-ghost use Rattle.wc_paths.specs.Items.{body_items, data_items, element_items, elements_items, func_items, global_items, init_items, mode_items, space_items};
+ghost use Rattle.wc_paths.specs.Items.{data_items, element_items, elements_items, func_items, global_items, init_items, mode_items, space_items};
 ghost use Rattle.wc_paths.specs.declared.items.PathItem.TheVariants.{Item};
 
-use crate::items::{PathItem, put_code, put_locals, put_type, put_types};
+use crate::body_names::put_body;
+use crate::items::{PathItem, put_code, put_type, put_types};
 use std::alloc::{AllocError, Global};
-use wc_read::{
-    Def, Func, FuncType, Global as ModuleGlobal, ReadFault, Space, read_body, read_init,
-};
+use wc_read::{Def, Func, FuncType, Global as ModuleGlobal, ReadFault, Space, read_init};
 use wc_segments::{DataSegment, ElementSegment, Elements, Expression, SegmentMode};
 
 /// Appends the types that a function type names.
@@ -27,25 +25,6 @@ pub fn put_func_type(names: &mut Vec<PathItem>, ty: &FuncType) -> Result<(), All
 {
     put_types(names, ty.params())?;
     put_types(names, ty.results())
-}
-
-/// Appends the items that a body names, and answers whether it is code.
-fn put_body(names: &mut Vec<PathItem>, alloc: Global, bytes: &[u8]) -> Result<bool, AllocError>
-    ensures names { OnOk result (names.new.items
-        ≡ names.old.items ++ body_items (body_in bytes.now)) }
-    ensures code { IfOk result (λ code. code ≡ is_some (body_in bytes.now)) }
-{
-    match read_body(alloc, bytes) {
-        Ok(body) => {
-            put_locals(names, &body.locals)?;
-            put_code(names, &body.operators)?;
-            Ok(true)
-        }
-        Err(fault) => match fault {
-            ReadFault::Memory => Err(AllocError),
-            _ => Ok(false),
-        },
-    }
 }
 
 /// Appends the items that a function names, and answers whether its body is code.

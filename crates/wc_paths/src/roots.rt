@@ -146,7 +146,7 @@ fn is_active_data(data: &[DataSegment<'_>], index: usize) -> bool
     }
 }
 
-fn is_active(mode: &SegmentMode<'_>) -> bool
+pub(crate) fn is_active(mode: &SegmentMode<'_>) -> bool
     ensures { result ≡ is_active (mode_value mode.now) }
 {
     match mode {

@@ -1,7 +1,7 @@
 pub mod ListLemmas
 mod SummaryLemmas
 mod SummaryTextLemmas
-mod EntryLemmas
+pub mod EntryLemmas
 mod OrderLemmas
 pub mod TagLemmas
 mod NoSegmentLemmas

@@ -9,16 +9,16 @@ use Rattle.std.proofs.lemmas.Map.Made.{lookup-map_values}
 use Rattle.std.specs.List.{flat_map}
 use Rattle.std.proofs.lemmas.List.{map_more, map_push, map-id}
 use Rattle.std.proofs.lemmas.List.Concat.{flat_map-append}
-use Rattle.wc_read.specs.declared.operators.Space.TheVariants.{Funcs}
 use Rattle.json.specs.Json.{Json, string}
-use Rattle.json.specs.Token.{Token, begin_array, end_array, key}
+use Rattle.json.specs.Token.{Token, begin_array, end_array, key, string as token}
 use Rattle.json.specs.Tree.{json_tokens}
 use Rattle.json.specs.Written.{Written}
 use Rattle.wc_texts.specs.Shapes.{array_of}
-use Rattle.wc_why.specs.JsonPaths.{text_or_null}
-use Rattle.wc_why.specs.Paths.{name_in, text_of}
-use Rattle.wc_why.specs.Private.Tokens.{Puts}
-use Rattle.wc_why.proofs.TokenLemmas.{array_are, both}
+use Rattle.wc_why_text.specs.JsonParts.{text_or_null}
+use Rattle.wc_why.specs.Texts.{text_of}
+use Rattle.wc_summary.specs.Names.{function_name}
+use Rattle.wc_why_text.specs.Private.Tokens.{Puts}
+use Rattle.wc_why_text.proofs.TokenLemmas.{array_are, both}
 
 -- a text more, of what is next in a list
 pub pushed_mapped : {X V : Type 0} (view : X → V) (text : V → List ℕ) (xs : List X) (i : ℕ) (x : X) (start : List (List ℕ)) (old new : List (String Global)) (s : String Global)
@@ -35,10 +35,14 @@ pushed_mapped view text xs i x start old new s h at before pushed is =
 
 -- the name of a function
 pub name_found : (names : List (ℕ × Bor (List ℕ))) (index : ℕ) (r : Option (Bor (List ℕ))) → r ≡ lookup (nat_eq index) names
-    → option_map text_of r ≡ name_in (map (λ e. (e.0, e.1.now)) names) (Funcs, index)
+    → option_map text_of r ≡ function_name (map (λ e. (e.0, e.1.now)) names) index
 name_found names index r f = ap (option_map text_of) f ∙ sym (lookup-map_values (λ (b : Bor (List ℕ)). b.now) (nat_eq index) names)
 
 -- ---- JSON
+
+-- a member that is a text that is the same
+pub text_as : {a b : Written} (name x y : List ℕ) → x ≡ y → Puts a b (key name ∷ token x ∷ []) → Puts a b (key name ∷ token y ∷ [])
+text_as {a} {b} name x y e p = subst (λ z. Puts a b (key name ∷ token z ∷ [])) e p
 
 -- a member that is a text or null, where the text is the same
 pub name_as : {a b : Written} (x y : Option (List ℕ)) → x ≡ y → Puts a b (key (codes "name") ∷ json_tokens (text_or_null x))

@@ -1,3 +1,4 @@
+pub mod Names
 pub mod Leads
 pub mod Summary
 pub mod SummaryLines

@@ -3,14 +3,13 @@ use Rattle.std.specs.Prelude.{ℕ, nat_lt, List, [], ◌∷◌, ◌++◌, map, c
 use Rattle.json.specs.Json.{Json, string}
 use Rattle.wc_texts.specs.Shapes.{array_of, number_json, object_of}
 use Rattle.wc_read.specs.Names.{GlobalNameValue}
-use Rattle.wc_read.specs.declared.operators.Space.TheVariants.{Funcs}
-use Rattle.wc_why.specs.JsonPaths.{text_or_null}
-use Rattle.wc_why.specs.Paths.{name_in}
+use Rattle.wc_why_text.specs.JsonParts.{text_or_null}
+use Rattle.wc_summary.specs.Names.{function_name}
 use Rattle.wc_summary.specs.Summary.{AdapterPartView, EntryView, MainPartView, PartsView, kind_name, kind_of}
 
 -- a function: its index, and its name, if it has one
 abbrev pub function_json : List GlobalNameValue → ℕ → Json
-function_json names index = object_of ((codes "index", number_json index) ∷ (codes "name", text_or_null (name_in names (Funcs, index))) ∷ [])
+function_json names index = object_of ((codes "index", number_json index) ∷ (codes "name", text_or_null (function_name names index)) ∷ [])
 
 -- what the main module imports; it has no name
 abbrev pub main_json : List GlobalNameValue → MainPartView → Json

@@ -3,8 +3,10 @@ use Rattle.std.specs.Prelude.{ℕ, ◌-◌, ◌==◌, nat_lt, List, [], ◌∷�
 use Rattle.std.specs.List.{flat_map}
 use Rattle.wc_read.specs.Names.{GlobalNameValue}
 use Rattle.wc_read.specs.declared.operators.Space.TheVariants.{Funcs}
-use Rattle.wc_why.specs.Paths.{name_in}
-use Rattle.wc_why.specs.Texts.{word}
+use Rattle.wc_summary.specs.Names.{function_name}
+use Rattle.wc_why_text.specs.ItemTexts.{item_text}
+use Rattle.wc_why_text.specs.RustNames.{rust_name}
+use Rattle.wc_why_text.specs.Texts.{word}
 use Rattle.wc_summary.specs.Summary.{AdapterPartView, EntryView, MainPartView, PartsView}
 
 -- texts, each after a text: the first after one, the others after another
@@ -18,11 +20,11 @@ count_text n = cond (n == 1) (codes "1 import of ") (decimal n ++ codes " import
 
 -- a function, by its index and its name, if it has one
 abbrev pub named_function : ℕ → Option (List ℕ) → List ℕ
-named_function index None = codes "func " ++ decimal index
-named_function index (Some name) = codes "func " ++ (decimal index ++ (codes " " ++ word name))
+named_function index None = item_text Funcs index None
+named_function index (Some name) = item_text Funcs index (Some (rust_name name))
 
 abbrev pub function_text : List GlobalNameValue → ℕ → List ℕ
-function_text names index = named_function index (name_in names (Funcs, index))
+function_text names index = named_function index (function_name names index)
 
 -- the first three, and how many there are more
 abbrev pub more_text : ℕ → List ℕ
@@ -36,25 +38,25 @@ main_text names p =
 abbrev pub words_text : List (List ℕ) → List ℕ
 words_text names = flat_map (λ (name : List ℕ). codes " " ++ word name) names
 
--- how many bytes go
+-- how many bytes are needed for the exports that follow alone
 abbrev pub gone_text : ℕ → List ℕ
-gone_text bytes = codes ", " ++ (decimal bytes ++ codes " bytes with")
+gone_text bytes = codes ", " ++ (decimal bytes ++ codes " bytes, needed only for")
 
--- that it stays, and for which exports; or how many bytes go with which
+-- that it is always needed, and for which exports; or which exports need it, and how many bytes
 abbrev pub trimmed_text : ℕ → List (List ℕ) → List (List ℕ) → List ℕ
 trimmed_text bytes exports [] = gone_text bytes ++ words_text exports
-trimmed_text bytes exports (name ∷ names) = codes ", stays for" ++ words_text (name ∷ names)
+trimmed_text bytes exports (name ∷ names) = codes ", always needed for" ++ words_text (name ∷ names)
 
 abbrev pub effect_text : AdapterPartView → List ℕ
-effect_text p = cond p.is_library (codes ", stays") (trimmed_text p.bytes p.exports p.stays)
+effect_text p = cond p.is_library (codes ", always needed") (trimmed_text p.bytes p.exports p.stays)
 
 abbrev pub adapter_text : AdapterPartView → List ℕ
 adapter_text p = count_text p.imports ++ (codes "adapter " ++ (word p.adapter ++ effect_text p))
 
--- for its types, and who uses them
+-- only its types are used, and by whom
 abbrev pub types_text : Option (List ℕ) → List ℕ
 types_text None = codes "types"
-types_text (Some user) = codes "types of " ++ word user
+types_text (Some user) = codes "types, used by " ++ word user
 
 -- the parts of a line
 abbrev pub main_parts : List GlobalNameValue → MainPartView → List (List ℕ)

@@ -56,7 +56,7 @@ fn own(owners: &mut Vec<Option<usize>>, item: Option<usize>, place: Option<usize
 }
 
 /// The number of an item in a module's graph, if it is there.
-pub fn number_if(counts: &Counts, item: PathItem) -> Option<usize>
+fn number_if(counts: &Counts, item: PathItem) -> Option<usize>
     requires { item_count (counts_value counts.now) < 2 ^ 64 }
     ensures { result ≡ as_number (counts_value counts.now) item }
 {
@@ -73,7 +73,7 @@ pub fn number_if(counts: &Counts, item: PathItem) -> Option<usize>
 /// # Errors
 ///
 /// An allocation failed.
-pub fn sources_of(
+pub(crate) fn sources_of(
     alloc: Global,
     exports: &[Export<'_>],
     graph: &ModuleGraph<'_, '_>,

@@ -18,10 +18,9 @@ mod tags;
 mod uses;
 
 pub use entries::{place_of, set_types, sort_entries};
-pub use leads::{number_if, sources_of};
 pub use summary::{AdapterPart, Entries, Entry, MainPart};
 pub use summary_adapters::{AdapterImports, note_adapter_module, note_library};
 pub use summary_json::json_of;
 pub use summary_lines::lines_of;
-pub use summary_main::{note_main_module, reached_in};
+pub use summary_main::note_main_module;
 pub use uses::Required;

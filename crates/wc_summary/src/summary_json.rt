@@ -9,7 +9,7 @@ ghost use Rattle.json.specs.Token.{key};
 ghost use Rattle.json.specs.Tree.{json_tokens};
 ghost use Rattle.wc_texts.specs.Shapes.{array_of};
 ghost use Rattle.wc_read.specs.Names.{name_entries};
-ghost use Rattle.wc_why.specs.Private.Tokens.{Puts};
+ghost use Rattle.wc_why_text.specs.Private.Tokens.{Puts};
 ghost use Rattle.wc_summary.specs.Summary.{entry_view, main_view, part_view, parts_view};
 ghost use Rattle.wc_summary.specs.Private.Entries.{entry_shown};
 ghost use Rattle.wc_summary.specs.SummaryJson.{adapter_json, entries_json, entry_json, function_json, main_json, main_values, modules_json};
@@ -19,7 +19,7 @@ use crate::summary_lines::function_name;
 use json::Writer;
 use std::alloc::{AllocError, Global};
 use wc_maps::OrderedMap;
-use wc_why::{begin_object, end_object, put_number, put_text, put_text_or_null};
+use wc_why_text::{begin_object, end_object, put_number, put_text, put_text_or_null};
 
 /// The interfaces as JSON, in a line.
 pub fn json_of(

@@ -4,8 +4,8 @@ ghost use Rattle.std.specs.Prelude.{◌≡◌, ◌++◌, IfOk, OnOk, map, string
 ghost use Rattle.std.specs.List.{flat_map};
 ghost use Rattle.std.specs.Option.{option_map};
 ghost use Rattle.wc_read.specs.Names.{name_entries};
-ghost use Rattle.wc_read.specs.declared.operators.Space.TheVariants.{Funcs};
-ghost use Rattle.wc_why.specs.Paths.{name_in, text_of};
+ghost use Rattle.wc_why.specs.Texts.{text_of};
+ghost use Rattle.wc_summary.specs.Names.{function_name};
 ghost use Rattle.wc_summary.specs.Summary.{entry_view, main_view, part_view, parts_view, user_view};
 ghost use Rattle.wc_summary.specs.Private.Entries.{entry_shown};
 ghost use Rattle.wc_summary.specs.SummaryLines.{adapter_text, count_text, effect_text, entry_line, entry_lines, entry_parts, function_text, gone_text, main_parts, main_text, more_text, named_function, separated, trimmed_text, types_parts, types_text, words_text};
@@ -13,7 +13,8 @@ ghost use Rattle.wc_summary.specs.SummaryLines.{adapter_text, count_text, effect
 use crate::summary::{AdapterPart, Entries, Entry, MainPart};
 use std::alloc::{AllocError, Global};
 use wc_maps::OrderedMap;
-use wc_why::word;
+use wc_read::Space;
+use wc_why_text::{item_text, rust_name, word};
 
 /// At most how many functions of the main module are named.
 const MOST_FUNCTIONS: usize = 3;
@@ -126,7 +127,7 @@ fn types_text(alloc: Global, user: &Option<String>) -> Result<String, AllocError
     match user {
         Some(user) => {
             let user = word(alloc, user)?;
-            format!(in alloc; "types of {user}")
+            format!(in alloc; "types, used by {user}")
         }
         None => String::from_str(alloc, "types"),
     }
@@ -207,16 +208,16 @@ fn named_function(alloc: Global, index: u32, name: Option<&str>) -> Result<Strin
 {
     match name {
         Some(name) => {
-            let name = word(alloc, name)?;
-            format!(in alloc; "func {index} {name}")
+            let name = rust_name(alloc, name)?;
+            item_text(alloc, Space::Funcs, index as usize, Some(&name))
         }
-        None => format!(in alloc; "func {index}"),
+        None => item_text(alloc, Space::Funcs, index as usize, None),
     }
 }
 
 /// The name of a function, if it has one.
 pub(crate) fn function_name<'r>(names: &OrderedMap<u32, &'r str>, index: u32) -> Option<&'r str>
-    ensures { option_map text_of result ≡ name_in (name_entries names.now) (Funcs, index) }
+    ensures { option_map text_of result ≡ function_name (name_entries names.now) index }
 {
     names.get(&index).copied()
 }
@@ -231,18 +232,18 @@ fn adapter_text(alloc: Global, part: &AdapterPart<'_>) -> Result<String, AllocEr
     format!(in alloc; "{count}adapter {name}{effect}")
 }
 
-/// That the imports of an adapter stay, and for which exports; or how many bytes go with which.
+/// That the imports of an adapter are always needed, and for which exports; or which exports need them, and how many bytes.
 fn effect_text(alloc: Global, part: &AdapterPart<'_>) -> Result<String, AllocError>
     ensures { IfOk result (λ s. string_bytes s ≡ effect_text (part_view part.now)) }
 {
     if part.is_library {
-        String::from_str(alloc, ", stays")
+        String::from_str(alloc, ", always needed")
     } else {
         trimmed_text(alloc, part.bytes, &part.exports, &part.stays)
     }
 }
 
-/// That the imports of an adapter that was trimmed stay, and for which exports; or how many bytes go with which.
+/// That the imports of a trimmed adapter are always needed, and for which exports; or which exports need them, and how many bytes.
 fn trimmed_text(
     alloc: Global,
     bytes: usize,
@@ -260,16 +261,16 @@ fn trimmed_text(
         }
         [_, ..] => {
             let exports = words_text(alloc, stays)?;
-            format!(in alloc; ", stays for{exports}")
+            format!(in alloc; ", always needed for{exports}")
         }
     }
 }
 
-/// How many bytes go.
+/// How many bytes are needed for the exports that follow alone.
 fn gone_text(alloc: Global, bytes: usize) -> Result<String, AllocError>
     ensures { IfOk result (λ s. string_bytes s ≡ gone_text bytes) }
 {
-    format!(in alloc; ", {bytes} bytes with")
+    format!(in alloc; ", {bytes} bytes, needed only for")
 }
 
 /// Words, each after a blank.

@@ -99,7 +99,7 @@ fn note_followed(
 /// # Errors
 ///
 /// An allocation failed.
-pub fn reached_in(
+fn reached_in(
     alloc: Global,
     code: &Module<'_>,
     segments: &Segments<'_>,

@@ -1,37 +1,27 @@
 -- What is noted of libraries, and of adapters one after another.
-use Rattle.std.proofs.Common.{◌≡◌, zero, Bool, List, [], ◌∷◌, ◌++◌, map, is_some, refl, sym, ◌∙◌, ap, append_assoc, append-nil, subst, arith, Option, Some, None}
-use Rattle.std.specs.Prelude.{ℕ, Contains, MatchOption, String}
+use Rattle.std.proofs.Common.{◌≡◌, zero, Bool, List, [], ◌∷◌, ◌++◌, refl, sym, ◌∙◌, ap, append_assoc, append-nil, subst, arith, Option, Some, None}
+use Rattle.std.specs.Prelude.{ℕ, Contains, MatchOption}
 use Rattle.std.specs.Map.{lookup}
-use Rattle.std.specs.declared.alloc.Global.{Global}
 use Rattle.std.specs.Str.{bytes_eq}
 use Rattle.std.proofs.lemmas.List.Elements.{Contains-append_right}
 use Rattle.wc_read.specs.Modules.{ModuleValue, SpellsModule}
-use Rattle.wc_read.specs.Types.{func_type_value}
-use Rattle.wc_read.specs.declared.types.FuncType.{FuncType}
-use Rattle.wc_maps.proofs.LookupLemmas.{name_viewed}
 use Rattle.wc_adapters.specs.Adapters.{AdapterView, LibraryView}
 use Rattle.wc_summary.specs.Entries.{EntriesView, parts_of, with_adapters}
 use Rattle.wc_summary.specs.Leads.{Tags, found_in}
 use Rattle.wc_summary.specs.Notes.{NotesAdapterModule, NotesLibraryModule, NotesParts}
-use Rattle.wc_texts.specs.Names.{named_view}
 use Rattle.wc_summary.specs.Summary.{AdapterPartView}
 use Rattle.wc_summary.proofs.AdapterPartLemmas.{no_more}
 use Rattle.wc_summary.proofs.NotedLemmas.{adapter_by, wanted_as, with_both}
 use Rattle.wc_summary.proofs.TagLemmas.{lists_more, lists_none}
-use Rattle.wc_summary.proofs.UseLemmas.{same_there}
-use Rattle.wc_validate.proofs.ArgumentLemmas.{is_some_map}
-use Rattle.wc_validate.specs.Imports.Map.{required_entry}
 use Rattle.wc_world.specs.Views.{ComponentWorldView, NamedWorldAdapter}
-use Rattle.wc_ways.specs.Imports.{AreAdapterParts, AreInterfacesBy, AreInterfacesOf, AreLibraryParts, ArePartsBy, IsOfTrimmed, IsOfWasm, tags_of}
+use Rattle.wc_ways.specs.Imports.{AreAdapterParts, AreInterfacesBy, AreInterfacesOf, AreLibraryParts, ArePartsBy, IsOfTrimmed, IsOfWasm, Saying, tags_of}
 use Rattle.wc_ways.specs.Tags.{library_tags}
-use Rattle.wc_ways.specs.Originals.{Original, required_of, wanted_of}
-use Rattle.wc_tree.specs.Said.{AreEach}
-use Rattle.wc_ways.specs.Said.{Saying}
-use Rattle.wc_ways.specs.Words.{is_wanted}
+use Rattle.wc_ways.specs.Originals.{Original, is_wanted_of, required_of}
+use Rattle.wc_ways.specs.Each.{AreEach}
 use Rattle.wc_ways.specs.Private.SummaryAdapters.{NotesAdapter, NotesLibrary, NotesOriginal, NotesWasm, entry_of, info_of, original_in, world_of}
 use Rattle.wc_ways.specs.Private.Notes.{NotesAdapters}
 use Rattle.wc_ways.specs.declared.summary_adapters.Adapter.{Adapter}
-use Rattle.wc_tree.proofs.EachLemmas.{each_more}
+use Rattle.wc_ways.proofs.EachLemmas.{each_more}
 
 -- ---- one adapter after another
 
@@ -94,12 +84,12 @@ module _ (g : Adapter) (old new : EntriesView) where
   -- of a library, of an adapter that was trimmed, and of one that the encoder hasn't
   pub library_adapter : (l : LibraryView) → (entry_of g).1.library_info ≡ Some l → NotesLibrary g old new → NotesAdapter g old new
   library_adapter l e n =
-      notes_as (λ found. found ≡ found_in (library_tags (world_of g).encoder.resolve (info_of g).imports)) (AreInterfacesBy (world_of g) (entry_of g))
-      (λ q. AreLibraryParts (world_of g).encoder.resolve q (entry_of g)) (λ q. ArePartsBy (world_of g) q (entry_of g)) old new
+      notes_as (λ found. found ≡ found_in (library_tags (world_of g) (info_of g).imports)) (AreInterfacesBy (world_of g) (entry_of g))
+      (λ q. AreLibraryParts (world_of g) q (entry_of g)) (λ q. ArePartsBy (world_of g) q (entry_of g)) old new
       (λ found h. subst (λ (o : Option LibraryView). MatchOption o (IsOfTrimmed AreInterfacesOf (world_of g) (entry_of g).0 (entry_of g).1.info found)
-      (λ (x : LibraryView). found ≡ found_in (library_tags (world_of g).encoder.resolve (info_of g).imports))) (sym e) h)
+      (λ (x : LibraryView). found ≡ found_in (library_tags (world_of g) (info_of g).imports))) (sym e) h)
       (λ q parts h. subst (λ (o : Option LibraryView). MatchOption o (IsOfTrimmed (AreAdapterParts q) (world_of g) (entry_of g).0 (entry_of g).1.info parts)
-      (λ (x : LibraryView). AreLibraryParts (world_of g).encoder.resolve q (entry_of g) parts)) (sym e) h) n
+      (λ (x : LibraryView). AreLibraryParts (world_of g) q (entry_of g) parts)) (sym e) h) n
 
   trimmed_by : {A : Type 0} (Is : Saying A) (L : LibraryView → List A → Type 0) (said : List A) → (entry_of g).1.library_info ≡ None
       → IsOfTrimmed Is (world_of g) g.name.now (info_of g) said
@@ -112,21 +102,21 @@ module _ (g : Adapter) (old new : EntriesView) where
   trimmed_adapter a e f n =
       notes_as (IsOfWasm AreInterfacesOf (world_of g) g.name.now (info_of g) a.wasm) (AreInterfacesBy (world_of g) (entry_of g))
       (λ q. IsOfWasm (AreAdapterParts q) (world_of g) g.name.now (info_of g) a.wasm) (λ q. ArePartsBy (world_of g) q (entry_of g)) old new
-      (λ found h. trimmed_by AreInterfacesOf (λ x said. said ≡ found_in (library_tags (world_of g).encoder.resolve (info_of g).imports)) found e
+      (λ found h. trimmed_by AreInterfacesOf (λ x said. said ≡ found_in (library_tags (world_of g) (info_of g).imports)) found e
       (subst (λ (o : Option AdapterView). MatchOption o (found ≡ []) (λ (b : AdapterView). IsOfWasm AreInterfacesOf (world_of g) g.name.now (info_of g) b.wasm found)) (sym f) h))
-      (λ q parts h. trimmed_by (AreAdapterParts q) (λ x said. AreLibraryParts (world_of g).encoder.resolve q (entry_of g) said) parts e
+      (λ q parts h. trimmed_by (AreAdapterParts q) (λ x said. AreLibraryParts (world_of g) q (entry_of g) said) parts e
       (subst (λ (o : Option AdapterView). MatchOption o (parts ≡ []) (λ (b : AdapterView). IsOfWasm (AreAdapterParts q) (world_of g) g.name.now (info_of g) b.wasm parts)) (sym f) h)) n
 
 pub missing_adapter : (g : Adapter) (old : EntriesView) → (entry_of g).1.library_info ≡ None → lookup (bytes_eq g.name.now) (world_of g).encoder.adapters ≡ None
     → NotesAdapter g old old
 missing_adapter g old e f = record {
   found = [];
-  are_found = trimmed_by g old old AreInterfacesOf (λ x said. said ≡ found_in (library_tags (world_of g).encoder.resolve (info_of g).imports)) [] e
+  are_found = trimmed_by g old old AreInterfacesOf (λ x said. said ≡ found_in (library_tags (world_of g) (info_of g).imports)) [] e
       (subst (λ (o : Option AdapterView). MatchOption o (◌≡◌ {A = List (List ℕ)} [] []) (λ (b : AdapterView). IsOfWasm AreInterfacesOf (world_of g) g.name.now (info_of g) b.wasm [])) (sym f) refl);
   listed = lists_none old;
   each = λ q. (
     [],
-    trimmed_by g old old (AreAdapterParts q) (λ x said. AreLibraryParts (world_of g).encoder.resolve q (entry_of g) said) [] e
+    trimmed_by g old old (AreAdapterParts q) (λ x said. AreLibraryParts (world_of g) q (entry_of g) said) [] e
         (subst (λ (o : Option AdapterView). MatchOption o (◌≡◌ {A = List AdapterPartView} [] []) (λ (b : AdapterView). IsOfWasm (AreAdapterParts q) (world_of g) g.name.now (info_of g) b.wasm [])) (sym f) refl),
     no_more (parts_of old q),
   );
@@ -140,17 +130,13 @@ wasm_noted g wasm m s old new n =
 
 -- ---- what the summary notes of a module
 
--- a function that the main module imports, by its name alone
-pub wanted_is : (es : List (String Global × FuncType)) (e : List ℕ) → is_some (lookup (bytes_eq e) (map named_view es)) ≡ is_wanted (map required_entry es) e
-wanted_is es e = sym (same_there es e) ∙ (sym (is_some_map func_type_value _) ∙ ap is_some (name_viewed func_type_value es e))
-
 pub original_noted : (a : Original) (tags : Tags) (names : List (List ℕ)) (is : List ℕ → Bool) (old new : EntriesView) → tags ≡ tags_of a → names ≡ required_of a
-    → ((e : List ℕ) → is e ≡ is_wanted (wanted_of a) e) → NotesAdapterModule (adapter_by a.name a.value tags names is) old new → NotesOriginal a old new
+    → ((e : List ℕ) → is e ≡ is_wanted_of a e) → NotesAdapterModule (adapter_by a.name a.value tags names is) old new → NotesOriginal a old new
 original_noted a tags names is old new t n same h =
-    wanted_as a.name a.value (tags_of a) (required_of a) is (is_wanted (wanted_of a)) same old new
+    wanted_as a.name a.value (tags_of a) (required_of a) is (is_wanted_of a) same old new
     (subst (λ (z : List (List ℕ)). NotesAdapterModule (adapter_by a.name a.value (tags_of a) z is) old new) n
     (subst (λ (z : Tags). NotesAdapterModule (adapter_by a.name a.value z names is) old new) t h))
 
-pub library_noted : (g : Adapter) (tags : Tags) (old new : EntriesView) → tags ≡ library_tags (world_of g).encoder.resolve (info_of g).imports
+pub library_noted : (g : Adapter) (tags : Tags) (old new : EntriesView) → tags ≡ library_tags (world_of g) (info_of g).imports
     → NotesLibraryModule g.name.now tags old new → NotesLibrary g old new
 library_noted g tags old new same n = subst (λ (z : Tags). NotesLibraryModule g.name.now z old new) same n

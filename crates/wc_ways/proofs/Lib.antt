@@ -1,24 +1,23 @@
 mod ListLemmas
+pub mod LoopLemmas
 mod RecordLemmas
+pub mod AskedKeyLemmas
+pub mod FirstLemmas
+pub mod ModuleLemmas
+pub mod PartLemmas
+pub mod FoundLemmas
 mod TypesLemmas
 mod NeedLemmas
 mod RootLemmas
 mod TypedLemmas
 mod OriginalLemmas
-mod ImportLemmas
-mod MainLemmas
-mod MainWayLemmas
-mod MarkedLemmas
-mod ComponentLemmas
-mod WaysLemmas
+pub mod EachLemmas
 mod NoteLemmas
 mod AllEntriesLemmas
 mod MainNoteLemmas
-mod FoundLemmas
-mod RecordedWayLemmas
-mod WaysTreeLemmas
-mod MainEndLemmas
-mod TypedFoundLemmas
-mod TypedTreeLemmas
-mod MarkedTreeLemmas
 pub mod AdapterNoteLemmas
+pub mod WantedLemmas
+pub mod LeaderLemmas
+pub mod SharedLemmas
+pub mod SharedEntryLemmas
+pub mod WaysLemmas

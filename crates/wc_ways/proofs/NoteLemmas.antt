@@ -1,5 +1,5 @@
 -- What is noted of each interface of a component, note by note.
-use Rattle.std.proofs.Common.{◌≡◌, ℕ, Bool, true, false, cond, List, [], ◌∷◌, ◌++◌, map, Option, Some, None, option_map, refl, sym, ◌∙◌, ap, subst, append-nil, append_assoc}
+use Rattle.std.proofs.Common.{◌≡◌, ℕ, Bool, true, false, cond, List, [], ◌∷◌, ◌++◌, Option, Some, None, option_map, refl, sym, ◌∙◌, ap, subst, append-nil, append_assoc}
 use Rattle.std.proofs.lemmas.List.{map-append}
 use Rattle.std.specs.List.{cons_option, filter_map}
 use Rattle.std.specs.Map.{keys_of, lookup}
@@ -75,7 +75,7 @@ listed_one : {Y : Type 0} (y : Option Y) → cons_option y [] ≡ option_to_list
 listed_one None = refl
 listed_one (Some y) = refl
 
-listed_more : {X Y : Type 0} (f : X → Option Y) (xs : List X) (x : X) → filter_map f (xs ++ x ∷ []) ≡ filter_map f xs ++ option_to_list (f x)
+pub listed_more : {X Y : Type 0} (f : X → Option Y) (xs : List X) (x : X) → filter_map f (xs ++ x ∷ []) ≡ filter_map f xs ++ option_to_list (f x)
 listed_more f [] x = listed_one (f x)
 listed_more f (y ∷ ys) x = listed_first (f y) (filter_map f ys) (option_to_list (f x)) (filter_map f (ys ++ x ∷ [])) (listed_more f ys x)
 

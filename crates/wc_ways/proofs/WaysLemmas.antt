@@ -1,26 +1,49 @@
--- What was said of all modules, as the text or the tree of it.
-use Rattle.std.proofs.Common.{◌≡◌, ℕ, List, [], ◌∷◌, ◌++◌, sym, ◌∙◌, ap, subst, append_assoc}
-use Rattle.std.specs.List.{flat_map}
+-- The tree of the paths to what is asked about, by what the code has.
+use Rattle.std.proofs.Common.{◌≡◌, ◌++◌, ℕ, Bool, true, false, List, [], ◌∷◌, Vec, Global, Result, Ok, Err, IfOk, codes, length, map, true≢false, refl, sym, ap, subst}
+use Rattle.std.specs.Prelude.{◌==◌}
+use Rattle.json.specs.Lex.{tokens}
+use Rattle.json.specs.Print.{print}
+use Rattle.json.specs.Tree.{json_tokens}
+use Rattle.wc_why.specs.Part.{PartView, part_view}
+use Rattle.wc_read.proofs.ModulesLemmas.{no_length}
+use Rattle.wc_why.specs.Tree.{TreeView, tree_way_view}
+use Rattle.wc_why.specs.declared.tree.TreeWay.{TreeWay}
+use Rattle.wc_why_text.specs.TreeJson.{tree_json}
+use Rattle.wc_why_text.specs.TreeLines.{tree_lines}
 use Rattle.wc_world.specs.Views.{ComponentWorldView}
-use Rattle.wc_why.specs.Paths.{PathView}
-use Rattle.wc_ways.specs.Marked.{IsMarking, Marking}
-use Rattle.wc_ways.specs.Said.{AreModulesSaid, AreTypesSaid}
-use Rattle.wc_tree.specs.Said.{Says}
-use Rattle.wc_ways.specs.Ways.{AreLibraryPaths, AreOriginalPaths, ArePaths, AreRecordedMainPaths, IsTypedPath, IsWaysText, or_none, way_lines}
-use Rattle.wc_ways.proofs.ListLemmas.{flat_same}
+use Rattle.wc_ways.specs.Wanted.{WantedView}
+use Rattle.wc_ways.specs.Ways.{none_text, ways_text}
+use Rattle.wc_ways.specs.WaysTree.{IsTreeTo, IsWaysJson, IsWaysTree, wanted_in}
+use Rattle.wc_ways.specs.Private.Shown.{IsShown}
+use Rattle.wc_ways.specs.Private.Wanted.{wanted_view}
+use Rattle.wc_ways.specs.declared.tree.Shown.{Shown}
 
-pub text_said : (w : ComponentWorldView) (k : List ℕ) (marks : Marking) → IsMarking w k marks → (old new text : List ℕ) → old ≡ []
-    → Says (way_lines marks) (ArePaths w k) old new → text ≡ or_none k new → IsWaysText w k text
-text_said w k marks right old new text none (paths, are, put) is =
-    (marks, right, paths, are, is ∙ ap (or_none k) (put ∙ ap (λ z. z ++ flat_map (way_lines marks) paths) none))
+pub ways_tree : (w : ComponentWorldView) (key : List ℕ) (s : Shown) (t : TreeView) → IsShown w key s
+    → IsTreeTo (map part_view s.parts.items) (map wanted_view s.wanted.items) s.marked t → IsWaysTree w key t
+ways_tree w key s t shown to =
+    let parts : List PartView = map part_view s.parts.items in
+    record {
+      main = shown.main;
+      modules = shown.modules;
+      parts = parts;
+      are_parts = shown.are_parts;
+      is_tree = subst (λ (b : Bool). IsTreeTo parts (wanted_in w key shown.main shown.modules) b t) shown.marked
+          (subst (λ (v : List WantedView). IsTreeTo parts v s.marked t) shown.wanted to);
+    }
 
--- what was made is all that was said
-pub made_said : {A : Type 0} (Is : List A → Type 0) (old new : List A) → old ≡ [] → Says (λ m. m ∷ []) Is old new → Is new
-made_said Is old new none (parts, are, put) =
-    subst Is (sym (put ∙ (ap (λ z. z ++ flat_map (λ m. m ∷ []) parts) none ∙ flat_same parts))) are
+-- what two clauses say of its JSON
+pub ways_json : {E : Type 0} (w : ComponentWorldView) (key : List ℕ) (t : TreeView) (r : Result (Vec ℕ Global) E) → IsWaysTree w key t
+    → IfOk r (λ v. v.items ≡ print (json_tokens (tree_json t)) ++ codes "\n")
+    → IfOk r (λ v. tokens (print (json_tokens (tree_json t))) ≡ json_tokens (tree_json t)) → IfOk r (λ v. IsWaysJson w key v.items)
+ways_json w key t (Ok v) tree text back = (t, tree, text, back)
+ways_json w key t (Err e) tree text back = tt
 
--- what was said of all modules, and then of types
-pub paths_of_both : (w : ComponentWorldView) (k : List ℕ) (first last : List PathView)
-    → AreModulesSaid AreRecordedMainPaths AreLibraryPaths AreOriginalPaths w k first → AreTypesSaid IsTypedPath w k last → ArePaths w k (first ++ last)
-paths_of_both w k first last (main, adapters, was, is, eq) at =
-    (main, adapters, last, was, is, at, ap (λ z. z ++ last) eq ∙ append_assoc main adapters last)
+-- its lines; or that it has no paths
+pub text_none : (w : ComponentWorldView) (key : List ℕ) (t : TreeView) (ways : List TreeWay) → true ≡ (length ways == 0)
+    → none_text w key ≡ ways_text w key t (map tree_way_view ways)
+text_none w key t ways none = ap (λ (z : List TreeWay). ways_text w key t (map tree_way_view z)) (sym (no_length ways (sym none)))
+
+pub text_some : (w : ComponentWorldView) (key : List ℕ) (t : TreeView) (ways : List TreeWay) → false ≡ (length ways == 0)
+    → tree_lines true t ≡ ways_text w key t (map tree_way_view ways)
+text_some w key t [] some = absurd (true≢false (sym some))
+text_some w key t (way ∷ ways) some = refl

@@ -1,19 +1,14 @@
 -- Words of contracts of private functions. No contract of a public function cites these, directly or through others.
-pub mod Adapters
-pub mod Found
-pub mod MainEnds
 pub mod Imported
-pub mod MainPaths
-pub mod MainWays
+pub mod AskedKeys
+pub mod Modules
+pub mod Parts
+pub mod TypedFound
+pub mod Wanted
+pub mod Found
+pub mod Shown
 pub mod Notes
 pub mod Needs
-pub mod TypeWays
-pub mod PartItems
-pub mod AdapterPart
-pub mod Component
-pub mod Marked
 pub mod SummaryAdapters
-pub mod TypedFound
-pub mod TreeFrom
-pub mod MarkedTree
 pub mod SummaryMain
+pub mod SummaryShared

@@ -14,8 +14,8 @@ use Rattle.wc_validate.specs.Imports.Map.{imports_in}
 use Rattle.wc_world.specs.Live.{export_roots, import_roots}
 use Rattle.wc_world.specs.Used.{UsedView}
 use Rattle.wc_world.specs.Views.{ComponentWorldView, NamedWorldAdapter}
-use Rattle.wc_why.specs.declared.paths.WorldSide.{WorldSide}
-use Rattle.wc_why.specs.declared.paths.WorldSide.TheVariants.{Imports, Exports}
+use Rattle.wc_ways.specs.declared.needs.WorldSide.{WorldSide}
+use Rattle.wc_ways.specs.declared.needs.WorldSide.TheVariants.{Imports, Exports}
 
 -- a root: an import of an adapter, or of the main module where no adapter is named; or what the world itself imports or exports under a
 -- key

@@ -48,7 +48,3 @@ root_user r (of_item side key) = key_text parts_text r key
 -- what needs the types of an interface
 abbrev pub user_in : ComponentWorldView → ℕ → Option (List ℕ)
 user_in w i = option_and_then (root_user w.encoder.resolve) (cite w i).root
-
--- parts are said of an interface of a world that is imported for its types alone, by its name and why
-abbrev pub SayingTypes : Type 0 → Type 1
-SayingTypes A = ComponentWorldView → List ℕ → TypeCite → List A → Type 0

@@ -1,106 +1,37 @@
-//! The imports of modules that are asked about.
+//! The imports of the world to which imports of modules belong, and which of them are asked about.
 
 ghost use Rattle.std.specs.Prelude.{◌≡◌, IfOk, string_bytes};
 ghost use Rattle.std.specs.Option.{option_map};
 ghost use Rattle.semver.specs.Identifiers.{parts_text};
 ghost use Rattle.wc_names.specs.Views.{import_view, payload_view};
-ghost use Rattle.wc_world.specs.Nameable.{IsNameable};
 ghost use Rattle.wc_resolve.specs.Dependencies.{id_of_interface};
 ghost use Rattle.wc_resolve.specs.Resolve.{key_text};
 ghost use Rattle.wc_resolve.specs.Views.{key_view};
-ghost use Rattle.wc_ways.specs.Asked.{asked_function, asked_world_import, asked_interface, asked_name, is_asked, own_name, payload_import, scoped_import, world_import};
-ghost use Rattle.wc_tree.specs.Found.{function_value};
+ghost use Rattle.wc_ways.specs.Asked.{is_asked, own_name, payload_import, scoped_import, world_import};
 ghost use Rattle.wc_ways.specs.Private.Imported.{imported_view};
 
 use std::alloc::{AllocError, Global};
 use wc_names::{Import, PayloadInfo, PayloadType};
 use wc_resolve::{InterfaceId, Resolve, WorldKey};
-use wc_tree::Function;
 use wc_why::asks_about;
 
 /// The key that asks about all interfaces.
-const ALL: &str = "all";
+pub(crate) const ALL: &str = "all";
 
 /// The name that stands for the interface of what is the world's own, as in the lines of a plan.
-const ROOT: &str = "$root";
+pub(crate) const ROOT: &str = "$root";
 
 /// An import of the world, to which an import of a module belongs.
 #[derive(Clone, Copy)]
 pub(crate) enum Imported<'a> {
-    /// The interface under this key.
-    Interface(&'a WorldKey),
+    /// The interface of this id.
+    Interface(InterfaceId),
     /// The function or the type of this name that is the world's own.
     Own(&'a str),
 }
 
-/// The function that a module imports, if it belongs to an import of the world that is asked about; a built-in has the
-/// name that it has in the module.
-pub(crate) fn asked_function<'a>(
-    alloc: Global,
-    resolve: &Resolve,
-    key: &str,
-    name: &'a str,
-    import: &'a Import,
-) -> Result<Option<Function<'a>>, AllocError>
-    requires { IsNameable resolve.now (import_view import.now) }
-    ensures { IfOk result (λ f. option_map function_value f
-        ≡ asked_function resolve.now key.now name.now (import_view import.now)) }
-{
-    match world_import(import) {
-        Some(imported) => asked_world_import(alloc, resolve, key, own_name(name, import), imported),
-        None => Ok(None),
-    }
-}
-
-/// The function of this name, if it belongs to an import of the world that is asked about.
-fn asked_world_import<'a>(
-    alloc: Global,
-    resolve: &Resolve,
-    key: &str,
-    name: &'a str,
-    imported: Imported<'_>,
-) -> Result<Option<Function<'a>>, AllocError>
-    ensures { IfOk result (λ f. option_map function_value f
-        ≡ asked_world_import resolve.now key.now name.now (imported_view imported.entry)) }
-{
-    match imported {
-        Imported::Interface(interface) => match key_text(alloc, resolve, interface)? {
-            Some(text) => Ok(asked_interface(key, text, name)),
-            None => Ok(None),
-        },
-        Imported::Own(own) => {
-            let interface = String::from_str(alloc, ROOT)?;
-            Ok(asked_name(key, interface, own, name))
-        }
-    }
-}
-
-/// The function of an interface, if this is asked about.
-fn asked_interface<'a>(key: &str, interface: String, name: &'a str) -> Option<Function<'a>>
-    ensures { option_map function_value result
-        ≡ asked_interface key.now name.now (string_bytes interface) }
-{
-    if is_asked(key, &interface, &interface) {
-        Some(Function { interface, name })
-    } else {
-        None
-    }
-}
-
-/// The function that belongs to an import of the world with this text, if this is asked about.
-fn asked_name<'a>(key: &str, interface: String, text: &str, name: &'a str) -> Option<Function<'a>>
-    ensures { option_map function_value result
-        ≡ asked_name key.now (string_bytes interface) text.now name.now }
-{
-    if is_asked(key, &interface, text) {
-        Some(Function { interface, name })
-    } else {
-        None
-    }
-}
-
-/// Whether a key asks about an import of the world: the key is `all`; it is the name of the import's interface, which
-/// is `$root` for the world's own imports; or it asks about the import's text.
+/// Whether an import of the world is asked about: by the name of its interface, which is `$root` for what is the world's
+/// own, or by its text; or all are.
 pub(crate) fn is_asked(key: &str, interface: &str, text: &str) -> bool
     ensures { result ≡ is_asked key.now interface.now text.now }
 {
@@ -129,7 +60,7 @@ pub(crate) fn key_text(
 }
 
 /// The name of an import: that of a function; of what is none the name that it has in the module.
-fn own_name<'a>(name: &'a str, import: &'a Import) -> &'a str
+pub(crate) fn own_name<'a>(name: &'a str, import: &'a Import) -> &'a str
     ensures { result.now ≡ own_name name.now (import_view import.now) }
 {
     match import.function() {
@@ -145,7 +76,7 @@ pub(crate) fn world_import(import: &Import) -> Option<Imported<'_>>
 {
     match import {
         Import::WorldFunc(_, name, _) => Some(Imported::Own(name)),
-        Import::InterfaceFunc(key, _, _, _) => Some(Imported::Interface(key)),
+        Import::InterfaceFunc(_, id, _, _) => Some(Imported::Interface(*id)),
         Import::ImportedResourceDrop(key, interface, _) => scoped_import(key, *interface),
         Import::StreamNew(info) | Import::FutureNew(info) => payload_import(info),
         Import::StreamForward(info) | Import::FutureForward(info) => payload_import(info),
@@ -169,7 +100,7 @@ fn scoped_import(key: &WorldKey, interface: Option<InterfaceId>) -> Option<Impor
         ≡ scoped_import (key_view key.now) (option_map id_of_interface interface) }
 {
     match (interface, key) {
-        (Some(_), _) => Some(Imported::Interface(key)),
+        (Some(id), _) => Some(Imported::Interface(id)),
         (None, WorldKey::Name(name)) => Some(Imported::Own(name)),
         (None, WorldKey::Interface(_)) => None,
     }
@@ -183,7 +114,7 @@ fn payload_import(info: &PayloadInfo) -> Option<Imported<'_>>
         return None;
     }
     match (info.interface, &info.ty) {
-        (Some(_), _) => Some(Imported::Interface(&info.key)),
+        (Some(id), _) => Some(Imported::Interface(id)),
         (None, PayloadType::Typed { function, .. }) => Some(Imported::Own(function)),
         (None, PayloadType::UnitFuture | PayloadType::UnitStream) => None,
     }

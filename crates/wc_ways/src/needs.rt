@@ -17,8 +17,16 @@ use wc_resolve::{
     Function, FunctionKind, Interface, InterfaceId, KnownTypes, LiveTypes, Resolve, TypeId,
     WitType, WorldItem, WorldKey,
 };
-use wc_why::WorldSide;
 use wc_world::{import_payload, import_resource};
+
+/// The two lists of a world.
+#[derive(Clone, Copy, Debug, PartialEq, Eq)]
+pub(crate) enum WorldSide {
+    /// Its imports.
+    Imports,
+    /// Its exports.
+    Exports,
+}
 
 /// A root of live types.
 #[derive(Clone, Copy)]

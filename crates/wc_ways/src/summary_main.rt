@@ -1,16 +1,17 @@
 //! The imports of each interface by the main module of a component.
 
 ghost use Rattle.std.specs.Prelude.{OnOk};
-ghost use Rattle.wc_world.specs.Nameable.{AreNameable};
-ghost use Rattle.wc_read.specs.Modules.{SpellsModule, module_value};
+ghost use Rattle.wc_import_paths.specs.MainModules.{main_view};
 ghost use Rattle.wc_summary.specs.Entries.{entries_view};
 ghost use Rattle.wc_world.specs.WorldViews.{world_view};
-ghost use Rattle.wc_ways.specs.Private.SummaryMain.{NotesMain};
+ghost use Rattle.wc_ways.specs.Tags.{all_key};
+ghost use Rattle.wc_ways.specs.Private.AskedKeys.{IsAskedOf};
+ghost use Rattle.wc_ways.specs.Private.SummaryMain.{NotesMain, NotesMainOf};
 
-use crate::main_paths::{Following, follow};
+use crate::asked_keys::AskedKeys;
 use crate::tags::tags_of;
 use std::alloc::{AllocError, Global};
-use wc_read::{Module, read_module};
+use wc_import_paths::MainModule;
 use wc_summary::{Entries, note_main_module};
 use wc_world::ComponentWorld;
 
@@ -18,15 +19,17 @@ use wc_world::ComponentWorld;
 pub(crate) fn note_main(
     alloc: Global,
     world: &ComponentWorld<'_>,
+    keys: &AskedKeys<'_>,
     entries: &mut Entries<'_>,
 ) -> Result<(), AllocError>
-    requires { AreNameable (world_view world.now) }
+    requires { IsAskedOf (world_view world.now) all_key keys.now }
     ensures { OnOk result (NotesMain (world_view world.now)
         (entries_view entries.old.entries) (entries_view entries.new.entries)) }
 {
-    match read_module(alloc, world.encoder.module()) {
-        Ok(code) => note_module(alloc, world, &code, entries),
-        // The bytes are those of a module: there is no fault but that memory runs out.
+    // The bytes are those of a module, and no export is named: there is no fault but that memory runs out.
+    let seed = *world.adapters.hasher();
+    match MainModule::read(alloc, seed, world.encoder.module(), &[]) {
+        Ok(main) => note_module(alloc, world, keys, &main, entries),
         Err(_) => Err(AllocError),
     }
 }
@@ -35,26 +38,15 @@ pub(crate) fn note_main(
 fn note_module(
     alloc: Global,
     world: &ComponentWorld<'_>,
-    code: &Module<'_>,
+    keys: &AskedKeys<'_>,
+    main: &MainModule<'_>,
     entries: &mut Entries<'_>,
 ) -> Result<(), AllocError>
-    requires nameable { AreNameable (world_view world.now) }
-    requires spelled { SpellsModule (world_view world.now).encoder.module_bytes
-        (module_value code.now) }
-    ensures { OnOk result (NotesMain (world_view world.now)
+    requires { IsAskedOf (world_view world.now) all_key keys.now }
+    ensures { OnOk result (NotesMainOf (world_view world.now) (main_view main.now)
         (entries_view entries.old.entries) (entries_view entries.new.entries)) }
 {
-    let metadata = world.encoder.metadata();
-    let tags = tags_of(alloc, &metadata.resolve, &world.info.imports, &code.imports)?;
-    match follow(
-        alloc,
-        *world.adapters.hasher(),
-        world.encoder.module(),
-        code,
-    )? {
-        Following::Whole(followed) => {
-            note_main_module(alloc, code, Some(&followed.segments), &tags, entries)
-        }
-        Following::Unread(_) => note_main_module(alloc, code, None, &tags, entries),
-    }
+    let code = main.code();
+    let tags = tags_of(alloc, keys, &world.info.imports, &code.imports)?;
+    note_main_module(alloc, code, main.segments(), &tags, entries)
 }

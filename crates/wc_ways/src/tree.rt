@@ -1,75 +1,117 @@
-//! The paths to what is asked about, as one tree over all modules of a component.
+//! The paths through a component as one tree.
 
-ghost use Rattle.std.specs.Prelude.{IfOk, map};
-ghost use Rattle.wc_tree.specs.Tree.{tree_view};
-ghost use Rattle.wc_tree.specs.Found.{found_view};
-ghost use Rattle.wc_ways.specs.Private.TreeFrom.{IsTreeFrom};
-ghost use Rattle.wc_ways.specs.Private.TypedFound.{typed_view};
+ghost use Rattle.std.specs.Prelude.{◌≡◌, IfOk, map};
+ghost use Rattle.std.specs.Option.{option_map};
+ghost use Rattle.wc_why.specs.Part.{part_view};
+ghost use Rattle.wc_why.specs.Tree.{tree_view, tree_way_view};
+ghost use Rattle.wc_world.specs.WorldViews.{world_view};
+ghost use Rattle.wc_ways.specs.WaysTree.{IsTreeTo, end_at, targets_of, way_at, ways_of};
+ghost use Rattle.wc_ways.specs.Private.Modules.{AreModulesOf};
+ghost use Rattle.wc_ways.specs.Private.Shown.{IsShown};
+ghost use Rattle.wc_ways.specs.Private.Wanted.{wanted_view};
 
-use crate::main_paths::MainPaths;
-use crate::main_tree::{PlacedMain, placed_main};
-use crate::typed_ends::{put_typed_imports, put_typed_ways};
-use crate::typed_found::FoundTyped;
+use crate::asked::ALL;
+use crate::asked_keys::AskedKeys;
+use crate::found::found_in;
+use crate::modules::Modules;
+use crate::parts::{parts_of, push_some};
+use crate::typed_found::put_typed;
+use crate::wanted::{Wanted, way_of};
 use std::alloc::{AllocError, Global};
-use wc_maps::{Seed, Set};
-use wc_tree::{FoundModule, ImportKey, Tree, put_wanted, tree_of_found};
+use wc_why::{ComponentTree, End, Part, Target, Tree, TreeWay, tree_of_parts};
+use wc_world::ComponentWorld;
 
-/// The tree of these modules, the first of which is the main module, and of the paths for types alone. Paths are in the
-/// order of the modules, and the paths for types come last.
-pub(crate) fn tree_of<'t>(
+/// The parts of a component, and the things that are asked about.
+#[derive(Drop)]
+pub(crate) struct Shown<'a> {
+    pub(crate) parts: Vec<Part<'a>>,
+    pub(crate) wanted: Vec<Wanted<'a>>,
+    /// Whether items are marked: they are, unless all is asked about.
+    pub(crate) marked: bool,
+}
+
+/// The things that a key asks about, in a component of these modules.
+pub(crate) fn shown_in<'a>(
     alloc: Global,
-    seed: Seed,
-    main: &MainPaths<'t>,
-    found: &'t [FoundModule<'t>],
-    typed: &'t [FoundTyped<'t>],
-) -> Result<Tree<'t>, AllocError>
-    ensures { IfOk result (λ t. IsTreeFrom main.now (map found_view found.now)
-        (map typed_view typed.now) (tree_view t)) }
+    world: &'a ComponentWorld<'a>,
+    key: &'a str,
+    modules: &'a Modules<'a>,
+) -> Result<Shown<'a>, AllocError>
+    requires { AreModulesOf (world_view world.now) modules.now }
+    ensures { IfOk result (IsShown (world_view world.now) key.now) }
 {
-    let imports = imports_of(alloc, seed, found, typed)?;
-    let made = placed_main(alloc, seed, main, imports.as_slice())?;
-    let PlacedMain { module, places } = made;
-    let mut tree = tree_of_found(alloc, module, found, &places)?;
-    put_typed_ways(found, typed, &places, &mut tree.ways)?;
-    Ok(tree)
+    let parts = parts_of(alloc, world, modules)?;
+    let keys = AskedKeys::new(alloc, world, key)?;
+    let mut wanted = found_in(alloc, world, &keys, modules)?;
+    put_typed(alloc, world, key, modules, &mut wanted)?;
+    let marked = key != ALL;
+    Ok(Shown {
+        parts,
+        wanted,
+        marked,
+    })
 }
 
-/// The imports of the main module to which paths lead, each once: first the requested imports, then the imports from
-/// which paths go on in adapters, in the order of their first use, and then the imports at which paths for types end.
-fn imports_of<'t>(
+/// The tree of the paths to what is asked about.
+pub(crate) fn tree_of<'a>(alloc: Global, shown: &'a Shown<'a>) -> Result<Tree<'a>, AllocError>
+    ensures { IfOk result (λ t. IsTreeTo (map part_view shown.now.parts.items)
+        (map wanted_view shown.now.wanted.items) shown.now.marked (tree_view t)) }
+{
+    let targets = targets_of(alloc, &shown.wanted)?;
+    let found = tree_of_parts(alloc, &shown.parts, &targets, shown.marked)?;
+    let ComponentTree { modules, ends } = found;
+    let ways = ways_of(alloc, &shown.wanted, &ends)?;
+    Ok(Tree { modules, ways })
+}
+
+/// The items at the ends of paths.
+fn targets_of(alloc: Global, wanted: &[Wanted<'_>]) -> Result<Vec<Target>, AllocError>
+    ensures { IfOk result (λ v. v.items ≡ targets_of (map wanted_view wanted.now)) }
+{
+    let mut targets = Vec::new(alloc);
+    for one in wanted {
+        targets.push(one.target)?;
+    }
+    Ok(targets)
+}
+
+/// The paths, by where they end.
+fn ways_of<'a>(
     alloc: Global,
-    seed: Seed,
-    found: &'t [FoundModule<'t>],
-    typed: &'t [FoundTyped<'t>],
-) -> Result<Set<ImportKey<'t>>, AllocError> {
-    let mut imports = Set::with_hasher(alloc, seed);
-    for module in found {
-        put_imports(module, &mut imports)?;
+    wanted: &'a [Wanted<'a>],
+    ends: &[Option<End>],
+) -> Result<Vec<TreeWay<'a>>, AllocError>
+    ensures { IfOk result (λ v. map tree_way_view v.items
+        ≡ ways_of (map wanted_view wanted.now) ends.now) }
+{
+    let mut ways = Vec::new(alloc);
+    for position in 0..wanted.len() {
+        push_some(way_at(wanted, ends, position), &mut ways)?;
     }
-    put_typed_imports(typed, &mut imports)?;
-    Ok(imports)
+    Ok(ways)
 }
 
-/// Adds the imports of the main module to which paths to imports of a module lead.
-fn put_imports<'t>(
-    module: &'t FoundModule<'t>,
-    imports: &mut Set<ImportKey<'t>>,
-) -> Result<(), AllocError> {
-    match module.adapter {
-        Some(adapter) => put_wanted(adapter, &module.roots, imports),
-        None => put_own(module, imports),
+/// The path at a position, if there is one.
+fn way_at<'a>(
+    wanted: &'a [Wanted<'a>],
+    ends: &[Option<End>],
+    position: usize,
+) -> Option<TreeWay<'a>>
+    ensures { option_map tree_way_view result
+        ≡ way_at (map wanted_view wanted.now) ends.now position }
+{
+    match wanted.get(position) {
+        Some(wanted) => way_of(wanted, end_at(ends, position)),
+        None => None,
     }
 }
 
-/// Adds those that are asked about.
-fn put_own<'t>(
-    module: &'t FoundModule<'t>,
-    imports: &mut Set<ImportKey<'t>>,
-) -> Result<(), AllocError> {
-    for way in &module.ways {
-        if let Some(way) = way {
-            imports.insert((way.import.module, way.import.name))?;
-        }
+/// Where the path at a position ends.
+fn end_at(ends: &[Option<End>], position: usize) -> Option<End>
+    ensures { result ≡ end_at ends.now position }
+{
+    match ends.get(position) {
+        Some(end) => *end,
+        None => None,
     }
-    Ok(())
 }

@@ -8,21 +8,22 @@ ghost use Rattle.wc_encoder.specs.EncoderParts.{world_exports, world_imports};
 ghost use Rattle.wc_resolve.specs.Dependencies.{id_of_interface, interface_owning};
 ghost use Rattle.wc_resolve.specs.Views.{item_view, key_view};
 ghost use Rattle.wc_validate.specs.Imports.Iter.{import_shown};
-ghost use Rattle.wc_why.specs.Paths.{text_of};
+ghost use Rattle.wc_why.specs.Texts.{text_of};
 ghost use Rattle.wc_world.specs.Live.{elsewhere_from, export_roots, is_from_elsewhere, is_used};
 ghost use Rattle.wc_world.specs.Used.{used_view};
 ghost use Rattle.wc_world.specs.WorldViews.{adapters_view, world_view};
 ghost use Rattle.wc_ways.specs.TypeRoots.{adapter_needs, export_needs, import_needs, module_needs, modules_needs, needs, own_needs};
 ghost use Rattle.wc_ways.specs.Private.Needs.{AddsNeeds, AreNeeded, Finds, interface_types, noted_in};
 
-use crate::needs::{Found, NeededTypes, Needing, TypeRoot, note_import, note_item, note_type};
+use crate::needs::{
+    Found, NeededTypes, Needing, TypeRoot, WorldSide, note_import, note_item, note_type,
+};
 use std::alloc::{AllocError, Global};
 use wc_encoder::ComponentEncoder;
 use wc_maps::{Map, Set};
 use wc_names::Import;
 use wc_resolve::{InterfaceId, LiveTypes, Resolve, TypeId, TypeOwner, WorldItem, WorldKey};
 use wc_validate::ImportMap;
-use wc_why::WorldSide;
 use wc_world::{ComponentWorld, WorldAdapter};
 
 /// The types and functions that a world names, and where they are.
@@ -66,7 +67,7 @@ pub(crate) fn needed_types<'a>(
 }
 
 /// The imports of an encoder's world.
-fn imports_of(encoder: &ComponentEncoder) -> &Map<WorldKey, WorldItem>
+pub(crate) fn imports_of(encoder: &ComponentEncoder) -> &Map<WorldKey, WorldItem>
     ensures { entries_of result.now ≡ world_imports encoder.now }
 {
     encoder.well_formedness();

@@ -1,27 +1,32 @@
 //! The interfaces that a component imports for their types alone, each with what needs these.
 
-ghost use Rattle.std.specs.Prelude.{◌≡◌, IfOk};
-ghost use Rattle.std.specs.Option.{option_map};
+ghost use Rattle.std.specs.Prelude.{◌≡◌, IfOk, OnOk, Some};
+ghost use Rattle.std.specs.Option.{option_map, option_to_list};
 ghost use Rattle.semver.specs.Identifiers.{parts_text};
+ghost use Rattle.wc_why.specs.Texts.{text_of};
+ghost use Rattle.wc_why.specs.Tree.{tree_import_view};
+ghost use Rattle.wc_import_paths.specs.MainModules.{main_view};
 ghost use Rattle.wc_resolve.specs.Resolve.{key_text};
 ghost use Rattle.wc_resolve.specs.Views.{key_view};
-ghost use Rattle.wc_tree.specs.Tree.{tree_import_view};
-ghost use Rattle.wc_why.specs.Paths.{text_of};
 ghost use Rattle.wc_world.specs.WorldViews.{adapter_view, world_view};
-ghost use Rattle.wc_ways.specs.Private.Needs.{root_view};
-ghost use Rattle.wc_ways.specs.Private.TypedFound.{IsEndAt, IsEndInAdapter, IsEndFor, IsEndOfRoot, end_in, end_view, item_end};
+ghost use Rattle.wc_ways.specs.Typed.{adapter_target, end_at, end_for, end_in, end_of_root, item_end, main_target, target_by, target_in, target_of, type_target, typed_if, typed_in};
+ghost use Rattle.wc_ways.specs.Private.AskedKeys.{imported_shown};
+ghost use Rattle.wc_ways.specs.Private.Found.{Finds};
+ghost use Rattle.wc_ways.specs.Private.Modules.{AreModulesOf, code_in, codes_in};
+ghost use Rattle.wc_ways.specs.Private.Needs.{AreNeededIn, root_view};
+ghost use Rattle.wc_ways.specs.Private.TypedFound.{AreAllRead, IsPlaced, end_view};
 
 use crate::asked::key_text;
-use crate::modules::MainModule;
-use crate::needs::TypeRoot;
-use crate::typed_forms::TypedForm;
-use crate::types::TypeCite;
+use crate::modules::{AdapterModule, Modules, main_rows};
+use crate::needs::{NeededTypes, TypeRoot, WorldSide};
+use crate::parts::number_named;
+use crate::type_roots::needed_types;
+use crate::types::{cite_of, typed_name};
+use crate::wanted::{Wanted, What};
 use std::alloc::{AllocError, Global};
-use wc_gc::GcFault;
 use wc_resolve::WorldKey;
-use wc_tree::TreeImport;
-use wc_why::WorldSide;
-use wc_world::{ComponentWorld, WorldAdapter};
+use wc_why::{Target, TreeImport};
+use wc_world::{ComponentWorld, ImportedInterface, WorldAdapter};
 
 /// An interface that is imported for its types alone, and what needs the one of them that is live first.
 #[derive(Drop)]
@@ -30,6 +35,15 @@ pub(crate) struct FoundTyped<'a> {
     /// The name of the type, if it has one.
     pub(crate) ty: Option<&'a str>,
     pub(crate) end: FoundEnd<'a>,
+}
+
+/// How interfaces that are imported for their types alone are found.
+#[derive(Clone, Copy)]
+struct Typing<'s, 'a> {
+    world: &'a ComponentWorld<'a>,
+    key: &'s str,
+    needed: &'s NeededTypes<'a>,
+    modules: &'s Modules<'a>,
 }
 
 /// The end of a path for types: what needs the type.
@@ -47,42 +61,134 @@ pub(crate) enum FoundEnd<'a> {
     Library(usize, TreeImport<'a>),
 }
 
-/// The interfaces that were found, in order.
-#[derive(Drop)]
-pub(crate) struct FoundTypes<'a> {
-    pub(crate) list: Vec<FoundTyped<'a>>,
+/// Appends the interfaces that are asked about and imported for their types alone, in the world's order.
+pub(crate) fn put_typed<'a>(
+    alloc: Global,
+    world: &'a ComponentWorld<'a>,
+    key: &str,
+    modules: &'a Modules<'a>,
+    wanted: &mut Vec<Wanted<'a>>,
+) -> Result<(), AllocError>
+    requires { AreModulesOf (world_view world.now) modules.now }
+    ensures { let m = modules.now in OnOk result (Finds wanted.old.items wanted.new.items
+        (typed_in (world_view world.now) key.now (main_view m.main) (codes_in m))) }
+{
+    let found = needed_types(alloc, world)?;
+    for (name, imported) in world.import_map.iter() {
+        let typing = Typing {
+            world,
+            key,
+            needed: &found.needed,
+            modules,
+        };
+        put_if_typed(alloc, typing, (name, imported), wanted)?;
+    }
+    Ok(())
 }
 
-impl<'a> TypedForm<'a> for FoundTypes<'a> {
-    ghost use Rattle.std.specs.Prelude.{[], ◌∷◌, map};
-    ghost use Rattle.wc_ways.specs.Private.TypedFound.{AreTypedFound, TypedView, typed_view};
+/// Appends an interface, if it is asked about and imported for its types alone.
+fn put_if_typed<'a>(
+    alloc: Global,
+    typing: Typing<'_, 'a>,
+    import: (&'a Option<String>, &'a ImportedInterface),
+    wanted: &mut Vec<Wanted<'a>>,
+) -> Result<(), AllocError>
+    requires modules { AreModulesOf (world_view typing.world.now) typing.modules.now }
+    requires needed { AreNeededIn (world_view typing.world.now) typing.needed.now }
+    ensures { let t = typing.entry in let m = t.modules.now in OnOk result
+        (Finds wanted.old.items wanted.new.items (option_to_list (typed_if (world_view t.world.now)
+        t.key.now (main_view m.main) (codes_in m) (imported_shown import.entry)))) }
+{
+    let Some((interface, id)) = typed_name(typing.world, typing.key, import.0, import.1) else {
+        return Ok(());
+    };
+    let cite = cite_of(typing.world, typing.needed, id);
+    let end = end_of(alloc, typing.world, cite.root)?;
+    let target = target_of(typing.modules, &end);
+    let typed = FoundTyped {
+        interface,
+        ty: cite.name,
+        end,
+    };
+    wanted.push(Wanted {
+        what: What::Types(typed),
+        target,
+    })?;
+    Ok(())
+}
 
-    ghost Part = { TypedView };
+/// The item at which a path for types ends; one that isn't there, where it ends at none.
+fn target_of(modules: &Modules<'_>, end: &FoundEnd<'_>) -> Target
+    requires { AreAllRead modules.now }
+    ensures { result ≡ target_of
+        (main_view modules.now.main) (codes_in modules.now)
+        (end_view end.now) }
+{
+    match found_target(modules, end) {
+        Some(target) => target,
+        None => type_target(usize::MAX, usize::MAX),
+    }
+}
 
-    ghost Shown = { TypedView };
+/// The item at which a path for types ends, if it ends at one.
+fn found_target(modules: &Modules<'_>, end: &FoundEnd<'_>) -> Option<Target>
+    requires { AreAllRead modules.now }
+    ensures { result ≡ target_by (main_view modules.now.main) (codes_in modules.now)
+        (end_view end.now) }
+{
+    match end {
+        FoundEnd::Main(import) => main_target(modules, *import),
+        FoundEnd::Adapter(part, import) => adapter_target(modules, *part, *import),
+        FoundEnd::Nowhere | FoundEnd::World { .. } | FoundEnd::Library(_, _) => None,
+    }
+}
 
-    ghost shown = { λ marks v. v ∷ [] };
+/// An item at which a path for types ends: it isn't asked about.
+fn type_target(part: usize, item: usize) -> Target
+    ensures { result ≡ type_target part item }
+{
+    Target {
+        part,
+        item,
+        is_asked: false,
+    }
+}
 
-    ghost printed = { λ g. map typed_view g.list.items };
+/// The item of an import of the main module.
+fn main_target(modules: &Modules<'_>, import: TreeImport<'_>) -> Option<Target>
+    requires { AreAllRead modules.now }
+    ensures { result ≡ main_target
+        (main_view modules.now.main) (tree_import_view import.entry) }
+{
+    match number_named(main_rows(&modules.main), &modules.places, import) {
+        Some(item) => Some(type_target(0, item)),
+        None => None,
+    }
+}
 
-    ghost before = { λ _. [] };
+/// The item of an import of an adapter.
+fn adapter_target(modules: &Modules<'_>, part: usize, import: TreeImport<'_>) -> Option<Target>
+    requires { AreAllRead modules.now }
+    ensures { result ≡ adapter_target
+        (codes_in modules.now) part (tree_import_view import.entry) }
+{
+    if part == 0 {
+        return None;
+    }
+    match modules.adapters.get(part - 1) {
+        Some(adapter) => target_in(adapter, part, import),
+        None => None,
+    }
+}
 
-    ghost typed = { AreTypedFound };
-
-    fn put_typed(
-        &mut self,
-        alloc: Global,
-        main: &MainModule<'a>,
-        interface: &'a str,
-        cite: TypeCite<'a>,
-    ) -> Result<(), GcFault> {
-        let end = end_of(alloc, main.world, cite.root)?;
-        self.list.push(FoundTyped {
-            interface,
-            ty: cite.name,
-            end,
-        })?;
-        Ok(())
+/// The item of an import of an adapter that is this part.
+fn target_in(adapter: &AdapterModule<'_>, part: usize, import: TreeImport<'_>) -> Option<Target>
+    requires { IsPlaced adapter.now }
+    ensures { result ≡ target_in part (code_in adapter.now) (tree_import_view import.entry) }
+{
+    match number_named(&adapter.rows, &adapter.places, import) {
+        Some(item) => Some(type_target(part, item)),
+        None => None,
     }
 }
 
@@ -92,8 +198,8 @@ fn end_of<'a>(
     world: &'a ComponentWorld<'a>,
     root: Option<TypeRoot<'a>>,
 ) -> Result<FoundEnd<'a>, AllocError>
-    ensures { IfOk result (λ e. IsEndFor (world_view world.now) (option_map root_view root.entry)
-        (end_view e)) }
+    ensures { IfOk result (λ e. end_view e
+        ≡ end_for (world_view world.now) (option_map root_view root.entry)) }
 {
     match root {
         Some(root) => end_of_root(alloc, world, root),
@@ -107,8 +213,8 @@ fn end_of_root<'a>(
     world: &'a ComponentWorld<'a>,
     root: TypeRoot<'a>,
 ) -> Result<FoundEnd<'a>, AllocError>
-    ensures { IfOk result (λ e. IsEndOfRoot (world_view world.now) (root_view root.entry)
-        (end_view e)) }
+    ensures { IfOk result (λ e. end_view e
+        ≡ end_of_root (world_view world.now) (root_view root.entry)) }
 {
     match root {
         TypeRoot::Import {
@@ -143,8 +249,8 @@ fn end_at_import<'a>(
     adapter: Option<&str>,
     import: TreeImport<'a>,
 ) -> Result<FoundEnd<'a>, AllocError>
-    ensures { IfOk result (λ e. IsEndAt (world_view world.now) (option_map text_of adapter.entry)
-        (tree_import_view import.entry) (end_view e)) }
+    ensures { IfOk result (λ e. end_view e ≡ end_at (world_view world.now)
+        (option_map text_of adapter.entry) (tree_import_view import.entry)) }
 {
     match adapter {
         Some(name) => end_in_adapter(world, name, import),
@@ -158,8 +264,8 @@ fn end_in_adapter<'a>(
     name: &str,
     import: TreeImport<'a>,
 ) -> Result<FoundEnd<'a>, AllocError>
-    ensures { IfOk result (λ e. IsEndInAdapter (world_view world.now) name.now
-        (tree_import_view import.entry) (end_view e)) }
+    ensures { IfOk result (λ e. end_view e ≡ end_at (world_view world.now)
+        (Some name.now) (tree_import_view import.entry)) }
 {
     match world.adapters.get_full(name) {
         Some((index, _name, adapter)) => {

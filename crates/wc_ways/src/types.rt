@@ -1,29 +1,22 @@
 //! The interfaces that a component imports for their types alone.
 
-ghost use Rattle.std.specs.Prelude.{◌≡◌, IfErr, IfOk, OnOk, string_bytes};
+ghost use Rattle.std.specs.Prelude.{◌≡◌, IfOk, OnOk, string_bytes};
 ghost use Rattle.std.specs.Option.{option_map, option_to_list};
-ghost use Rattle.wc_world.specs.Nameable.{AreNameable};
 ghost use Rattle.wc_resolve.specs.Roots.{id_index};
-ghost use Rattle.wc_why.specs.Paths.{text_of};
+ghost use Rattle.wc_why.specs.Texts.{text_of};
 ghost use Rattle.wc_world.specs.WorldViews.{imported_view, live_view, world_view};
 ghost use Rattle.wc_ways.specs.Tags.{all_key};
-ghost use Rattle.wc_ways.specs.Said.{AreTypesSaid, IsTypedSaid};
-ghost use Rattle.wc_tree.specs.Said.{Says};
 ghost use Rattle.wc_resolve.specs.WellFormed.{type_name};
 ghost use Rattle.wc_ways.specs.Types.{cite, first_live, has_live_types, root_user, typed_name, user_in};
-ghost use Rattle.wc_ways.specs.WaysFaults.{IsWaysFault};
 ghost use Rattle.wc_summary.specs.Entries.{entries_view};
-ghost use Rattle.wc_ways.specs.Private.MainWays.{IsFollowedIn, key_of, marks_in, world_of};
 ghost use Rattle.wc_ways.specs.Private.Needs.{AreNeededIn, cite_view, root_view};
-ghost use Rattle.wc_ways.specs.Private.Notes.{NotesTyped, NotesTypes, imported_shown};
+ghost use Rattle.wc_ways.specs.Private.AskedKeys.{imported_shown};
+ghost use Rattle.wc_ways.specs.Private.Notes.{NotesTyped, NotesTypes};
 
 use crate::asked::{is_asked, key_text};
-use crate::modules::MainModule;
 use crate::needs::{NeededTypes, TypeRoot, root_of};
 use crate::type_roots::needed_types;
-use crate::typed_forms::TypedForm;
 use std::alloc::{AllocError, Global};
-use wc_gc::GcFault;
 use wc_maps::{Map, Set};
 use wc_resolve::{InterfaceId, Resolve, TypeId};
 use wc_summary::{Entries, place_of, set_types};
@@ -37,75 +30,9 @@ pub(crate) struct TypeCite<'a> {
     pub(crate) root: Option<TypeRoot<'a>>,
 }
 
-/// Says which interfaces that are asked about are imported for their types alone, in the world's order.
-pub(crate) fn put_types<'a, F: TypedForm<'a>>(
-    alloc: Global,
-    main: &MainModule<'a>,
-    out: &mut F,
-) -> Result<(), GcFault>
-    requires nameable { AreNameable (world_of main.now) }
-    requires main { IsFollowedIn main.now }
-    ensures said { OnOk result (Says (F.shown (marks_in main.now))
-        (AreTypesSaid F.typed (world_of main.now) (key_of main.now))
-        (F.printed out.old) (F.printed out.new)) }
-    ensures kept { OnOk result (F.before out.new ≡ F.before out.old) }
-    ensures fault { IfErr result (IsWaysFault (world_of main.now)) }
-{
-    let found = needed_types(alloc, main.world)?;
-    put_all_typed(alloc, main, &found.needed, out)
-}
-
-/// Says it of all of them.
-fn put_all_typed<'a, F: TypedForm<'a>>(
-    alloc: Global,
-    main: &MainModule<'a>,
-    needed: &NeededTypes<'a>,
-    out: &mut F,
-) -> Result<(), GcFault>
-    requires nameable { AreNameable (world_of main.now) }
-    requires main { IsFollowedIn main.now }
-    requires needed { AreNeededIn (world_of main.now) needed.now }
-    ensures said { OnOk result (Says (F.shown (marks_in main.now))
-        (AreTypesSaid F.typed (world_of main.now) (key_of main.now))
-        (F.printed out.old) (F.printed out.new)) }
-    ensures kept { OnOk result (F.before out.new ≡ F.before out.old) }
-    ensures fault { IfErr result (IsWaysFault (world_of main.now)) }
-{
-    for (name, imported) in main.world.import_map.iter() {
-        put_if_typed(alloc, main, needed, (name, imported), out)?;
-    }
-    Ok(())
-}
-
-/// Says it of an interface, if it is asked about and imported for its types alone.
-fn put_if_typed<'a, F: TypedForm<'a>>(
-    alloc: Global,
-    main: &MainModule<'a>,
-    needed: &NeededTypes<'a>,
-    imported: (&'a Option<String>, &'a ImportedInterface),
-    out: &mut F,
-) -> Result<(), GcFault>
-    requires nameable { AreNameable (world_of main.now) }
-    requires main { IsFollowedIn main.now }
-    requires needed { AreNeededIn (world_of main.now) needed.now }
-    ensures said { OnOk result (Says (F.shown (marks_in main.now))
-        (IsTypedSaid F.typed (world_of main.now) (key_of main.now) (imported_shown imported.entry))
-        (F.printed out.old) (F.printed out.new)) }
-    ensures kept { OnOk result (F.before out.new ≡ F.before out.old) }
-    ensures fault { IfErr result (IsWaysFault (world_of main.now)) }
-{
-    match typed_name(main.world, main.key, imported.0, imported.1) {
-        Some((name, id)) => {
-            let cite = cite_of(main.world, needed, id);
-            out.put_typed(alloc, main, name, cite)
-        }
-        None => Ok(()),
-    }
-}
-
-/// The name and the id of an interface that is asked about, if no function of it is imported and none of its resources
-/// is dropped, but some of its types are live.
-fn typed_name<'a>(
+/// The name and the id of an interface that is asked about, if no function of it is imported and none of its resources is dropped, but
+/// types of it are live.
+pub(crate) fn typed_name<'a>(
     world: &ComponentWorld<'_>,
     key: &str,
     name: &'a Option<String>,
@@ -137,7 +64,7 @@ fn has_live_types(live: &Map<InterfaceId, Set<TypeId>>, id: InterfaceId) -> bool
 }
 
 /// Why an interface is imported for its types.
-fn cite_of<'a>(
+pub(crate) fn cite_of<'a>(
     world: &'a ComponentWorld<'_>,
     needed: &NeededTypes<'a>,
     id: InterfaceId,

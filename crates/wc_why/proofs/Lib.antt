@@ -1,5 +1,15 @@
-pub mod JoinedLemmas
-pub mod PathLemmas
-pub mod CallerLemmas
-pub mod ItemLemmas
-pub mod TokenLemmas
+mod ViewLemmas
+mod RowLemmas
+mod TransportLemmas
+mod NumberLemmas
+mod GraphLemmas
+mod LinkLemmas
+mod FoundLemmas
+mod PathLemmas
+mod ListLemmas
+mod PositionLemmas
+mod FirstLemmas
+mod LaidLemmas
+mod MarkLemmas
+mod ComponentLemmas
+mod ModuleLemmas

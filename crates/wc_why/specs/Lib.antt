@@ -1,9 +1,10 @@
-pub mod Keys
 pub mod Texts
+pub mod Keys
+pub mod Tree
+pub mod Rows
+pub mod Part
+pub mod Graph
 pub mod Paths
-pub mod Lines
-pub mod JsonPaths
-pub mod MarkedPaths
-pub mod MarkedSteps
-pub mod Joined
+pub mod Lists
+pub mod Component
 pub mod Private

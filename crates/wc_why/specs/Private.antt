@@ -1,2 +1,13 @@
--- Words of contracts of private functions. No contract of a public function cites these, directly or through others.
-pub mod Tokens
+pub mod Rows
+pub mod Numbers
+pub mod Graph
+pub mod Components
+pub mod Found
+pub mod Lists
+pub mod PathTree
+pub mod Marks
+pub mod Roots
+pub mod Positions
+pub mod Modules
+pub mod Layout
+pub mod Ends

@@ -1,28 +1,22 @@
--- Texts from outside, as words of a line, and between the quotes of a graph.
-use Rattle.std.specs.Prelude.{ℕ, ◌==◌, List, ◌++◌, cond, codes}
-use Rattle.std.specs.Char.{encode_utf8}
-use Rattle.std.specs.List.{flat_map}
-use Rattle.std.specs.Str.{chars}
-use Rattle.wc_texts.specs.Escape.{escaped}
+-- Texts, and names of functions.
+use Rattle.std.specs.Prelude.{ℕ, ◌^◌, List, nat_eq, nat_lt, cond, Option, None}
+use Rattle.std.specs.Borrow.{Bor}
+use Rattle.std.specs.Map.{lookup}
+use Rattle.wc_read.specs.Names.{GlobalNameValue}
+use Rattle.wc_read.specs.declared.operators.Space.TheVariants.{Funcs}
+use Rattle.wc_paths.specs.declared.items.PathItem.{PathItem}
+use Rattle.wc_paths.specs.declared.items.PathItem.TheVariants.{Item, Elements, Data}
 
--- a blank as `\u{20}`
-abbrev pub word_char : ℕ → List ℕ
-word_char c = cond (c == 32) (codes "\\u{20}") (encode_utf8 c)
+abbrev pub text_of : Bor (List ℕ) → List ℕ
+text_of t = t.now
 
--- a text, escaped, without blanks: so it ends at the next blank
-unfoldable pub word : List ℕ → List ℕ
-word text = flat_map word_char (chars (escaped text))
+-- the name of a function by its index; an index past 32 bits has none
+abbrev pub name_at : List GlobalNameValue → ℕ → Option (List ℕ)
+name_at names n = cond (nat_lt n (2 ^ 32)) (lookup (nat_eq n) names) None
 
-abbrev pub two_words : List ℕ → List ℕ → List ℕ
-two_words first second = word first ++ (codes " " ++ word second)
-
--- what Graphviz reads between quotes as this character: it takes a backslash for the begin of an escape sequence, a quote for
--- the end, and an ampersand for the begin of an entity
-abbrev pub graph_char : ℕ → List ℕ
-graph_char c =
-    cond (c == 92) (codes "\\\\")
-    (cond (c == 34) (codes "\\\"")
-    (cond (c == 38) (codes "&amp;") (encode_utf8 c)))
-
-unfoldable pub graph_text : List ℕ → List ℕ
-graph_text text = flat_map graph_char (chars text)
+-- the name of an item that is a function
+abbrev pub name_of : List GlobalNameValue → PathItem → Option (List ℕ)
+name_of names (Item Funcs n) = name_at names n
+name_of names (Item space n) = None
+name_of names (Elements n) = None
+name_of names (Data n) = None

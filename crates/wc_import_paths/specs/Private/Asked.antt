@@ -8,7 +8,7 @@ use Rattle.wc_texts.specs.Splits.{split_once}
 use Rattle.wc_read.specs.Imports.{ImportValue}
 use Rattle.wc_texts.specs.Characters.{slash}
 use Rattle.wc_why.specs.Keys.{Halves, unversioned_text, version_of}
-use Rattle.wc_why.specs.Paths.{text_of}
+use Rattle.wc_why.specs.Texts.{text_of}
 use Rattle.wc_import_paths.specs.Patterns.{PatternView}
 use Rattle.wc_import_paths.specs.declared.asked.PatternKey.{PatternKey}
 

@@ -1,57 +1,49 @@
 -- What modules import, as the code notes it.
-use Rattle.std.specs.Prelude.{◌≡◌, ℕ, List, [], ◌∷◌, Bool, ◌||◌, is_some, map, Option, Some, None, String}
+use Rattle.std.specs.Prelude.{◌≡◌, ℕ, List, [], ◌∷◌, Bool, ◌&&◌, ◌||◌, not, is_some, map, Option, Some, None, String}
 use Rattle.std.specs.List.{list_any}
 use Rattle.std.specs.Map.{lookup}
 use Rattle.std.specs.Str.{bytes_eq}
 use Rattle.std.specs.declared.alloc.Global.{Global}
 use Rattle.wc_read.specs.Imports.{ImportValue}
-use Rattle.wc_read.specs.Names.{GlobalNameValue}
-use Rattle.wc_segments.specs.Segments.{SegmentsValue, segments_value}
+use Rattle.wc_gc.specs.LiveChains.{AreImportChains}
+use Rattle.wc_gc.specs.declared.import_chains.ImportChains.{ImportChains}
 use Rattle.wc_summary.specs.Entries.{EntriesView}
 use Rattle.wc_summary.specs.Leads.{Tags}
 use Rattle.wc_summary.specs.Notes.{NotesAdapterModule, NotesMainModule, NotesParts}
+use Rattle.wc_maps.specs.Texts.{is_in}
 use Rattle.wc_texts.specs.Names.{named_view}
-use Rattle.wc_import_paths.specs.Followed.{AreNamesIn}
+use Rattle.wc_import_paths.specs.MainModules.{MainView, code_of, segments_of}
 use Rattle.wc_module_ways.specs.Adapters.{AdapterView, Given}
 use Rattle.wc_module_ways.specs.Imports.{AreAdapterTags, AreFound, AreParts, adapter_by, main_tags, tag_if}
-use Rattle.wc_module_ways.specs.Functions.{AreFunctions}
-use Rattle.wc_module_ways.specs.MainModules.{module_of}
+use Rattle.wc_module_ways.specs.NameLists.{AreListed, NameLists}
+use Rattle.wc_module_ways.specs.Names.{function_pairs}
 use Rattle.wc_module_ways.specs.Modules.{is_of_adapter}
-use Rattle.wc_module_ways.specs.declared.functions.Functions.{Functions}
-use Rattle.wc_module_ways.specs.declared.main_module.MainModule.{MainModule}
-use Rattle.wc_module_ways.specs.declared.main_module.MainModule.TheVariants.{Whole, Unread}
 
--- the names of the functions of a main module that was read
-abbrev pub AreMainNames : MainModule → List GlobalNameValue → Type 0
-AreMainNames (Whole f) names = AreNamesIn f names
-AreMainNames (Unread code why) names = names ≡ []
-
--- its segments, if it can be followed
-abbrev pub segments_in : MainModule → Option SegmentsValue
-segments_in (Whole f) = Some (segments_value f.segments)
-segments_in (Unread code why) = None
-
--- what it imports is noted
-abbrev pub NotesMainOf : MainModule → List Given → EntriesView → EntriesView → Type 0
-NotesMainOf p given old new = NotesMainModule (module_of p) (segments_in p) (main_tags given (module_of p).imports) old new
+-- what a main module imports is noted
+abbrev pub NotesMainOf : MainView → List Given → EntriesView → EntriesView → Type 0
+NotesMainOf v given old new = NotesMainModule (code_of v) (segments_of v) (main_tags given (code_of v).imports) old new
 
 -- what adapters import is noted, in order
 abbrev pub NotesAdaptersOf : List ImportValue → List AdapterView → EntriesView → EntriesView → Type 0
 NotesAdaptersOf imports adapters old new = NotesParts (AreFound adapters) (AreParts imports adapters) old new
 
+-- the chains from what is required of an adapter were found
+abbrev pub AreChainsOf : AdapterView → ImportChains → Type 0
+AreChainsOf a chains = AreImportChains a.required a.code chains
+
 -- what an adapter imports is noted, by the functions that the main module imports
 abbrev pub NotesThis : List ImportValue → AdapterView → EntriesView → EntriesView → Type 0
 NotesThis imports a old new = (tags : Tags) × AreAdapterTags a tags × NotesAdapterModule (adapter_by imports a tags) old new
 
-abbrev pub NotesFor : Functions → AdapterView → EntriesView → EntriesView → Type 0
-NotesFor f a old new = (imports : List ImportValue) → AreFunctions imports f → NotesThis imports a old new
+abbrev pub NotesFor : NameLists → AdapterView → EntriesView → EntriesView → Type 0
+NotesFor lists a old new = (imports : List ImportValue) → AreListed (function_pairs imports) lists → NotesThis imports a old new
 
--- names are the keys of a map
+-- names, but those that are always needed, are the keys of a map
 abbrev pub has_key : List (String Global × Unit {0}) → List ℕ → Bool
 has_key entries name = is_some (lookup (bytes_eq name) (map named_view entries))
 
-abbrev pub AreWanted : List (List ℕ) → List (String Global × Unit {0}) → Type 0
-AreWanted names entries = (e : List ℕ) → has_key entries e ≡ list_any (bytes_eq e) names
+abbrev pub AreWanted : List (List ℕ) → List (List ℕ) → List (String Global × Unit {0}) → Type 0
+AreWanted always names entries = (e : List ℕ) → has_key entries e ≡ (not (is_in always e) && list_any (bytes_eq e) names)
 
 -- a name was noted
 abbrev pub NotesWanted : List ℕ → List (String Global × Unit {0}) → List (String Global × Unit {0}) → Type 0

@@ -3,13 +3,13 @@ use Rattle.std.specs.Prelude.{List, map}
 use Rattle.wc_read.specs.Imports.{ImportValue}
 use Rattle.wc_module_ways.specs.AdapterNames.{HasNames}
 use Rattle.wc_module_ways.specs.Adapters.{AreAdapters, adapter_view}
-use Rattle.wc_module_ways.specs.Functions.{AreFunctions}
+use Rattle.wc_module_ways.specs.NameLists.{AreListed}
 use Rattle.wc_module_ways.specs.Modules.{InputView}
 use Rattle.wc_module_ways.specs.Names.{function_pairs}
 use Rattle.wc_module_ways.specs.declared.modules.Others.{Others}
 
 -- of an input, for a main module with these imports
 pub record AreOthers (i : InputView) (imports : List ImportValue) (o : Others) : Type 0 where
-  pub functions : AreFunctions imports o.functions
+  pub functions : AreListed (function_pairs imports) o.functions.entries
   pub adapters : AreAdapters (function_pairs imports) i.adapter_exports i.adapters (map adapter_view o.adapters.items)
   pub names : HasNames i.adapters o.names.keys

@@ -7,7 +7,7 @@ use Rattle.wc_resolve.specs.Roots.{function_roots, interface_roots}
 use Rattle.wc_resolve.specs.Views.{InterfaceView, key_view}
 use Rattle.wc_texts.specs.Names.{under_name}
 use Rattle.wc_resolve.specs.declared.ids.TypeId.{TypeId}
-use Rattle.wc_why.specs.Paths.{text_of}
+use Rattle.wc_why.specs.Texts.{text_of}
 use Rattle.wc_world.specs.Views.{ComponentWorldView}
 use Rattle.wc_ways.specs.TypeRoots.{Needs, TypeRoot, first_root, needs, needs_of, of_import, of_item}
 use Rattle.wc_ways.specs.Types.{TypeCite}

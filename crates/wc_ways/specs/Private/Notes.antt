@@ -1,13 +1,9 @@
 -- What is noted of each interface of a component, by adapters and by types.
-use Rattle.std.specs.Prelude.{◌≡◌, ℕ, List, Option, String, string_bytes}
-use Rattle.std.specs.Borrow.{Bor}
-use Rattle.std.specs.declared.alloc.Global.{Global}
+use Rattle.std.specs.Prelude.{◌≡◌, ℕ, List, Option}
 use Rattle.std.specs.Map.{keys_of, lookup}
 use Rattle.std.specs.Option.{option_map}
 use Rattle.std.specs.Str.{bytes_eq}
-use Rattle.wc_world.specs.Views.{ComponentWorldView, ImportedView}
-use Rattle.wc_world.specs.WorldViews.{imported_view}
-use Rattle.wc_world.specs.declared.imported.ImportedInterface.{ImportedInterface}
+use Rattle.wc_world.specs.Views.{ComponentWorldView}
 use Rattle.wc_ways.specs.Imports.{AreInterfacesIn, AreParts, typed_in}
 use Rattle.wc_summary.specs.Summary.{AdapterPartView}
 use Rattle.wc_ways.specs.Types.{user_in}
@@ -27,7 +23,3 @@ pub record NotesTyped (user : ℕ → Option (List ℕ)) (typed : List (List ℕ
 
 abbrev pub NotesTypes : ComponentWorldView → EntriesView → EntriesView → Type 0
 NotesTypes w old new = NotesTyped (user_in w) (typed_in w) old new
-
--- an interface under its name
-abbrev pub imported_shown : Bor (Option (String Global)) × Bor ImportedInterface → Option (List ℕ) × ImportedView
-imported_shown x = (option_map string_bytes x.0.now, imported_view x.1.now)

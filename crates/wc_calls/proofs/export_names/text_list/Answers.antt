@@ -1,6 +1,6 @@
 use Rattle.std.proofs.Common.{◌∙◌, ap, map}
 use Rattle.std.specs.Str.{IsUtf8}
-use Rattle.wc_why.specs.Paths.{text_of}
+use Rattle.wc_why.specs.Texts.{text_of}
 use Rattle.wc_calls.proofs.ExportNameLemmas.{list_more, read_text, text_at, text_read}
 use Rattle.wc_calls.proofs.export_names.text_list.Goals as goal
 

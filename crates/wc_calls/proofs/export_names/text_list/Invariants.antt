@@ -1,5 +1,5 @@
 use Rattle.std.proofs.Common.{◌≡◌, map, take}
-use Rattle.wc_why.specs.Paths.{text_of}
+use Rattle.wc_why.specs.Texts.{text_of}
 use Rattle.wc_calls.specs.ExportNames.{texts}
 use Rattle.wc_calls.proofs.export_names.text_list.Given as goal
 

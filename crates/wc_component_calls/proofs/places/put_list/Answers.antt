@@ -1,8 +1,8 @@
 use Rattle.std.proofs.Common.{◌≡◌, ◌∙◌, ◌∷◌, [], List, ℕ, ap, arith, codes, length, string_bytes, subst}
 use Rattle.json.specs.Json.{string}
 use Rattle.json.specs.Token.{string as token}
-use Rattle.wc_why.specs.Private.Tokens.{Puts}
-use Rattle.wc_why.proofs.TokenLemmas.{both, list_done, list_more, wrote, wrote_last}
+use Rattle.wc_why_text.specs.Private.Tokens.{Puts}
+use Rattle.wc_why_text.proofs.TokenLemmas.{both, list_done, list_more, wrote, wrote_last}
 use Rattle.wc_component_calls.proofs.places.put_list.Goals as goal
 
 pub loop-import-init : goal.loop-import-init

@@ -1,7 +1,7 @@
 use Rattle.std.proofs.Common.{codes, string_bytes}
 use Rattle.json.specs.Json.{string}
-use Rattle.wc_why.specs.Private.Tokens.{Puts}
-use Rattle.wc_why.proofs.TokenLemmas.{so_far}
+use Rattle.wc_why_text.specs.Private.Tokens.{Puts}
+use Rattle.wc_why_text.proofs.TokenLemmas.{so_far}
 use Rattle.wc_component_calls.proofs.places.put_list.Given as goal
 
 abbrev pub invariant-loop-import : goal.invariant-loop-import

@@ -1,5 +1,5 @@
 use Rattle.std.proofs.Common.{None, Some, option_map, refl}
-use Rattle.wc_why.specs.Paths.{text_of}
+use Rattle.wc_why.specs.Texts.{text_of}
 use Rattle.wc_import_paths.specs.declared.asked.PatternKey.{PatternKey}
 use Rattle.wc_import_paths.proofs.AskedLemmas.{named_added}
 use Rattle.wc_import_paths.proofs.asked.add_named.Goals as goal

@@ -1,7 +1,8 @@
 use Rattle.std.proofs.Common.{◌∙◌, ◌||◌, [], None, ap, get_or, sym}
 use Rattle.wc_import_paths.specs.Patterns.{pattern_view}
 use Rattle.wc_import_paths.specs.Private.Asked.{in_set, is_same, key_of, key_view}
-use Rattle.wc_import_paths.proofs.AskedLemmas.{any_next, one_added}
+use Rattle.wc_import_paths.proofs.AskedLemmas.{one_added}
+use Rattle.wc_import_paths.proofs.SearchLemmas.{any_next}
 use Rattle.wc_import_paths.specs.declared.patterns.ImportPattern.{ImportPattern}
 use Rattle.wc_import_paths.proofs.asked.set_of.Goals as goal
 

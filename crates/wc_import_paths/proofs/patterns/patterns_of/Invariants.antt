@@ -1,5 +1,5 @@
 use Rattle.std.proofs.Common.{◌≡◌, map, take}
-use Rattle.wc_why.specs.Paths.{text_of}
+use Rattle.wc_why.specs.Texts.{text_of}
 use Rattle.wc_import_paths.specs.Patterns.{pattern_of, pattern_view}
 use Rattle.wc_import_paths.proofs.patterns.patterns_of.Given as goal
 

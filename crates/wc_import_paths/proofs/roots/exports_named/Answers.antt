@@ -2,7 +2,7 @@ use Rattle.std.proofs.Common.{◌∙◌, ap, map, sym}
 use Rattle.std.specs.Option.{option_map}
 use Rattle.wc_read.specs.Exports.{export_value}
 use Rattle.wc_gc.specs.Exports.{export_entries}
-use Rattle.wc_why.specs.Paths.{text_of}
+use Rattle.wc_why.specs.Texts.{text_of}
 use Rattle.wc_import_paths.proofs.RootLemmas.{found_more, is_missing, missing_fault, still_there}
 use Rattle.wc_import_paths.proofs.roots.exports_named.Goals as goal
 

@@ -1,7 +1,7 @@
 use Rattle.std.proofs.Common.{◌≡◌, None, map, take}
 use Rattle.wc_read.specs.Exports.{export_value}
 use Rattle.wc_gc.specs.Exports.{export_entries, missing_name}
-use Rattle.wc_why.specs.Paths.{text_of}
+use Rattle.wc_why.specs.Texts.{text_of}
 use Rattle.wc_import_paths.specs.Roots.{exports_named}
 use Rattle.wc_import_paths.proofs.roots.exports_named.Given as goal
 

@@ -1,5 +1,5 @@
 use Rattle.std.proofs.Common.{◌∙◌, ap, map, sym}
-use Rattle.wc_why.specs.Paths.{text_of}
+use Rattle.wc_why.specs.Texts.{text_of}
 use Rattle.wc_module_ways.proofs.NameListLemmas.{listed_none, listed_there}
 use Rattle.wc_module_ways.proofs.adapters.names_at.Goals as goal
 

@@ -1,8 +1,7 @@
 use Rattle.std.proofs.Common.{◌∙◌, map, refl, sym}
 use Rattle.wc_gc.specs.LiveItems.{names_of}
 use Rattle.wc_read.specs.Modules.{module_value}
-use Rattle.wc_read.specs.Names.{name_entries}
-use Rattle.wc_why.specs.Paths.{text_of}
+use Rattle.wc_why.specs.Texts.{text_of}
 use Rattle.wc_module_ways.specs.Adapters.{AdapterView, given_view}
 use Rattle.wc_module_ways.proofs.ModuleLemmas.{adapter_left, adapter_there}
 use Rattle.wc_module_ways.proofs.adapters.read_adapter.Goals as goal
@@ -19,9 +18,9 @@ returns-clause-adapter c imported asked one other =
       name = c.args.given.0.now;
       bytes = c.args.given.1.now;
       code = module_value c.in_ok-code.code;
-      names = name_entries c.in_ok-names.names;
       required = names_of c.in_ok-required.required.keys;
+      always = map text_of c.in_ok-always.always.items;
     } in
     adapter_there imported asked (given_view c.args.given) (map text_of c.names_at-imported.result.now) (map text_of c.names_at-asked.result.now)
     (c.names_at-imported.ensures ∙ one c.args.given.0.now) (c.names_at-asked.ensures ∙ other c.args.given.0.now) made refl refl
-    c.in_ok-code.ensures.found c.in_ok-names.ensures c.in_ok-required.ensures (sym c.is_needed.ensures ∙ c.if-not-is_needed.false)
+    c.in_ok-code.ensures.found c.in_ok-required.ensures c.in_ok-always.ensures (sym c.is_needed.ensures ∙ c.if-not-is_needed.false)

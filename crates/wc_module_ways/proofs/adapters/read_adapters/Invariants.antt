@@ -1,5 +1,5 @@
 use Rattle.std.proofs.Common.{List, map}
-use Rattle.wc_why.specs.Joined.{AreJoined}
+use Rattle.wc_import_paths.specs.Joined.{AreJoined}
 use Rattle.wc_module_ways.specs.Adapters.{IsPartAt, adapter_view, given_view}
 use Rattle.wc_module_ways.specs.NameLists.{AreListed}
 use Rattle.wc_module_ways.specs.Names.{NamePair}

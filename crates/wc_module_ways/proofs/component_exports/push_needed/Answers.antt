@@ -1,9 +1,9 @@
 use Rattle.std.proofs.Common.{◌<◌, length, arith, map}
 use Rattle.wc_read.specs.Exports.{ExportValue, export_value}
 use Rattle.wc_read.specs.Modules.{module_value}
-use Rattle.wc_why.specs.Paths.{text_of}
+use Rattle.wc_why.specs.Texts.{text_of}
 use Rattle.wc_module_ways.specs.ComponentExports.{is_component_export}
-use Rattle.wc_module_ways.proofs.PickedLemmas.{put_more}
+use Rattle.wc_import_paths.proofs.PickedLemmas.{put_more}
 use Rattle.wc_module_ways.proofs.component_exports.push_needed.Goals as goal
 
 pub loop-export-preserved : goal.loop-export-preserved

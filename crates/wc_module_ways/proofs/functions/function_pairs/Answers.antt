@@ -1,7 +1,7 @@
 use Rattle.std.proofs.Common.{◌<◌, length, arith, map}
 use Rattle.wc_read.specs.Imports.{ImportValue, import_value}
 use Rattle.wc_module_ways.specs.Names.{NamePair, is_function, pair_view}
-use Rattle.wc_module_ways.proofs.PickedLemmas.{first_more}
+use Rattle.wc_import_paths.proofs.PickedLemmas.{first_more}
 use Rattle.wc_module_ways.proofs.functions.function_pairs.Goals as goal
 
 pub loop-import-preserved : goal.loop-import-preserved

@@ -6,4 +6,5 @@ use Rattle.wc_module_ways.proofs.imports.imports_json.Goals as goal
 
 pub returns-clause-json : goal.returns-clause-json
 returns-clause-json c =
-    json_is c.args.modules.now (name_entries c.in_ok-names.names) (map entry_view c.in_ok-entries.entries.entries) c.in_ok-json_of.field-0.items c.in_ok-names.ensures c.in_ok-entries.ensures.entries c.in_ok-json_of.ensures.0 c.in_ok-json_of.ensures.1
+    json_is c.args.modules.now (name_entries c.in_ok-names.names) (map entry_view c.in_ok-entries.entries.entries) c.in_ok-json_of.field-0.items
+    c.in_ok-names.ensures c.in_ok-entries.ensures.entries c.in_ok-json_of.ensures.0 c.in_ok-json_of.ensures.1

@@ -6,4 +6,5 @@ use Rattle.wc_module_ways.proofs.imports.imports_text.Goals as goal
 
 pub returns-clause-text : goal.returns-clause-text
 returns-clause-text c =
-    text_is c.args.modules.now (name_entries c.in_ok-names.names) (map entry_view c.in_ok-entries.entries.entries) (string_bytes c.in_ok-lines_of.field-0) c.in_ok-names.ensures c.in_ok-entries.ensures.entries c.in_ok-lines_of.ensures
+    text_is c.args.modules.now (name_entries c.in_ok-names.names) (map entry_view c.in_ok-entries.entries.entries) (string_bytes c.in_ok-lines_of.field-0)
+    c.in_ok-names.ensures c.in_ok-entries.ensures.entries c.in_ok-lines_of.ensures

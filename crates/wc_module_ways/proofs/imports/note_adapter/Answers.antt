@@ -1,4 +1,4 @@
-use Rattle.wc_why.proofs.ItemLemmas.{chains_of_read}
+use Rattle.wc_module_ways.proofs.ModuleLemmas.{chains_of_read}
 use Rattle.wc_module_ways.specs.Adapters.{adapter_view, search_input}
 use Rattle.wc_module_ways.proofs.ModuleLemmas.{this_refused}
 use Rattle.wc_module_ways.proofs.imports.note_adapter.Goals as goal

@@ -9,7 +9,7 @@ use Rattle.wc_summary.specs.Entries.{entries_view}
 use Rattle.wc_summary.specs.Leads.{Tags, tags_view}
 use Rattle.wc_summary.specs.Notes.{NotesMainModule}
 use Rattle.wc_module_ways.specs.Imports.{main_tags}
-use Rattle.wc_module_ways.specs.Private.Imports.{segments_in}
+use Rattle.wc_import_paths.specs.MainModules.{main_view, segments_of}
 use Rattle.wc_module_ways.proofs.imports.note_main.Goals as goal
 
 pub note_main_module-requires : goal.note_main_module-requires
@@ -27,7 +27,7 @@ returns c given has =
     ap tags_view c.deref-2.ensures.value
     ∙ (c.in_ok-tags.ensures.tags given has ∙ ap (λ (l : List Import). main_tags given (import_values l)) c.deref.ensures.value) in
     on_ok_weaker c.note_main_module.result
-    (λ n. subst (λ (v : ModuleValue). NotesMainModule v (segments_in p) (main_tags given v.imports) old new) c.code-code.ensures
-    (subst (λ (t : Tags). NotesMainModule m (segments_in p) t old new) tags
-    (subst (λ (s : Option SegmentsValue). NotesMainModule m s (tags_view c.deref-2.result.now) old new) c.segments_in.ensures n)))
+    (λ n. subst (λ (v : ModuleValue). NotesMainModule v (segments_of (main_view p)) (main_tags given v.imports) old new) c.code-code.ensures
+    (subst (λ (t : Tags). NotesMainModule m (segments_of (main_view p)) t old new) tags
+    (subst (λ (s : Option SegmentsValue). NotesMainModule m s (tags_view c.deref-2.result.now) old new) c.segments.ensures n)))
     c.note_main_module.ensures

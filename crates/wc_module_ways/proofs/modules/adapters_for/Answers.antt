@@ -1,7 +1,7 @@
 use Rattle.std.proofs.Common.{map}
-use Rattle.wc_module_ways.specs.Names.{function_pairs, pair_view}
+use Rattle.wc_module_ways.specs.Names.{pair_view}
 use Rattle.wc_module_ways.proofs.modules.adapters_for.Goals as goal
 
 pub returns-clause-adapters : goal.returns-clause-adapters
-returns-clause-adapters c imports are =
-    c.read_adapters.ensures.adapters (function_pairs imports) (map pair_view c.args.input.now.adapter_exports.now) are.names c.in_ok-asked.ensures
+returns-clause-adapters c imported are =
+    c.read_adapters.ensures.adapters imported (map pair_view c.args.input.now.adapter_exports.now) are c.in_ok-asked.ensures

@@ -2,8 +2,8 @@ use Rattle.std.proofs.Common.{◌∙◌, ◌++◌, ap, filter}
 use Rattle.wc_read.specs.Imports.{import_values}
 use Rattle.wc_module_ways.specs.Adapters.{adapter_view}
 use Rattle.wc_module_ways.specs.Modules.{imports_through, is_of_adapter}
-use Rattle.wc_module_ways.specs.declared.adapters.AdapterModule.{AdapterModule}
-use Rattle.wc_module_ways.proofs.PickedLemmas.{joined_more}
+use Rattle.wc_module_ways.specs.declared.adapter.AdapterModule.{AdapterModule}
+use Rattle.wc_import_paths.proofs.PickedLemmas.{joined_more}
 use Rattle.wc_module_ways.proofs.modules.push_all_imports.Goals as goal
 
 pub loop-adapter-preserved : goal.loop-adapter-preserved

@@ -1,7 +1,7 @@
 use Rattle.std.proofs.Common.{◌<◌, length, arith}
 use Rattle.wc_read.specs.Imports.{import_value, import_values}
 use Rattle.wc_module_ways.specs.Modules.{is_of_adapter}
-use Rattle.wc_module_ways.proofs.PickedLemmas.{kept_more}
+use Rattle.wc_import_paths.proofs.PickedLemmas.{kept_more}
 use Rattle.wc_module_ways.proofs.shared.push_adapter_imports.Goals as goal
 
 pub loop-import-preserved : goal.loop-import-preserved

@@ -1,16 +1,20 @@
-use Rattle.std.proofs.Common.{◌++◌, ◌∙◌, ap, map, refl}
-use Rattle.std.proofs.lemmas.List.{map-append}
-use Rattle.wc_tree.specs.Tree.{tree_module_view, tree_view, tree_way_view}
-use Rattle.wc_tree.specs.Found.{found_view}
+use Rattle.std.proofs.Common.{false, ap, map, subst}
+use Rattle.std.proofs.lemmas.Result.{IfOk-weaker}
+use Rattle.wc_why.specs.Part.{part_view}
+use Rattle.wc_why.specs.Tree.{tree_caller_view, tree_view}
+use Rattle.wc_import_paths.specs.Shown.{IsTreeTo, end_view}
 use Rattle.wc_module_ways.proofs.TreeLemmas.{tree_is}
 use Rattle.wc_module_ways.proofs.tree.tree_of.Goals as goal
 
 pub returns : goal.returns
 returns c =
-    let part = c.in_ok-part.part in
-    let rest = c.in_ok-tree.tree in
-    let made = c.in_ok-part.ensures in
-    tree_is c.args.modules.now c.args.asked.now (tree_module_view part.«module») part.places.entries (map tree_way_view part.ways.items)
-    (map found_view c.args.«found».now) (tree_view rest) _ c.requires.modules made.main made.wanted made.ways c.requires.«found» c.in_ok-tree.ensures refl
-    (ap (map tree_way_view) (c.in_ok-extend_from_slice.ensures.items ∙ ap (λ z. part.ways.items ++ z) c.deref.ensures.value)
-    ∙ map-append tree_way_view part.ways.items rest.ways.items)
+    let m = c.args.modules.now in
+    let parts = c.in_ok-parts.parts.items in
+    let shown = c.in_ok-shown.shown.items in
+    let is_asked = c.is_any_asked-is_asked.result in
+    IfOk-weaker c.tree_to_ends.result _ _
+    (λ t is. tree_is m c.args.asked.now (map tree_caller_view c.args.functions.now) (tree_view t) (map part_view parts) (map end_view shown) is_asked
+    c.in_ok-parts.ensures c.requires.main c.in_ok-shown.ensures c.is_any_asked-is_asked.ensures
+    (subst (λ z. IsTreeTo z (map end_view shown) is_asked false (tree_view t)) (ap (map part_view) c.deref-2.ensures.value)
+    (subst (λ z. IsTreeTo (map part_view c.deref-2.result.now) z is_asked false (tree_view t)) (ap (map end_view) c.deref-3.ensures.value) is)))
+    c.tree_to_ends.ensures

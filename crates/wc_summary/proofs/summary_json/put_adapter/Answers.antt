@@ -1,6 +1,6 @@
 use Rattle.std.proofs.Common.{codes}
 use Rattle.wc_texts.specs.Shapes.{object_of}
-use Rattle.wc_why.proofs.TokenLemmas.{closed, then}
+use Rattle.wc_why_text.proofs.TokenLemmas.{closed, then}
 use Rattle.wc_summary.proofs.SummaryTextLemmas.{names_as}
 use Rattle.wc_summary.proofs.summary_json.put_adapter.Goals as goal
 

@@ -1,6 +1,6 @@
 use Rattle.std.proofs.Common.{subst}
 use Rattle.json.specs.Tree.{json_tokens}
-use Rattle.wc_why.specs.Private.Tokens.{Puts}
+use Rattle.wc_why_text.specs.Private.Tokens.{Puts}
 use Rattle.wc_summary.specs.Summary.{part_view}
 use Rattle.wc_summary.specs.declared.summary.AdapterPart.{AdapterPart}
 use Rattle.wc_summary.specs.SummaryJson.{adapter_json}

@@ -1,7 +1,7 @@
 use Rattle.std.proofs.Common.{map, take}
 use Rattle.std.specs.List.{flat_map}
 use Rattle.json.specs.Tree.{json_tokens}
-use Rattle.wc_why.specs.Private.Tokens.{Puts}
+use Rattle.wc_why_text.specs.Private.Tokens.{Puts}
 use Rattle.wc_summary.specs.Summary.{part_view}
 use Rattle.wc_summary.specs.SummaryJson.{adapter_json}
 use Rattle.wc_summary.proofs.summary_json.put_adapters.Given as goal

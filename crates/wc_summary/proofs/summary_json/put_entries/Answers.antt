@@ -1,5 +1,5 @@
 use Rattle.wc_texts.specs.Shapes.{object_of}
-use Rattle.wc_why.proofs.TokenLemmas.{closed, then}
+use Rattle.wc_why_text.proofs.TokenLemmas.{closed, then}
 use Rattle.wc_summary.proofs.summary_json.put_entries.Goals as goal
 
 pub returns : goal.returns

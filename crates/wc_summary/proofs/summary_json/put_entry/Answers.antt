@@ -1,7 +1,8 @@
 use Rattle.std.proofs.Common.{◌∙◌, ap, codes}
 use Rattle.wc_texts.specs.Shapes.{object_of}
-use Rattle.wc_why.proofs.TokenLemmas.{closed, text_as, then}
+use Rattle.wc_why_text.proofs.TokenLemmas.{closed, then}
 use Rattle.wc_summary.specs.Summary.{kind_name}
+use Rattle.wc_summary.proofs.SummaryTextLemmas.{text_as}
 use Rattle.wc_summary.proofs.summary_json.put_entry.Goals as goal
 
 pub returns : goal.returns

@@ -1,5 +1,5 @@
 use Rattle.wc_texts.specs.Shapes.{object_of}
-use Rattle.wc_why.proofs.TokenLemmas.{closed, then}
+use Rattle.wc_why_text.proofs.TokenLemmas.{closed, then}
 use Rattle.wc_summary.proofs.SummaryTextLemmas.{name_as}
 use Rattle.wc_summary.proofs.summary_json.put_function.Goals as goal
 

@@ -1,7 +1,7 @@
 use Rattle.std.proofs.Common.{◌≡◌, arith, codes, length, ℕ}
 use Rattle.wc_read.specs.Names.{name_entries}
 use Rattle.wc_summary.specs.SummaryJson.{function_json}
-use Rattle.wc_why.proofs.TokenLemmas.{both, list_done, list_more, wrote, wrote_last}
+use Rattle.wc_why_text.proofs.TokenLemmas.{both, list_done, list_more, wrote, wrote_last}
 use Rattle.wc_summary.proofs.SummaryTextLemmas.{plain_list}
 use Rattle.wc_summary.proofs.summary_json.put_functions.Goals as goal
 

@@ -1,8 +1,8 @@
 use Rattle.std.proofs.Common.{codes, ℕ}
 use Rattle.wc_read.specs.Names.{name_entries}
 use Rattle.wc_summary.specs.SummaryJson.{function_json}
-use Rattle.wc_why.specs.Private.Tokens.{Puts}
-use Rattle.wc_why.proofs.TokenLemmas.{so_far}
+use Rattle.wc_why_text.specs.Private.Tokens.{Puts}
+use Rattle.wc_why_text.proofs.TokenLemmas.{so_far}
 use Rattle.wc_summary.proofs.summary_json.put_functions.Given as goal
 
 abbrev pub invariant-loop-index : goal.invariant-loop-index

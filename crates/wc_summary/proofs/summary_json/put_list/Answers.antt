@@ -2,7 +2,7 @@ use Rattle.std.proofs.Common.{ap, codes, map, rules}
 use Rattle.wc_read.specs.Names.{name_entries}
 use Rattle.wc_summary.specs.Summary.{entry_view}
 use Rattle.wc_summary.specs.SummaryJson.{entry_json}
-use Rattle.wc_why.proofs.TokenLemmas.{both, wrote, wrote_last}
+use Rattle.wc_why_text.proofs.TokenLemmas.{both, wrote, wrote_last}
 use Rattle.wc_summary.proofs.SummaryTextLemmas.{left_done, left_next, left_start}
 use Rattle.wc_summary.proofs.summary_json.put_list.Goals as goal
 

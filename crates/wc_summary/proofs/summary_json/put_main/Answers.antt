@@ -1,5 +1,5 @@
 use Rattle.wc_texts.specs.Shapes.{object_of}
-use Rattle.wc_why.proofs.TokenLemmas.{closed, then}
+use Rattle.wc_why_text.proofs.TokenLemmas.{closed, then}
 use Rattle.wc_read.specs.Names.{name_entries}
 use Rattle.wc_summary.specs.SummaryJson.{function_json}
 use Rattle.wc_summary.proofs.SummaryTextLemmas.{values_as}

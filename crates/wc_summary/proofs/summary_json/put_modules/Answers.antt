@@ -2,8 +2,8 @@ use Rattle.std.proofs.Common.{List, map, codes, subst}
 use Rattle.std.specs.List.{flat_map}
 use Rattle.json.specs.Tree.{json_tokens}
 use Rattle.wc_read.specs.Names.{name_entries}
-use Rattle.wc_why.specs.Private.Tokens.{Puts}
-use Rattle.wc_why.proofs.TokenLemmas.{both, wrote, wrote_last}
+use Rattle.wc_why_text.specs.Private.Tokens.{Puts}
+use Rattle.wc_why_text.proofs.TokenLemmas.{both, wrote, wrote_last}
 use Rattle.wc_summary.specs.Summary.{main_view, part_view}
 use Rattle.wc_summary.specs.SummaryJson.{adapter_json, main_values}
 use Rattle.wc_summary.specs.declared.summary.AdapterPart.{AdapterPart}

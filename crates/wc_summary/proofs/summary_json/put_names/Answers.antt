@@ -1,8 +1,8 @@
 use Rattle.std.proofs.Common.{◌≡◌, ◌∙◌, ◌∷◌, [], List, ℕ, ap, arith, length, string_bytes, subst}
 use Rattle.json.specs.Json.{string}
 use Rattle.json.specs.Token.{string as token}
-use Rattle.wc_why.specs.Private.Tokens.{Puts}
-use Rattle.wc_why.proofs.TokenLemmas.{both, list_done, list_more, wrote, wrote_last}
+use Rattle.wc_why_text.specs.Private.Tokens.{Puts}
+use Rattle.wc_why_text.proofs.TokenLemmas.{both, list_done, list_more, wrote, wrote_last}
 use Rattle.wc_summary.proofs.summary_json.put_names.Goals as goal
 
 pub loop-name-init : goal.loop-name-init

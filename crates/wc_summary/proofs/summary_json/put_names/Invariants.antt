@@ -1,7 +1,7 @@
 use Rattle.std.proofs.Common.{string_bytes}
 use Rattle.json.specs.Json.{string}
-use Rattle.wc_why.specs.Private.Tokens.{Puts}
-use Rattle.wc_why.proofs.TokenLemmas.{so_far}
+use Rattle.wc_why_text.specs.Private.Tokens.{Puts}
+use Rattle.wc_why_text.proofs.TokenLemmas.{so_far}
 use Rattle.wc_summary.proofs.summary_json.put_names.Given as goal
 
 abbrev pub invariant-loop-name : goal.invariant-loop-name

@@ -1,10 +1,14 @@
-use Rattle.std.proofs.Common.{◌∙◌, ap, option_map, sym}
+use Rattle.std.proofs.Common.{◌≡◌, ◌∙◌, IfOk, ap, option_map, subst, sym}
+use Rattle.std.specs.Option.{option_and_then}
 use Rattle.wc_names.specs.Views.{import_view}
-use Rattle.wc_world.specs.Nameable.{IsNameable}
-use Rattle.wc_ways.proofs.RecordLemmas.{recorded_has}
+use Rattle.wc_summary.specs.Leads.{tag_view}
+use Rattle.wc_ways.specs.Tags.{interface_of}
 use Rattle.wc_ways.proofs.tags.tag_of.Goals as goal
 
-pub recorded_tag-requires : goal.recorded_tag-requires
-recorded_tag-requires c =
-    recorded_has (IsNameable c.args.resolve.now) c.args.import.now.name.now (import_view c.in-Some.recorded.now) c.args.records.now c.args.import.now.«module».now c.requires
-    (sym c.recorded_at.ensures ∙ ap (option_map (λ i. import_view i.now)) c.in-Some.is)
+pub returns-in-Some : goal.returns-in-Some
+returns-in-Some c w h =
+    subst (λ o. IfOk c.recorded_tag.result (λ t. tag_view t ≡ option_and_then (interface_of w) o))
+    (sym (ap (option_map (λ i. import_view i.now)) c.in-Some.is) ∙ c.recorded_at.ensures) (c.recorded_tag.ensures w h)
+
+pub returns-in-None : goal.returns-in-None
+returns-in-None c w h = ap (option_and_then (interface_of w)) (sym (ap (option_map (λ i. import_view i.now)) c.in-None.is) ∙ c.recorded_at.ensures)

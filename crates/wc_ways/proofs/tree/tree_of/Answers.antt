@@ -1,24 +1,21 @@
-use Rattle.std.proofs.Common.{◌++◌, ◌∙◌, ap, map}
-use Rattle.wc_tree.specs.Tree.{tree_module_view, tree_way_view}
-use Rattle.wc_ways.proofs.ListLemmas.{flat_same}
+use Rattle.std.proofs.Common.{◌∙◌, List, ap, map, refl, subst}
+use Rattle.wc_why.specs.Component.{IsComponentTree}
+use Rattle.wc_why.specs.Part.{part_view}
+use Rattle.wc_why.specs.declared.component.Target.{Target}
+use Rattle.wc_why.specs.declared.part.Part.{Part}
+use Rattle.wc_ways.specs.WaysTree.{targets_of, ways_of}
+use Rattle.wc_ways.specs.Private.Wanted.{wanted_view}
+use Rattle.wc_ways.specs.declared.wanted.Wanted.{Wanted}
 use Rattle.wc_ways.proofs.tree.tree_of.Goals as goal
 
 pub returns : goal.returns
 returns c =
-    let typed = c.in_ok-put_typed_ways.ensures in
-    let tree = c.in_ok-tree.ensures in
-    let first = map tree_way_view c.in_ok-tree.tree.ways.items in
+    let s = c.args.shown.now in
+    let targets = c.deref-3.ensures.value ∙ (c.in_ok-targets.ensures ∙ ap (λ (z : List Wanted). targets_of (map wanted_view z)) c.deref.ensures.value) in
     record {
-      main = tree_module_view c.in_ok-made.made.«module»;
-      is_main = c.in_ok-made.ensures.main;
-      places = c.in_ok-made.made.places.entries;
-      ends = c.in_ok-made.ensures.ends;
-      adapters = tree.adapters;
-      modules = tree.modules;
-      are = tree.are;
-      first = first;
-      more = typed.0;
-      ways = tree.ways;
-      for_types = typed.1;
-      are_ways = typed.2 ∙ ap (λ z. first ++ z) (flat_same typed.0);
+      found = c.in_ok-found.found;
+      is_found = subst (λ (ps : List Part). IsComponentTree (map part_view ps) (targets_of (map wanted_view s.wanted.items)) s.marked c.in_ok-found.found) c.deref-2.ensures.value
+          (subst (λ (ts : List Target). IsComponentTree (map part_view c.deref-2.result.now) ts s.marked c.in_ok-found.found) targets c.in_ok-found.ensures);
+      modules = refl;
+      ways = c.in_ok-ways.ensures ∙ (λ t. ways_of (map wanted_view (c.deref-4.ensures.value t)) (c.deref-5.ensures.value t));
     }

@@ -2,7 +2,7 @@ use Rattle.std.proofs.Common.{option_map}
 use Rattle.wc_adapters.specs.Entries.{entries_of}
 use Rattle.wc_validate.specs.Imports.Iter.{imports_left}
 use Rattle.wc_validate.specs.Imports.Map.{imports_in}
-use Rattle.wc_why.specs.Paths.{text_of}
+use Rattle.wc_why.specs.Texts.{text_of}
 use Rattle.wc_ways.specs.Private.Needs.{noted_in}
 use Rattle.wc_ways.specs.TypeRoots.{import_needs}
 use Rattle.wc_ways.proofs.NeedLemmas.{NeedsWalk}

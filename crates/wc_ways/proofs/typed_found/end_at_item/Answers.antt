@@ -2,7 +2,7 @@ use Rattle.std.proofs.Common.{◌∙◌, ap, option_map, string_bytes, sym}
 use Rattle.semver.specs.Identifiers.{parts_text}
 use Rattle.wc_resolve.specs.Resolve.{key_text}
 use Rattle.wc_resolve.specs.Views.{key_view}
-use Rattle.wc_ways.specs.Private.TypedFound.{item_end}
+use Rattle.wc_ways.specs.Typed.{item_end}
 use Rattle.wc_ways.proofs.typed_found.end_at_item.Goals as goal
 
 pub returns-in-Some : goal.returns-in-Some

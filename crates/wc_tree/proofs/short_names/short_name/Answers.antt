@@ -1,8 +1,0 @@
-use Rattle.std.proofs.Common.{◌≡◌, ℕ, IfOk, List, ◌∙◌, ap, string_bytes, subst}
-use Rattle.wc_tree.specs.ShortNames.{cut, plain}
-use Rattle.wc_tree.proofs.short_names.short_name.Goals as goal
-
-pub returns : goal.returns
-returns c =
-    subst (λ (cs : List ℕ). IfOk c.cut.result (λ s. string_bytes s ≡ cut cs))
-    (c.deref-2.ensures.value ∙ (c.in_ok-plain.ensures ∙ ap plain (c.deref.ensures.value ∙ c.in_ok-characters.ensures))) c.cut.ensures

@@ -1,9 +1,0 @@
-use Rattle.std.proofs.Common.{codes}
-use Rattle.wc_tree.specs.TreeJson.{caller_json}
-use Rattle.wc_tree.specs.Tree.{tree_caller_view}
-use Rattle.wc_why.specs.Private.Tokens.{Puts}
-use Rattle.wc_why.proofs.TokenLemmas.{so_far}
-use Rattle.wc_tree.proofs.tree_json.put_caller_list.Given as goal
-
-abbrev pub invariant-loop-caller : goal.invariant-loop-caller
-invariant-loop-caller l = Puts l.fn.out l.out (so_far (codes "first") caller_json tree_caller_view l.callers l.caller-index)

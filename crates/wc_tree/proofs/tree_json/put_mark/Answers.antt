@@ -1,5 +1,0 @@
-use Rattle.wc_why.proofs.TokenLemmas.{both, closed, wrote}
-use Rattle.wc_tree.proofs.tree_json.put_mark.Goals as goal
-
-pub returns : goal.returns
-returns c = closed _ _ (both (wrote c.in_ok-key.ensures) (wrote c.in_ok-boolean.ensures)) c.end_object.ensures

@@ -1,0 +1,7 @@
+use Rattle.std.proofs.Common.{map, take}
+use Rattle.wc_why.specs.Part.{part_view}
+use Rattle.wc_ways.specs.Private.Parts.{AreAdapterParts}
+use Rattle.wc_ways.proofs.parts.adapter_parts.Given as goal
+
+abbrev pub invariant-loop-adapter : goal.invariant-loop-adapter
+invariant-loop-adapter l = AreAdapterParts (take l.adapter-index l.adapters) (map part_view l.parts.items)

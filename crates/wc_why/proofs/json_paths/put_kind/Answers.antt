@@ -1,7 +1,0 @@
-use Rattle.wc_texts.specs.Shapes.{object_of}
-use Rattle.wc_why.proofs.TokenLemmas.{closed, then}
-use Rattle.wc_why.proofs.json_paths.put_kind.Goals as goal
-
-pub returns : goal.returns
-unfolding object_of
-returns c = then _ _ _ c.in_ok-begin_object.ensures (closed _ _ c.in_ok-put_text.ensures c.end_object.ensures)

@@ -1,0 +1,10 @@
+pub mod TokenLemmas
+pub mod TreeTokenLemmas
+pub mod EnumerateLemmas
+pub mod GroupLemmas
+pub mod RunLemmas
+pub mod RustNameLemmas
+pub mod WayLemmas
+pub mod WayItemLemmas
+pub mod LinesLemmas
+pub mod StepLemmas

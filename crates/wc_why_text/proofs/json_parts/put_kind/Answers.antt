@@ -1,0 +1,7 @@
+use Rattle.wc_texts.specs.Shapes.{object_of}
+use Rattle.wc_why_text.proofs.TokenLemmas.{closed, then}
+use Rattle.wc_why_text.proofs.json_parts.put_kind.Goals as goal
+
+pub returns : goal.returns
+unfolding object_of
+returns c = then _ _ _ c.in_ok-begin_object.ensures (closed _ _ c.in_ok-put_text.ensures c.end_object.ensures)

@@ -1,0 +1,6 @@
+use Rattle.std.proofs.Common.{rules}
+use Rattle.std.proofs.lemmas.Str.{chars_from_encodes}
+use Rattle.wc_why_text.proofs.texts.mapped.Goals as goal
+
+pub returns : goal.returns
+returns g c = search (rules, chars_from_encodes)

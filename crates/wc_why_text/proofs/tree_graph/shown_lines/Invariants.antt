@@ -1,0 +1,8 @@
+use Rattle.std.proofs.Common.{◌≡◌, map, string_bytes, take}
+use Rattle.std.specs.List.{flat_map}
+use Rattle.wc_why.specs.Tree.{tree_caller_view}
+use Rattle.wc_why_text.specs.TreeGraph.{caller_line}
+use Rattle.wc_why_text.proofs.tree_graph.shown_lines.Given as goal
+
+abbrev pub invariant-loop-caller : goal.invariant-loop-caller
+invariant-loop-caller l = string_bytes l.lines ≡ flat_map caller_line (map tree_caller_view (take l.caller-index l.callers))

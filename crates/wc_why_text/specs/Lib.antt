@@ -1,0 +1,13 @@
+pub mod Texts
+pub mod ItemTexts
+pub mod Ways
+pub mod RustNames
+pub mod ShortNames
+pub mod JsonParts
+pub mod TreeJson
+pub mod Runs
+pub mod Groups
+pub mod TreeGraph
+pub mod TreeLines
+pub mod PathsJson
+pub mod Private
