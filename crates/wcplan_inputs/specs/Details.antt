@@ -56,7 +56,7 @@ types_line (Some d) = detail_line (difference_text d)
 
 -- what is there in place of a name
 abbrev pub nearest_text : List ℕ → List ℕ
-nearest_text name = codes "is there: " ++ name
+nearest_text name = codes "did you mean " ++ (name ++ codes "?")
 
 abbrev pub nearest_line : Option (List ℕ) → List ℕ
 nearest_line None = []

@@ -26,7 +26,7 @@ impl ProgramFault<'_> {
     /// feed follows the last. If the fault has no lines, the result is empty. Near names are names that differ only
     /// in the version or in the case of letters. For worlds that are not text or not JSON, the line says what the
     /// file looks like, if that is known, and which command prints its worlds as JSON. For an unknown adapter, or a
-    /// key that is for no import, it is `is there: NAME`, if NAME is near. For a main module that can't be read, it
+    /// key that is for no import, it is `did you mean NAME?`, if NAME is near. For a main module that can't be read, it
     /// is the offset at which its bytes are malformed, such as `byte 57, in the import section`. For a key that no
     /// module exports, lines say what each module lacks, such as `main lacks "NAME"`. For worlds that are not
     /// well-formed, the line is `PATH "NAME"` or `PATH`: a world, interface, type or package, by its path in the JSON
@@ -37,7 +37,7 @@ impl ProgramFault<'_> {
     /// - otherwise the import or the export, as `import "MODULE" "NAME"`, `export "NAME"`, `missing "INTERFACE"
     ///   "NAME"` or `missing export "NAME"`;
     /// - if two core types differ, `wanted TYPE, found TYPE`;
-    /// - if a name is unknown and another is near, `is there: NAME`;
+    /// - if a name is unknown and another is near, `did you mean NAME?`;
     /// - if the main module imports from an unknown module, `adapters:` and their names, or that there are none.
     ///
     /// For a component's world without a plan, it is `function "NAME"`, and then `imported by main` or `imported by
@@ -361,7 +361,7 @@ fn adapter_line(alloc: Global, name: &str) -> Result<String, AllocError>
 fn near_line(alloc: Global, name: &str) -> Result<String, AllocError>
     ensures { IfOk result (λ text. string_bytes text ≡ detail_line (nearest_text name.now)) }
 {
-    let text = format!(in alloc; "is there: {name}")?;
+    let text = format!(in alloc; "did you mean {name}?")?;
     detail_line(alloc, &text)
 }
 

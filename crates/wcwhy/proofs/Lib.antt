@@ -1,10 +1,9 @@
-mod JoinedLemmas
-mod ArgumentLemmas
-mod LineLemmas
 mod TreeLemmas
+mod ArgumentLemmas
 mod ExecutionLemmas
 mod AdapterNameLemmas
 mod InputLemmas
 mod ModuleWayLemmas
 mod RunLemmas
 mod NearExportLemmas
+mod FunctionLemmas

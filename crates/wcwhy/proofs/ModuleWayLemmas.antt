@@ -1,30 +1,37 @@
 -- What was printed of a main module and its adapters, or why it could not be.
-use Rattle.std.proofs.Common.{◌≡◌, ℕ, List, Contains, String, Global, string_bytes, Option, Some, None, Result, Ok, Err, OnOk, IfErr, refl, sym, subst, inl, inr}
+use Rattle.std.proofs.Common.{◌≡◌, ℕ, Bool, not, All, List, length, Contains, String, Global, string_bytes, Option, Some, None, Result, Ok, Err, OnOk, IfErr, refl, sym, subst, inl, inr}
+use Rattle.std.specs.Prelude.{◌==◌, ◌⊎◌}
 use Rattle.wc_gc.specs.declared.fault.GcFault.{GcFault}
 use Rattle.wc_gc.specs.declared.fault.GcFault.TheVariants.{Memory as gc_memory}
 use Rattle.wc_gc.specs.declared.trim_place.TrimPlace.{TrimPlace}
 use Rattle.wc_import_paths.specs.Patterns.{PatternView, first_unknown, pattern_view}
 use Rattle.wc_module_ways.specs.Adapters.{AdapterView, Given}
-use Rattle.wc_module_ways.specs.Main.{IsMainRefusal}
+use Rattle.wc_import_paths.specs.Functions.{AreAskedOf}
+use Rattle.wc_import_paths.specs.MainModules.{code_of}
 use Rattle.wc_module_ways.specs.Modules.{InputView, IsModules, ModulesView, imports_of}
 use Rattle.wc_module_ways.specs.Names.{NamePair}
-use Rattle.wc_module_ways.specs.Refusals.{IsReadRefusal, IsWaysRefusal, adapter_in}
+use Rattle.wc_module_ways.specs.Refusals.{HasNoCause, IsMainFault, IsReadRefusal, IsWaysRefusal, adapter_in}
 use Rattle.wc_module_ways.specs.declared.refusals.ModulesRefusal.{ModulesRefusal}
+use Rattle.wc_module_ways.specs.Tree.{IsTree}
 use Rattle.wc_program.specs.Screen.{Printing, nothing, printed}
+use Rattle.wc_why.specs.Tree.{TreeCallerView, TreeView}
 use Rattle.wcwhy.specs.Arguments.{CommandView}
 use Rattle.wcwhy.specs.Fault.{IsAdapterFault, IsNamedFault, IsSourceFault, of_adapter, of_source}
-use Rattle.wcwhy.specs.ModuleWays.{ArePrinted, IsAdapterRefusal, IsModulesCause, IsUnfollowed, modules_input, IsShown}
+use Rattle.wcwhy.specs.ModuleWays.{ArePrinted, AreWays, IsAdapterRefusal, IsModulesCause, IsShown, IsUnfollowed, modules_input}
+use Rattle.wcwhy.specs.Functions.{IsFunctionFault}
 use Rattle.wcwhy.specs.NearExports.{IsNearFor}
-use Rattle.wcwhy.specs.Private.Execution.{PrintsSome}
-use Rattle.wcwhy.specs.Private.ModuleWays.{AreKnownPrinted, IsKnownCause, IsModulesFault, IsModulesFaultOf, IsPutFault, IsUnknownOf, IsWaysCause, IsWaysFault, IsWaysFaultOf}
+use Rattle.wcwhy.specs.Private.Execution.{IsTreeFault, PrintsSome}
+use Rattle.wcwhy.specs.Private.ModuleWays.{AreKnownPrinted, IsKnownCause, IsModulesFault, IsModulesFaultOf, IsPutFault, IsShownCause, IsUnknownOf, IsWaysCause, IsWaysFault, IsWaysFaultOf}
+use Rattle.wcwhy.specs.Tree.{IsTreeText}
 use Rattle.wcwhy.specs.declared.fault.WhyFault.{WhyFault}
-use Rattle.wcwhy.specs.declared.fault.WhyFault.TheVariants.{Memory, Adapter, NoImport, Output}
+use Rattle.wcwhy.specs.declared.fault.WhyFault.TheVariants.{Memory, Source, Adapter, NoImport, Output}
 
 -- the modules of a command
 pub given_is : (c : CommandView) (main m : List ℕ) (exports : List (List ℕ)) (adapters given : List Given) (asked : List NamePair) → m ≡ main → exports ≡ c.exports
-    → given ≡ adapters → asked ≡ c.adapter_exports
-    → ◌≡◌ {A = InputView} (record { main = m; exports = exports; adapters = given; adapter_exports = asked }) (modules_input c main adapters)
-given_is c main m exports adapters given asked a b d e = λ t. record { main = a t; exports = b t; adapters = d t; adapter_exports = e t }
+    → given ≡ adapters → asked ≡ c.adapter_exports → (is_whole : Bool) → is_whole ≡ not (length c.functions == 0)
+    → ◌≡◌ {A = InputView} (record { main = m; exports = exports; adapters = given; adapter_exports = asked; is_whole = is_whole }) (modules_input c main adapters)
+given_is c main m exports adapters given asked a b d e is_whole f =
+    λ t. record { main = a t; exports = b t; adapters = d t; adapter_exports = e t; is_whole = f t }
 
 -- ---- faults of a want of memory
 
@@ -53,12 +60,12 @@ ways_memory (Some g) place fault h = adapter_memory g.0 g.1 place fault h
 -- ---- modules that can't be read
 
 module _ (c : CommandView) (i : InputView) (out : Printing → Type 0) (still : out nothing) where
-  main_with : (f : GcFault) (place : Option TrimPlace) (near : Option (String Global)) → IsMainRefusal i.main i.exports f place → IsNearFor i.main f near
+  main_with : (f : GcFault) (place : Option TrimPlace) (near : Option (String Global)) → IsMainFault i.is_whole i.main i.exports f place → IsNearFor i.main f near
       → IsModulesCause c i out (of_source f place near)
   main_with gc_memory place near h is = tt
   main_with f place near h is = (((λ e. cc), h, is), still)
 
-  main_cause : (f : GcFault) (place : Option TrimPlace) (fault : WhyFault) → IsMainRefusal i.main i.exports f place → IsSourceFault i.main f place fault
+  main_cause : (f : GcFault) (place : Option TrimPlace) (fault : WhyFault) → IsMainFault i.is_whole i.main i.exports f place → IsSourceFault i.main f place fault
       → IsModulesCause c i out fault
   main_cause f place fault h (inl none) = subst (IsModulesCause c i out) (sym none) tt
   main_cause f place fault h (inr (near, near_is, is)) = subst (IsModulesCause c i out) (sym is) (main_with f place near h near_is)
@@ -78,7 +85,7 @@ module _ (c : CommandView) (i : InputView) (out : Printing → Type 0) (still : 
   adapter_cause g f place fault h (inl none) = subst (IsModulesCause c i out) (sym none) tt
   adapter_cause g f place fault h (inr (near, is, named)) = named_cause g f place near fault h is named
 
-  pub read_cause : (r : ModulesRefusal) (fault : WhyFault) → IsReadRefusal i.main i.exports i.adapters r → IsModulesFault i.main r fault
+  pub read_cause : (r : ModulesRefusal) (fault : WhyFault) → IsReadRefusal i r → IsModulesFault i.main r fault
       → IsModulesCause c i out fault
   read_cause r fault (inl (none, refused)) is =
       main_cause r.fault r.place fault refused (subst (λ o. IsModulesFaultOf i.main o r.fault r.place fault) none is)
@@ -122,19 +129,47 @@ put_cause w out f h = absurd h
 
 pub unknown_cause : (c : CommandView) (w : ModulesView) (out : Printing → Type 0) (patterns : List PatternView) (f : WhyFault) → out nothing
     → patterns ≡ c.imports → IsUnknownOf (imports_of w) patterns f → IsKnownCause c w out f
-unknown_cause c w out patterns Memory still are h = tt
+unknown_cause c w out patterns Memory still are h = inl tt
 unknown_cause c w out patterns (NoImport p near) still are h =
     ((subst (λ l. first_unknown (imports_of w) l ≡ Some (pattern_view p)) are h.0, h.1), still)
 unknown_cause c w out patterns f still are h = absurd h
 
-known_cause : (c : CommandView) (w : ModulesView) (out : Printing → Type 0) (f : WhyFault) → IsWaysCause w out f → IsKnownCause c w out f
-known_cause c w out (NoImport p near) h = absurd h.0
+known_cause : (c : CommandView) (w : ModulesView) (out : Printing → Type 0) (f : WhyFault) → IsShownCause c w out f → IsKnownCause c w out f
+known_cause c w out (NoImport p near) (inl h) = absurd h.0
+known_cause c w out (NoImport p near) (inr h) = absurd h.0.4
 known_cause c w out f h = h
 
-pub ways_known : {T : Type 0} (c : CommandView) (w : ModulesView) (out : Printing → Type 0) (r : Result T WhyFault) → IfErr r (IsWaysCause w out)
+pub ways_known : {T : Type 0} (c : CommandView) (w : ModulesView) (out : Printing → Type 0) (r : Result T WhyFault) → IfErr r (IsShownCause c w out)
     → IfErr r (IsKnownCause c w out)
 ways_known c w out (Ok x) h = tt
 ways_known c w out (Err f) h = known_cause c w out f h
+
+pub ways_shown : {T : Type 0} (c : CommandView) (w : ModulesView) (out : Printing → Type 0) (r : Result T WhyFault) → IfErr r (IsWaysCause w out)
+    → IfErr r (IsShownCause c w out)
+ways_shown c w out (Ok x) h = tt
+ways_shown c w out (Err f) h = inl h
+
+pub functions_cause : (c : CommandView) (w : ModulesView) (out : Printing → Type 0) → out nothing → (f : WhyFault)
+    → (f ≡ Memory) ⊎ IsFunctionFault c w.bytes (length (code_of w.main).funcs) f → IsShownCause c w out f
+functions_cause c w out still f (inl none) = inl (subst (IsWaysCause w out) (sym none) tt)
+functions_cause c w out still f (inr h) = inr (h, still)
+
+tree_cause : (w : ModulesView) (out : Printing → Type 0) (f : WhyFault) → IsTreeFault out f → IsWaysCause w out f
+tree_cause w out Memory h = tt
+tree_cause w out Output h = h
+tree_cause w out f h = absurd h
+
+pub tree_failed : {T : Type 0} (w : ModulesView) (out : Printing → Type 0) (r : Result T WhyFault) → IfErr r (IsTreeFault out) → IfErr r (IsWaysCause w out)
+tree_failed w out (Ok x) h = tt
+tree_failed w out (Err f) h = tree_cause w out f h
+
+-- what was printed of a tree is that of the paths to what is asked for
+pub tree_printed : {T : Type 0} (c : CommandView) (w : ModulesView) (patterns : List PatternView) (fs : List TreeCallerView) (t : TreeView) (out : Printing → Type 0)
+    (r : Result T WhyFault) → All HasNoCause w.adapters → AreAskedOf w.bytes (length (code_of w.main).funcs) c.functions fs → IsTree w patterns fs t
+    → OnOk r (PrintsSome (IsTreeText c t) out) → OnOk r (PrintsSome (AreWays c w patterns) out)
+tree_printed c w patterns fs t out (Ok x) no_cause are is (text, shows, shown) =
+    (text, record { no_cause = no_cause; functions = fs; are_functions = are; tree = t; is_tree = is; is = shows }, shown)
+tree_printed c w patterns fs t out (Err f) no_cause are is h = tt
 
 pub ways_printed : {T : Type 0} (c : CommandView) (w : ModulesView) (patterns : List PatternView) (out : Printing → Type 0) (r : Result T WhyFault)
     → patterns ≡ c.imports → first_unknown (imports_of w) patterns ≡ None → OnOk r (PrintsSome (IsShown c w patterns) out)
@@ -148,12 +183,22 @@ module _ (c : CommandView) (i : InputView) (w : ModulesView) (is : IsModules i w
   known_printed (Ok x) (text, known, shows, shown) = (text, record { modules = w; are = is; known = known; is = shows }, shown)
   known_printed (Err f) h = tt
 
+  shown_cause : (f : WhyFault) → IsShownCause c w out f → IsModulesCause c i out f
+  shown_cause Memory h = tt
+  shown_cause Output (inl h) = h
+  shown_cause Output (inr h) = absurd h.0.4
+  shown_cause (Adapter name f place near) (inl h) = ((h.0.0, h.0.1, h.0.2, inr (w, is, h.0.3), h.0.4), h.1)
+  shown_cause (Adapter name f place near) (inr h) = absurd h.0.4
+  shown_cause (NoImport p near) (inl h) = absurd h.0
+  shown_cause (NoImport p near) (inr h) = absurd h.0.4
+  shown_cause (Source f place near) (inl h) = absurd h.0
+  shown_cause (Source f place near) (inr h) = absurd h.0.4
+  shown_cause f (inl h) = absurd h.0
+  shown_cause f (inr h) = ((w, is, h.0), h.1)
+
   modules_cause : (f : WhyFault) → IsKnownCause c w out f → IsModulesCause c i out f
-  modules_cause Memory h = tt
-  modules_cause Output h = h
   modules_cause (NoImport p near) h = ((w, is, h.0), h.1)
-  modules_cause (Adapter name f place near) h = ((h.0.0, h.0.1, h.0.2, inr (w, is, h.0.3), h.0.4), h.1)
-  modules_cause f h = absurd h.0
+  modules_cause f h = shown_cause f h
 
   pub known_failed : {T : Type 0} (r : Result T WhyFault) → IfErr r (IsKnownCause c w out) → IfErr r (IsModulesCause c i out)
   known_failed (Ok x) h = tt

@@ -1,7 +1,7 @@
 -- Commands.
 use Rattle.std.specs.Prelude.{ℕ, Bool, List, map}
 use Rattle.wc_maps.specs.Texts.{text_pair}
-use Rattle.wc_why.specs.Paths.{text_of}
+use Rattle.wc_why.specs.Texts.{text_of}
 use Rattle.wc_import_paths.specs.Patterns.{PatternView, pattern_view}
 use Rattle.wcwhy.specs.declared.arguments.Command.{Command}
 
@@ -11,6 +11,7 @@ pub record CommandView : Type 0 where
   pub adapters : List (List ℕ × List ℕ)
   pub adapter_exports : List (List ℕ × List ℕ)
   pub imports : List PatternView
+  pub functions : List (List ℕ)
   pub dot : Bool
   pub json : Bool
   pub summary : Bool
@@ -22,6 +23,7 @@ command_view c = record {
   adapters = map text_pair c.adapters.items;
   adapter_exports = map text_pair c.adapter_exports.items;
   imports = map pattern_view c.imports.items;
+  functions = map text_of c.functions.items;
   dot = c.dot;
   json = c.json;
   summary = c.summary;

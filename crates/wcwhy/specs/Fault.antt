@@ -17,9 +17,9 @@ use Rattle.wc_import_paths.specs.Patterns.{PatternView, pattern_view}
 use Rattle.wcwhy.specs.NearExports.{IsNearFor}
 use Rattle.wcwhy.specs.Patterns.{named_under, near_import, near_package, near_pattern}
 use Rattle.wc_why.specs.Keys.{package_text}
-use Rattle.wc_why.specs.Texts.{word}
+use Rattle.wc_why_text.specs.Texts.{word}
 use Rattle.wcwhy.specs.declared.fault.WhyFault.{WhyFault}
-use Rattle.wcwhy.specs.declared.fault.WhyFault.TheVariants.{Memory, CannotRead, RepeatedAdapter, NoAdapter, Source, Adapter, NoImport, Output}
+use Rattle.wcwhy.specs.declared.fault.WhyFault.TheVariants.{Memory, CannotRead, RepeatedAdapter, NoAdapter, Source, Adapter, NoImport, NoFunction, NoNames, Output}
 
 -- a text that was given, as a word; an empty one as two quotes
 abbrev pub given_word : List ℕ → List ℕ
@@ -48,7 +48,23 @@ near_text imports p = option_or (option_map (λ (i : ImportValue). pattern_text 
 -- a module has none of the imports that an option asks for, and under it what is there
 abbrev pub unknown_text : PatternView → Option (List ℕ) → List ℕ
 unknown_text p None = codes "no import " ++ pattern_text p
-unknown_text p (Some near) = codes "no import " ++ (pattern_text p ++ (codes "\n  is there: " ++ near))
+unknown_text p (Some near) = codes "no import " ++ (pattern_text p ++ (codes "\n  did you mean " ++ (near ++ codes "?")))
+
+-- a text that was given, escaped; an empty one as two quotes
+abbrev pub given_text : List ℕ → List ℕ
+given_text text = cond (bytes_eq text []) (codes "''") (escaped text)
+
+-- a module has none of the functions that a text asks for, and under it the name that may be meant
+abbrev pub no_function_text : List ℕ → Option (List ℕ) → List ℕ
+no_function_text name None = codes "no function " ++ given_text name
+no_function_text name (Some near) = codes "no function " ++ (given_text name ++ (codes "\n  did you mean " ++ (near ++ codes "?")))
+
+-- or it has no names of functions, and under it how to keep them
+abbrev pub names_hint : List ℕ → List ℕ
+names_hint path = codes "no function names in " ++ (escaped path ++ codes ": link with -g, without --strip, strip = false")
+
+abbrev pub no_names_text : List ℕ → List ℕ → List ℕ
+no_names_text name path = no_function_text name None ++ (codes "\n  " ++ names_hint path)
 
 -- a file could not be read: its path, and why
 abbrev pub unread_text : List ℕ → FileProblem → List ℕ
@@ -65,7 +81,7 @@ no_adapter_text name listing = escaped (codes "no adapter `" ++ (name ++ (codes 
 -- why a module can't be followed, and under it what it is about, or what is there in place of an export
 abbrev pub source_text : GcFault → Option TrimPlace → Option (List ℕ) → List ℕ
 source_text f (Some p) near = escaped (gc_fault_text f) ++ (codes "\n  " ++ place_text p)
-source_text f None (Some near) = escaped (gc_fault_text f) ++ (codes "\n  is there: " ++ near)
+source_text f None (Some near) = escaped (gc_fault_text f) ++ (codes "\n  did you mean " ++ (near ++ codes "?"))
 source_text f None None = escaped (gc_fault_text f)
 
 -- the same of an adapter of a name
@@ -81,6 +97,8 @@ why_fault_text (NoAdapter name listing) = no_adapter_text name.now (string_bytes
 why_fault_text (Source f place near) = source_text f place (option_map string_bytes near)
 why_fault_text (Adapter name f place near) = adapter_text (string_bytes name) (source_text f place (option_map string_bytes near))
 why_fault_text (NoImport p near) = unknown_text (pattern_view p) (option_map string_bytes near)
+why_fault_text (NoFunction name near) = no_function_text name.now (option_map string_bytes near)
+why_fault_text (NoNames name path) = no_names_text name.now path.now
 why_fault_text Output = codes "cannot print"
 
 -- memory is needed for the text of a fault, unless it is always the same

@@ -3,9 +3,11 @@ pub mod Reading
 pub mod Usage
 pub mod Texts
 pub mod Patterns
-pub mod Lines
 pub mod NearExports
 pub mod Fault
+pub mod Places
+pub mod JsonFaults
+pub mod Functions
 pub mod Tree
 pub mod AdapterNames
 pub mod Inputs

@@ -1,5 +1,5 @@
 -- What is printed of a main module and its adapters.
-use Rattle.std.specs.Prelude.{◌≡◌, ◌≢◌, ◌⊎◌, ⊤, ℕ, Bool, true, false, Contains, List, Option, Some, None, String, string_bytes}
+use Rattle.std.specs.Prelude.{◌≡◌, ◌≢◌, ◌⊎◌, ◌==◌, ⊤, ℕ, Bool, true, false, not, All, Contains, length, List, Option, Some, None, String, string_bytes}
 use Rattle.std.specs.Option.{option_map}
 use Rattle.std.specs.declared.alloc.Global.{Global}
 use Rattle.wc_gc.specs.LiveItems.{IsFault}
@@ -11,38 +11,50 @@ use Rattle.wc_import_paths.specs.Patterns.{PatternView, first_unknown, pattern_v
 use Rattle.wc_import_paths.specs.declared.patterns.ImportPattern.{ImportPattern}
 use Rattle.wc_module_ways.specs.Adapters.{AdapterView, Given, search_input}
 use Rattle.wc_module_ways.specs.Imports.{IsImportsJson, IsImportsText}
-use Rattle.wc_module_ways.specs.Main.{IsMainRefusal}
+use Rattle.wc_import_paths.specs.Functions.{AreAskedOf}
+use Rattle.wc_import_paths.specs.MainModules.{code_of}
+use Rattle.wc_why.specs.Tree.{TreeCallerView, TreeView}
 use Rattle.wc_module_ways.specs.Modules.{InputView, IsModules, ModulesView, imports_of}
-use Rattle.wc_module_ways.specs.Refusals.{IsAdapterUnread}
-use Rattle.wc_module_ways.specs.Tree.{IsTreeGraph, IsTreeJson}
-use Rattle.wc_module_ways.specs.Ways.{IsText}
+use Rattle.wc_module_ways.specs.Refusals.{HasNoCause, IsAdapterUnread, IsMainFault}
+use Rattle.wc_module_ways.specs.Tree.{IsTree}
 use Rattle.wc_program.specs.Screen.{Printing, nothing, failed}
 use Rattle.wc_read.specs.Imports.{ImportValue}
 use Rattle.wcwhy.specs.Arguments.{CommandView}
 use Rattle.wcwhy.specs.Fault.{near_text}
+use Rattle.wcwhy.specs.Functions.{IsFunctionFault}
 use Rattle.wcwhy.specs.NearExports.{IsNearFor}
+use Rattle.wcwhy.specs.Tree.{IsTreeText}
 use Rattle.wcwhy.specs.declared.fault.WhyFault.{WhyFault}
 use Rattle.wcwhy.specs.declared.fault.WhyFault.TheVariants.{Memory, Source, Adapter, NoImport, Output}
 
 -- the modules of a command, whose files have these bytes
 abbrev pub modules_input : CommandView → List ℕ → List Given → InputView
-modules_input c main adapters = record { main = main; exports = c.exports; adapters = adapters; adapter_exports = c.adapter_exports }
+modules_input c main adapters = record {
+  main = main;
+  exports = c.exports;
+  adapters = adapters;
+  adapter_exports = c.adapter_exports;
+  is_whole = not (length c.functions == 0);
+}
 
 -- what modules import, by interfaces, as JSON or as lines
 abbrev pub IsSummary : Bool → ModulesView → List ℕ → Type 0
 IsSummary true w text = IsImportsJson w text
 IsSummary false w text = IsImportsText w text
 
--- the paths through them, as a graph, as JSON or as lines
-abbrev pub AreWays : Bool → Bool → ModulesView → List PatternView → List ℕ → Type 0
-AreWays true json w patterns text = IsTreeGraph w patterns text
-AreWays false true w patterns text = IsTreeJson w patterns text
-AreWays false false w patterns text = IsText w patterns text
+-- the tree of the paths through them to what is asked for; each adapter can be trimmed for what is required of it
+pub record AreWays (c : CommandView) (w : ModulesView) (patterns : List PatternView) (text : List ℕ) : Type 0 where
+  pub no_cause : All HasNoCause w.adapters
+  pub functions : List TreeCallerView
+  pub are_functions : AreAskedOf w.bytes (length (code_of w.main).funcs) c.functions functions
+  pub tree : TreeView
+  pub is_tree : IsTree w patterns functions tree
+  pub is : IsTreeText c tree text
 
 -- what a command asks to print of them
 abbrev pub IsShownBy : Bool → CommandView → ModulesView → List PatternView → List ℕ → Type 0
 IsShownBy true c w patterns text = IsSummary c.json w text
-IsShownBy false c w patterns text = AreWays c.dot c.json w patterns text
+IsShownBy false c w patterns text = AreWays c w patterns text
 
 abbrev pub IsShown : CommandView → ModulesView → List PatternView → List ℕ → Type 0
 IsShown c w patterns text = IsShownBy c.summary c w patterns text
@@ -71,11 +83,11 @@ IsAdapterRefusal i g f place =
 
 -- why nothing is printed of modules
 abbrev pub AreRefused : CommandView → InputView → WhyFault → Type 0
-AreRefused c i (Source f place near) = (f ≢ gc_memory) × IsMainRefusal i.main i.exports f place × IsNearFor i.main f near
+AreRefused c i (Source f place near) = (f ≢ gc_memory) × IsMainFault i.is_whole i.main i.exports f place × IsNearFor i.main f near
 AreRefused c i (Adapter name f place near) =
     (f ≢ gc_memory) × (g : Given) × (string_bytes name ≡ g.0) × IsAdapterRefusal i g f place × IsNearFor g.1 f near
 AreRefused c i (NoImport p near) = (w : ModulesView) × IsModules i w × IsNoImport (imports_of w) c.imports p near
-AreRefused c i f = ⊥
+AreRefused c i f = (w : ModulesView) × IsModules i w × IsFunctionFault c w.bytes (length (code_of w.main).funcs) f
 
 -- why modules could not be printed of
 abbrev pub IsModulesCause : CommandView → InputView → (Printing → Type 0) → WhyFault → Type 0

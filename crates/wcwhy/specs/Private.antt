@@ -1,7 +1,5 @@
 -- Words of contracts of private functions. No contract of a public function cites these, directly or through others.
 pub mod Puts
-pub mod Followed
-pub mod Tree
 pub mod Execution
 pub mod Inputs
 pub mod ModuleWays

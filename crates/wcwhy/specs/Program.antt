@@ -2,7 +2,6 @@
 use Rattle.std.specs.Prelude.{◌≡◌, ◌≢◌, ◌⊎◌, ◌==◌, ℕ, Bool, true, false, length, List, Option, None, String, Ok, Err, ⊤, ◌&&◌, not}
 use Rattle.std.specs.declared.alloc.Global.{Global}
 use Rattle.wc_texts.specs.Escape.{escaped}
-use Rattle.wc_read.specs.Reading.Names.{AreFunctionNames}
 use Rattle.wc_gc.specs.declared.fault.GcFault.TheVariants.{Memory as gc_memory}
 use Rattle.wc_texts.specs.FaultTexts.{memory_text}
 use Rattle.wc_module_ways.specs.Adapters.{Given}
@@ -12,40 +11,45 @@ use Rattle.wc_program.specs.Screen.{Printing, nothing, printed, failed}
 use Rattle.wc_program.specs.declared.program.NoArguments.{NoArguments}
 use Rattle.wc_program.specs.declared.program.NoArguments.TheVariants.{Empty, NoMemory, NoText}
 use Rattle.wc_options.specs.Wrong.{Reading, Stop, WrongView, help, version, wrong, wrong_text}
-use Rattle.wc_import_paths.specs.Patterns.{PatternView, first_unknown}
+use Rattle.wc_import_paths.specs.Patterns.{first_unknown}
 use Rattle.wcwhy.specs.Arguments.{CommandView}
 use Rattle.wcwhy.specs.Reading.{AsksMemory, read_arguments}
 use Rattle.wcwhy.specs.Usage.{usage_text, help_text, version_text, no_text, fault_line, fault_and_usage}
 use Rattle.wc_import_paths.specs.Following.{FollowedView, IsFollowed, IsRefusal}
-use Rattle.wcwhy.specs.Lines.{AreLines}
+use Rattle.wc_import_paths.specs.Functions.{AreAskedOf}
+use Rattle.wc_import_paths.specs.Shown.{IsFollowedTree}
+use Rattle.wc_why.specs.Tree.{TreeCallerView, TreeView}
 use Rattle.wcwhy.specs.NearExports.{IsNearFor}
 use Rattle.wcwhy.specs.Fault.{NeedsText, why_fault_text}
 use Rattle.wcwhy.specs.Inputs.{AreInputs, IsInputCause}
+use Rattle.wcwhy.specs.JsonFaults.{IsReportedJson}
 use Rattle.wcwhy.specs.ModuleWays.{ArePrinted, IsModulesCause, IsNoImport, modules_input}
-use Rattle.wcwhy.specs.Tree.{IsTreeGraph, IsTreeJson}
+use Rattle.wcwhy.specs.Functions.{IsFunctionFault}
+use Rattle.wcwhy.specs.Tree.{IsTreeText}
 use Rattle.wcwhy.specs.declared.fault.WhyFault.{WhyFault}
 use Rattle.wcwhy.specs.declared.fault.WhyFault.TheVariants.{Memory, Source, NoImport, Output}
 
--- what is printed of a module that is followed: the tree of its paths as a graph or as JSON, where that is asked for; else lines
-abbrev pub IsSourceTextBy : Bool → Bool → FollowedView → List PatternView → List ℕ → Type 0
-IsSourceTextBy true json f patterns text = IsTreeGraph f patterns text
-IsSourceTextBy false true f patterns text = IsTreeJson f patterns text
-IsSourceTextBy false false f patterns text = AreLines f patterns text
+-- what is printed of a module that is followed: the tree of the paths to what is asked for
+pub record IsSourceText (c : CommandView) (source : FollowedView) (bytes text : List ℕ) : Type 0 where
+  pub functions : List TreeCallerView
+  pub are_functions : AreAskedOf bytes (length source.code.funcs) c.functions functions
+  pub tree : TreeView
+  pub is_tree : IsFollowedTree source bytes c.imports functions tree
+  pub is : IsTreeText c tree text
 
 -- what is printed of bytes: they spell a module that is followed and has some of the imports that each option asks for
 pub record IsPrintedOf (c : CommandView) (bytes text : List ℕ) : Type 0 where
   pub source : FollowedView
   pub followed : IsFollowed bytes c.exports source
   pub known : first_unknown source.code.imports c.imports ≡ None
-  pub named : AreFunctionNames bytes source.names
-  pub is : IsSourceTextBy c.dot c.json source c.imports text
+  pub is : IsSourceText c source bytes text
 
 -- why nothing is printed of the bytes of a module
 abbrev pub IsBytesCause : CommandView → List ℕ → WhyFault → Type 0
 IsBytesCause c bytes (Source f place near) = (f ≢ gc_memory) × IsRefusal bytes c.exports f place × IsNearFor bytes f near
 IsBytesCause c bytes (NoImport p near) =
     (source : FollowedView) × IsFollowed bytes c.exports source × IsNoImport source.code.imports c.imports p near
-IsBytesCause c bytes f = ⊥
+IsBytesCause c bytes f = (source : FollowedView) × IsFollowed bytes c.exports source × IsFunctionFault c bytes (length source.code.funcs) f
 
 -- why bytes could not be printed of: where memory runs out, it is left open what was printed before
 abbrev pub IsPrintCause : CommandView → List ℕ → (Printing → Type 0) → WhyFault → Type 0
@@ -86,6 +90,11 @@ abbrev pub IsReported : WhyFault → (Printing → Type 0) → ℕ → Type 0
 IsReported fault err status =
     (text : List ℕ) × ((text ≡ why_fault_text fault) ⊎ (NeedsText fault × (text ≡ memory_text))) × Prints (fault_line text) failure err status
 
+-- with `--json` it is printed as JSON
+abbrev pub IsReportedAs : Bool → WhyFault → (Printing → Type 0) → ℕ → Type 0
+IsReportedAs true fault err status = IsReportedJson fault err status
+IsReportedAs false fault err status = IsReported fault err status
+
 -- there was no memory, which is printed
 abbrev pub EndsWithoutMemory : (Printing → Type 0) → (Printing → Type 0) → ℕ → Type 0
 EndsWithoutMemory out err status = out nothing × Prints (fault_line memory_text) failure err status
@@ -94,7 +103,7 @@ EndsWithoutMemory out err status = out nothing × Prints (fault_line memory_text
 abbrev pub CommandEnds : CommandView → FileChange → (Printing → Type 0) → (Printing → Type 0) → ℕ → Type 0
 CommandEnds c files out err status =
     (EndsWell c files.before out × err nothing × (status ≡ success))
-    ⊎ ((fault : WhyFault) × IsRunCause c files out fault × IsReported fault err status)
+    ⊎ ((fault : WhyFault) × IsRunCause c files out fault × IsReportedAs c.json fault err status)
 
 -- there is no command: what is asked for is printed; or what is wrong, and the usage text, to the other output
 abbrev pub StopEnds : Stop → (Printing → Type 0) → (Printing → Type 0) → ℕ → Type 0

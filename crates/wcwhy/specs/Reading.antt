@@ -9,13 +9,14 @@ use Rattle.wc_import_paths.specs.Patterns.{pattern_of}
 use Rattle.wc_maps.specs.Texts.{second_parts}
 use Rattle.wcwhy.specs.Arguments.{CommandView}
 
--- the options: `--adapt` and `--import` have a value, which may be any text, `--adapter-export` one with a `=`, and each of these
+-- the options: `--adapt`, `--import` and `--func` have a value, which may be any text, `--adapter-export` one with a `=`, and each of these
 -- may come several times; `--dot`, `--json` and `--imports` have none
 abbrev pub option_table : Table
 option_table =
     record { name = codes "--adapt"; value = Text; repeats = true }
     ∷ record { name = codes "--adapter-export"; value = Pair; repeats = true }
     ∷ record { name = codes "--import"; value = Text; repeats = true }
+    ∷ record { name = codes "--func"; value = Text; repeats = true }
     ∷ record { name = codes "--dot"; value = Nothing; repeats = false }
     ∷ record { name = codes "--json"; value = Nothing; repeats = false }
     ∷ record { name = codes "--imports"; value = Nothing; repeats = false } ∷ []
@@ -27,6 +28,7 @@ command_with tokens source exports = record {
   adapters = map adapter_file_of (values_of (codes "--adapt") tokens);
   adapter_exports = map pair_or (values_of (codes "--adapter-export") tokens);
   imports = map pattern_of (values_of (codes "--import") tokens);
+  functions = values_of (codes "--func") tokens;
   dot = is_given (codes "--dot") tokens;
   json = is_given (codes "--json") tokens;
   summary = is_given (codes "--imports") tokens;
@@ -44,13 +46,14 @@ command_of tokens = command_by tokens (plain_texts tokens)
 abbrev pub is_graph_and_json : List TokenView → Bool
 is_graph_and_json tokens = is_given (codes "--dot") tokens && is_given (codes "--json") tokens
 
--- `--imports`, and what does not fit to it, since it is about all imports, from all exports, and no graph
+-- `--imports`, and what does not fit to it, since it is about all imports, from all exports, and no graph; and about no function
 abbrev pub summary_clash : List TokenView → List (List ℕ) → Option (List ℕ × List ℕ)
 summary_clash tokens texts =
     cond (not (is_given (codes "--imports") tokens)) None
     (cond (is_given (codes "--import") tokens) (Some (codes "--imports", codes "--import"))
+    (cond (is_given (codes "--func") tokens) (Some (codes "--imports", codes "--func"))
     (cond (is_given (codes "--dot") tokens) (Some (codes "--imports", codes "--dot"))
-    (cond (nat_lt 1 (length texts)) (Some (codes "--imports", codes "EXPORT")) None)))
+    (cond (nat_lt 1 (length texts)) (Some (codes "--imports", codes "EXPORT")) None))))
 
 -- the first two options, or an option and `EXPORT`, that do not fit together
 abbrev pub clash : List TokenView → List (List ℕ) → Option (List ℕ × List ℕ)

@@ -5,7 +5,7 @@ use Rattle.std.specs.Prelude.{ℕ, List, ◌++◌, codes}
 abbrev pub usage_text : List ℕ
 usage_text =
     codes "usage: wcwhy IN [--adapt [NAME=]FILE]... [--adapter-export NAME=EXPORT]...\n"
-    ++ (codes "             [--import KEY[=NAME]]... [--dot] [--json] [--imports] [EXPORT]...\n" ++ codes "       wcwhy --help | --version\n")
+    ++ (codes "             [--import KEY[=NAME]]... [--func N|NAME]... [--dot] [--json] [--imports] [EXPORT]...\n" ++ codes "       wcwhy --help | --version\n")
 
 -- what each argument is
 abbrev pub options_text : List ℕ
@@ -16,11 +16,12 @@ options_text =
     ++ (codes "  --adapter-export NAME=EXPORT\n"
     ++ (codes "                          an export of the adapter that the component needs\n"
     ++ (codes "  --import KEY[=NAME]     only imports from this module or package (default: all)\n"
+    ++ (codes "  --func N|NAME           the path to this function of IN, by index or name\n"
     ++ (codes "  --dot                   print a graph in the language of Graphviz\n"
     ++ (codes "  --json                  print the paths as JSON; with --imports the interfaces\n"
     ++ (codes "  --imports               list which modules import each interface, and which calls to remove to drop it\n"
     ++ (codes "  -h, --help              print this text\n"
-    ++ codes "  --version               print the version\n")))))))))
+    ++ codes "  --version               print the version\n"))))))))))
 
 abbrev pub help_text : List ℕ
 help_text = usage_text ++ options_text

@@ -28,6 +28,8 @@ pub struct Command<'a> {
     pub adapter_exports: Vec<(&'a str, &'a str)>,
     /// The imports that are asked for, in order; all that stay, if there are none.
     pub imports: Vec<ImportPattern<'a>>,
+    /// The functions of the module that are asked for, each by its index or its name, in order.
+    pub functions: Vec<&'a str>,
     /// Whether a graph is printed in place of lines, where the module stands alone.
     pub dot: bool,
     /// Whether JSON is printed in place of lines.
@@ -39,7 +41,7 @@ pub struct Command<'a> {
 }
 
 /// The options.
-pub(crate) const OPTIONS: [ProgramOption; 6] = [
+pub(crate) const OPTIONS: [ProgramOption; 7] = [
     ProgramOption {
         name: "--adapt",
         value: Value::Text,
@@ -60,6 +62,13 @@ pub(crate) const OPTIONS: [ProgramOption; 6] = [
         repeats: true,
         usage: "\n             [--import KEY[=NAME]]...",
         help: "  --import KEY[=NAME]     only imports from this module or package (default: all)\n",
+    },
+    ProgramOption {
+        name: "--func",
+        value: Value::Text,
+        repeats: true,
+        usage: " [--func N|NAME]...",
+        help: "  --func N|NAME           the path to this function of IN, by index or name\n",
     },
     ProgramOption {
         name: "--dot",
@@ -87,10 +96,10 @@ pub(crate) const OPTIONS: [ProgramOption; 6] = [
 /// The command of these arguments; the first is the argument after the program's name. They are `IN` and then each
 /// `EXPORT`, with options before, between and after them.
 ///
-/// At most one of `--dot` and `--json` is given. With `--imports` there is no `--import`, no `--dot` and no EXPORT. At
-/// most one of `IN` and the FILEs is `-`, which is standard input. `--adapt [NAME=]FILE`,
-/// `--adapter-export NAME=EXPORT` and `--import KEY[=NAME]` may come several times, `--dot`, `--json` and `--imports`
-/// once.
+/// At most one of `--dot` and `--json` is given. With `--imports` there is no `--import`, no `--func`, no `--dot` and no
+/// EXPORT. At most one of `IN` and the FILEs is `-`, which is standard input. `--adapt [NAME=]FILE`,
+/// `--adapter-export NAME=EXPORT`, `--import KEY[=NAME]` and `--func N|NAME` may come several times, `--dot`, `--json`
+/// and `--imports` once.
 ///
 /// The argument after an option that has a value is its value, whatever it is. In one argument a `=` is between the
 /// option and its value, as in `--import=KEY`. An adapter's NAME ends at the first `=`; without a `=` the value of
@@ -105,7 +114,7 @@ pub(crate) const OPTIONS: [ProgramOption; 6] = [
 ///
 /// - `Help`, `Version`: an option is `--help` or `-h`, or `--version`.
 /// - `Wrong`: an argument is wrong; or, after the last one, IN or the value of an option is missing; or `--dot` is
-///   given with `--json`, or `--imports` with `--import`, `--dot` or an EXPORT; or `-` is given for two files.
+///   given with `--json`, or `--imports` with `--import`, `--func`, `--dot` or an EXPORT; or `-` is given for two files.
 /// - `Memory`: an allocation failed. It may come only where nothing is wrong but that `-` is given for two files.
 pub fn parse(alloc: Global, arguments: &[String]) -> Result<Command<'_>, NoCommand<'_>>
     ensures { IsRead command_view (AsksMemory (texts_in arguments.now)) result
@@ -164,6 +173,8 @@ fn summary_clash(arguments: &[String]) -> Option<(&'static str, &'static str)>
         None
     } else if has_option(arguments, "--import") {
         Some(("--imports", "--import"))
+    } else if has_option(arguments, "--func") {
+        Some(("--imports", "--func"))
     } else if has_option(arguments, "--dot") {
         Some(("--imports", "--dot"))
     } else if text_count(options(), arguments) > 1 {
@@ -244,6 +255,7 @@ fn command_from<'a>(
         adapters: lists.adapters,
         adapter_exports: lists.adapter_exports,
         imports: lists.imports,
+        functions: lists.functions,
         dot: has_option(arguments, "--dot"),
         json: has_option(arguments, "--json"),
         summary: has_option(arguments, "--imports"),
@@ -257,6 +269,7 @@ struct Lists<'a> {
     adapters: Vec<(&'a str, &'a str)>,
     adapter_exports: Vec<(&'a str, &'a str)>,
     imports: Vec<ImportPattern<'a>>,
+    functions: Vec<&'a str>,
 }
 
 /// Reads what is given by options that may come several times.
@@ -267,9 +280,11 @@ fn lists_of(alloc: Global, arguments: &[String]) -> Result<Lists<'_>, AllocError
     let given = values(alloc, options(), arguments, "--adapter-export")?;
     let adapter_exports = pairs_of(alloc, &given)?;
     let imports = patterns_of(alloc, &values(alloc, options(), arguments, "--import")?)?;
+    let functions = values(alloc, options(), arguments, "--func")?;
     Ok(Lists {
         adapters,
         adapter_exports,
         imports,
+        functions,
     })
 }

@@ -1,25 +1,25 @@
 //! The text that is printed for the bytes of a module.
 
-ghost use Rattle.std.specs.Prelude.{◌≡◌, IfErr, IsErrOf, OnOk, map, true};
+ghost use Rattle.std.specs.Prelude.{◌≡◌, IfErr, OnOk, length, map};
 ghost use Rattle.wc_read.specs.Imports.{import_value};
 ghost use Rattle.wc_program.specs.Screen.{Becomes, output_ends};
-ghost use Rattle.wc_import_paths.specs.Followed.{AreShown, HasPaths};
+ghost use Rattle.wc_import_paths.specs.Followed.{HasPaths, followed_view};
+ghost use Rattle.wc_import_paths.specs.Functions.{AreAskedOf};
+ghost use Rattle.wc_why.specs.Tree.{tree_caller_view};
 ghost use Rattle.wcwhy.specs.Arguments.{command_view};
-ghost use Rattle.wcwhy.specs.Program.{IsPrintCause, IsPrintedOf};
-ghost use Rattle.wcwhy.specs.Private.Execution.{IsFollowedCause, IsNoImportFault, IsSourcePrinted, PrintsSome};
-ghost use Rattle.wcwhy.specs.Private.Followed.{IsSourceText};
-ghost use Rattle.wcwhy.specs.Private.Puts.{PutsSome};
+ghost use Rattle.wcwhy.specs.Program.{IsPrintCause, IsPrintedOf, IsSourceText};
+ghost use Rattle.wcwhy.specs.Private.Execution.{IsFollowedCause, IsNoImportFault, IsSourcePrinted, IsTreeFault, PrintsSome};
 
 use crate::arguments::Command;
-use crate::fault::{PrintFault, WhyFault, near_text, source_fault};
-use crate::lines::put_lines;
-use crate::tree::{put_graph, put_json};
+use crate::fault::{WhyFault, near_text, source_fault};
+use crate::functions::functions_for;
+use crate::tree::print_tree;
 use std::alloc::{AllocError, Global};
-use wc_import_paths::{Asked, Followed, ImportPattern, follow};
+use wc_import_paths::{Asked, Followed, ImportPattern, follow, tree_of_followed};
 use wc_maps::Seed;
 use wc_program::Output;
 use wc_read::Import;
-use wc_texts::Sink;
+use wc_why::TreeCaller;
 
 /// Prints why imports of the module with these bytes stay: as a graph or as JSON if the command says so, otherwise as
 /// lines.
@@ -84,7 +84,6 @@ fn print_source<'a, O: Output>(
     out: &mut O,
 ) -> Result<(), WhyFault<'a>>
     requires paths { HasPaths followed.now }
-    requires shown { AreShown followed.now asked.now }
     requires asked { asked.now ≡ (command_view command.now).imports }
     ensures done { OnOk result (IsSourcePrinted (command_view command.now) followed.now
         (Becomes (output_ends O.written O.sent O.is_failed) out.old out.new)) }
@@ -93,56 +92,55 @@ fn print_source<'a, O: Output>(
 {
     match asked.first_unknown(alloc, &followed.code.imports) {
         Ok(Some(pattern)) => Err(no_import(alloc, pattern, &followed.code.imports)),
-        Ok(None) => match put_source_and_flush(alloc, command, asked, followed, out) {
-            Ok(()) => Ok(()),
-            Err(PrintFault::Memory) => Err(WhyFault::Memory),
-            Err(PrintFault::Output) => Err(WhyFault::Output),
-        },
+        Ok(None) => print_known(alloc, command, asked, followed, out),
         Err(AllocError) => Err(WhyFault::Memory),
     }
 }
 
-/// Puts why imports of a module that is followed stay, and flushes it.
-fn put_source_and_flush<O: Output>(
+/// Prints the paths to the imports and to the functions that options ask for.
+fn print_known<'a, O: Output>(
     alloc: Global,
-    command: &Command<'_>,
-    asked: &Asked<'_, '_>,
+    command: &Command<'a>,
+    asked: &Asked<'_, 'a>,
     followed: &Followed<'_>,
     out: &mut O,
-) -> Result<(), PrintFault>
+) -> Result<(), WhyFault<'a>>
     requires paths { HasPaths followed.now }
-    requires shown { AreShown followed.now asked.now }
-    ensures done { OnOk result (PrintsSome (IsSourceText command.now.dot command.now.json
-        followed.now asked.now)
+    requires asked { asked.now ≡ (command_view command.now).imports }
+    ensures done { OnOk result (PrintsSome (IsSourceText (command_view command.now)
+        (followed_view followed.now) followed.now.bytes.now)
         (Becomes (output_ends O.written O.sent O.is_failed) out.old out.new)) }
-    ensures output { IsErrOf result PrintFault.Output → O.is_failed out.new ≡ true }
+    ensures fault { IfErr result (IsFollowedCause (command_view command.now) followed.now
+        (Becomes (output_ends O.written O.sent O.is_failed) out.old out.new)) }
 {
-    put_source(alloc, command, asked, followed, out)?;
-    out.flush()?;
-    Ok(())
+    let count = followed.code.funcs.len();
+    match functions_for(alloc, asked.seed(), command, followed.bytes, count) {
+        Ok(functions) => print_with(alloc, command, asked, (followed, &functions), out),
+        Err(fault) => Err(fault),
+    }
 }
 
-/// Puts why imports of a module that is followed stay: as a graph or as JSON, if that is asked for, or else in lines.
-fn put_source<S: Sink>(
+/// Prints the paths to the imports that options ask for, and to these functions.
+fn print_with<'a, O: Output>(
     alloc: Global,
-    command: &Command<'_>,
+    command: &Command<'a>,
     asked: &Asked<'_, '_>,
-    followed: &Followed<'_>,
-    out: &mut S,
-) -> Result<(), PrintFault>
-    requires paths { HasPaths followed.now }
-    requires shown { AreShown followed.now asked.now }
-    ensures done { OnOk result (PutsSome (IsSourceText command.now.dot command.now.json followed.now
-        asked.now)
-        (S.written out.old) (S.written out.new)) }
-    ensures works { OnOk result (S.is_failed out.new ≡ S.is_failed out.old) }
-    ensures output { IsErrOf result PrintFault.Output → S.is_failed out.new ≡ true }
+    ends: (&Followed<'_>, &[TreeCaller<'_>]),
+    out: &mut O,
+) -> Result<(), WhyFault<'a>>
+    requires paths { HasPaths ends.0.now }
+    requires asked { asked.now ≡ (command_view command.now).imports }
+    ensures done { AreAskedOf ends.entry.0.now.bytes.now
+        (length (followed_view ends.entry.0.now).code.funcs) (command_view command.now).functions
+        (map tree_caller_view ends.entry.1.now)
+        → OnOk result (PrintsSome (IsSourceText (command_view command.now)
+        (followed_view ends.entry.0.now) ends.entry.0.now.bytes.now)
+        (Becomes (output_ends O.written O.sent O.is_failed) out.old out.new)) }
+    ensures fault { IfErr result (IsTreeFault
+        (Becomes (output_ends O.written O.sent O.is_failed) out.old out.new)) }
 {
-    if command.dot {
-        put_graph(alloc, asked, followed, out)
-    } else if command.json {
-        put_json(alloc, asked, followed, out)
-    } else {
-        put_lines(alloc, asked, followed, out)
+    match tree_of_followed(alloc, asked, ends.1, ends.0) {
+        Ok(tree) => print_tree(alloc, asked.seed(), command, &tree, out),
+        Err(AllocError) => Err(WhyFault::Memory),
     }
 }

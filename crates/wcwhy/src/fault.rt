@@ -4,7 +4,7 @@ ghost use Rattle.std.specs.Prelude.{◌≡◌, IfNone, IfOk, IfSome, map, string
 ghost use Rattle.std.specs.Option.{option_map};
 ghost use Rattle.wc_read.specs.Imports.{import_value};
 ghost use Rattle.wc_import_paths.specs.Patterns.{pattern_view};
-ghost use Rattle.wcwhy.specs.Fault.{IsAdapterFault, IsNamedFault, IsSourceFault, NeedsText, adapter_text, given_word, near_package_text, near_text, no_adapter_text, of_adapter, of_source, package_pattern_text, pattern_text, repeated_adapter_text, source_text, unknown_text, unread_text, why_fault_text};
+ghost use Rattle.wcwhy.specs.Fault.{IsAdapterFault, IsNamedFault, IsSourceFault, NeedsText, adapter_text, given_word, given_text, names_hint, near_package_text, near_text, no_adapter_text, no_function_text, no_names_text, of_adapter, of_source, package_pattern_text, pattern_text, repeated_adapter_text, source_text, unknown_text, unread_text, why_fault_text};
 
 use crate::near_exports::near_for;
 use crate::patterns::{named_under, near_import, near_package, near_pattern};
@@ -13,8 +13,9 @@ use wc_gc::{GcFault, TrimPlace};
 use wc_import_paths::ImportPattern;
 use wc_program::{FileProblem, problem_text};
 use wc_read::Import;
-use wc_texts::{OUT_OF_MEMORY, PutFailed, Refused, escaped, text_of};
-use wc_why::{package_text, word};
+use wc_texts::{OUT_OF_MEMORY, Refused, escaped, text_of};
+use wc_why::package_text;
+use wc_why_text::word;
 
 /// Why the program could not do what its arguments say. `run_command` says which of several causes is named; `Memory`
 /// may come in place of any.
@@ -40,6 +41,11 @@ pub enum WhyFault<'a> {
     /// version, of the first import that it would ask for by the package. If the option has a name, the name of that
     /// import follows.
     NoImport(ImportPattern<'a>, Option<String>),
+    /// A function is asked for that the module doesn't have, by this index or name. It carries the name, as it is shown, that may be
+    /// meant, as it is in the fault's text.
+    NoFunction(&'a str, Option<String>),
+    /// A function is asked for by this name, and the module of this path has no names of functions.
+    NoNames(&'a str, &'a str),
     /// The lines, or the graph, could not be printed.
     Output,
 }
@@ -65,6 +71,8 @@ impl WhyFault<'_> {
                 adapter_text(alloc, name, &text)
             }
             WhyFault::NoImport(pattern, near) => unknown_text(alloc, pattern, near),
+            WhyFault::NoFunction(name, near) => no_function_text(alloc, name, near),
+            WhyFault::NoNames(name, path) => no_names_text(alloc, name, path),
             WhyFault::Output => String::from_str(alloc, UNPRINTED),
         }
     }
@@ -82,7 +90,9 @@ impl WhyFault<'_> {
             | WhyFault::NoAdapter(_, _)
             | WhyFault::Source(_, _, _)
             | WhyFault::Adapter(_, _, _, _)
-            | WhyFault::NoImport(_, _) => None,
+            | WhyFault::NoImport(_, _)
+            | WhyFault::NoFunction(_, _)
+            | WhyFault::NoNames(_, _) => None,
         }
     }
 }
@@ -159,7 +169,7 @@ fn source_text(
     match place {
         Some(place) => format!(in alloc; "{text}\n  {place}"),
         None => match near {
-            Some(near) => format!(in alloc; "{text}\n  is there: {near}"),
+            Some(near) => format!(in alloc; "{text}\n  did you mean {near}?"),
             None => Ok(text),
         },
     }
@@ -177,8 +187,48 @@ fn unknown_text(
 {
     let asked = pattern_text(alloc, pattern)?;
     match near {
-        Some(near) => format!(in alloc; "no import {asked}\n  is there: {near}"),
+        Some(near) => format!(in alloc; "no import {asked}\n  did you mean {near}?"),
         None => format!(in alloc; "no import {asked}"),
+    }
+}
+
+/// The fault for a function that the module doesn't have, and under it the name that may be meant, if there is one.
+fn no_function_text(alloc: Global, name: &str, near: &Option<String>) -> Result<String, AllocError>
+    ensures { IfOk result (λ text. string_bytes text
+        ≡ no_function_text name.now (option_map string_bytes near.now)) }
+{
+    let name = given_text(alloc, name)?;
+    match near {
+        Some(near) => format!(in alloc; "no function {name}\n  did you mean {near}?"),
+        None => format!(in alloc; "no function {name}"),
+    }
+}
+
+/// The fault for a function that is asked for by its name of a module without names, and under it how to keep them.
+fn no_names_text(alloc: Global, name: &str, path: &str) -> Result<String, AllocError>
+    ensures { IfOk result (λ text. string_bytes text ≡ no_names_text name.now path.now) }
+{
+    let text = no_function_text(alloc, name, &None)?;
+    let hint = names_hint(alloc, path)?;
+    format!(in alloc; "{text}\n  {hint}")
+}
+
+/// That the module of this path has no names of functions, and how to keep them.
+fn names_hint(alloc: Global, path: &str) -> Result<String, AllocError>
+    ensures { IfOk result (λ text. string_bytes text ≡ names_hint path.now) }
+{
+    let path = escaped(alloc, path)?;
+    format!(in alloc; "no function names in {path}: link with -g, without --strip, strip = false")
+}
+
+/// A text that was given, escaped; an empty one as `''`, so that it is seen.
+fn given_text(alloc: Global, text: &str) -> Result<String, AllocError>
+    ensures { IfOk result (λ t. string_bytes t ≡ given_text text.now) }
+{
+    if text == "" {
+        String::from_str(alloc, "''")
+    } else {
+        escaped(alloc, text)
     }
 }
 
@@ -326,34 +376,5 @@ fn of_adapter<'a>(
     match fault {
         GcFault::Memory => WhyFault::Memory,
         _ => WhyFault::Adapter(name, fault, place, near),
-    }
-}
-
-/// Why something could not be printed.
-#[derive(Clone, Copy)]
-pub(crate) enum PrintFault {
-    /// An allocation failed.
-    Memory,
-    /// The output failed.
-    Output,
-}
-
-impl From<AllocError> for PrintFault {
-    ghost use Rattle.wcwhy.specs.declared.fault.PrintFault.TheVariants.{Memory};
-
-    ghost from_gives = { λ _ e. e ≡ Memory };
-
-    fn from(_e: AllocError) -> PrintFault {
-        PrintFault::Memory
-    }
-}
-
-impl From<PutFailed> for PrintFault {
-    ghost use Rattle.wcwhy.specs.declared.fault.PrintFault.TheVariants.{Output};
-
-    ghost from_gives = { λ _ e. e ≡ Output };
-
-    fn from(_e: PutFailed) -> PrintFault {
-        PrintFault::Output
     }
 }

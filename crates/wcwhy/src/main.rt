@@ -1,21 +1,23 @@
 //! `wcwhy` says why a module imports something: it prints the path of items that leads to the import from an export,
 //! the start function or an active segment (`wc_paths`).
 //!
-//! `parse` returns the command of some arguments. `run_command` executes a command, with any `FileStore` and any
-//! `Output`. `run` is the program with these and with any `Screen` for its faults; its contract says what the program
-//! does. `main` calls it with the system's arguments and shell, from `wc_program`. `wc_why` prints paths;
-//! `wc_module_ways` prints paths through adapters, and imports by interface.
+//! `parse` gives the command of some arguments. `run_command` does a command's work, over any `FileStore` and any `Output`,
+//! and `run` is the program over these and any `Screen` for its faults: its contract says what the program does. `main` gives it
+//! the system's arguments and shell, of `wc_program`. The tree of paths is that of `wc_import_paths`, or with adapters of
+//! `wc_module_ways`, and is printed by `wc_why_text`.
 #![tactic(auto)]
 
 mod adapter_names;
 mod arguments;
 mod execution;
 mod fault;
+mod functions;
 mod inputs;
-mod lines;
+mod json_faults;
 mod module_ways;
 mod near_exports;
 mod patterns;
+mod places;
 mod program;
 mod texts;
 mod tree;

@@ -1,6 +1,9 @@
 //! The text that is printed of a main module and its adapters.
 
-ghost use Rattle.std.specs.Prelude.{◌≡◌, IfErr, IfOk, None, OnOk, map};
+ghost use Rattle.std.specs.Prelude.{◌≡◌, IfErr, IfOk, None, OnOk, length, map};
+ghost use Rattle.wc_why.specs.Tree.{tree_caller_view};
+ghost use Rattle.wc_import_paths.specs.Functions.{AreAskedOf};
+ghost use Rattle.wc_import_paths.specs.MainModules.{code_of};
 ghost use Rattle.wc_import_paths.specs.Patterns.{first_unknown};
 ghost use Rattle.wc_module_ways.specs.Adapters.{adapter_view, given_view};
 ghost use Rattle.wc_module_ways.specs.Modules.{AreView, HasModules, ModulesView, imports_of, input_view};
@@ -11,22 +14,24 @@ ghost use Rattle.wcwhy.specs.Arguments.{command_view};
 ghost use Rattle.wcwhy.specs.ModuleWays.{ArePrinted, AreWays, IsModulesCause, modules_input, IsShown, IsSummary};
 ghost use Rattle.wcwhy.specs.Private.Execution.{PrintsSome};
 ghost use Rattle.wcwhy.specs.Private.Inputs.{file_view};
-ghost use Rattle.wcwhy.specs.Private.ModuleWays.{AreKnownPrinted, IsKnownCause, IsPutFault, IsModulesFault, IsUnknownOf, IsWaysCause, IsWaysFault};
+ghost use Rattle.wcwhy.specs.Private.ModuleWays.{AreKnownPrinted, IsKnownCause, IsPutFault, IsModulesFault, IsShownCause, IsUnknownOf, IsWaysCause, IsWaysFault};
 
 use crate::arguments::Command;
 use crate::execution::no_import;
 use crate::fault::{WhyFault, adapter_fault, source_fault};
+use crate::functions::functions_for;
 use crate::inputs::Input;
+use crate::tree::print_tree;
 use std::alloc::{AllocError, Global};
 use wc_import_paths::Asked;
 use wc_maps::Seed;
 use wc_module_ways::{
-    Modules, ModulesInput, ModulesRefusal, imports_json, imports_text, ways_graph, ways_json,
-    ways_text,
+    Modules, ModulesInput, ModulesRefusal, imports_json, imports_text, tree_of_modules,
 };
 use wc_program::{Output, Screen};
 use wc_read::Import;
 use wc_texts::{PutFailed, Refused};
+use wc_why::TreeCaller;
 
 /// Prints the paths through a main module and its adapters to the imports that a command asks for.
 pub(crate) fn print_modules<'a, O: Output>(
@@ -50,6 +55,7 @@ pub(crate) fn print_modules<'a, O: Output>(
                 exports: &command.exports,
                 adapters: &adapters,
                 adapter_exports: &command.adapter_exports,
+                is_whole: !command.functions.is_empty(),
             };
             print_given(alloc, seed, command, &given, out)
         }
@@ -180,7 +186,8 @@ fn print_shown<'a, O: Output>(
     ensures done { (w : ModulesView) → AreView modules.now w
         → OnOk result (PrintsSome (IsShown (command_view command.now) w asked.now)
         (Becomes (output_ends O.written O.sent O.is_failed) out.old out.new)) }
-    ensures fault { (w : ModulesView) → AreView modules.now w → IfErr result (IsWaysCause w
+    ensures fault { (w : ModulesView) → AreView modules.now w
+        → IfErr result (IsShownCause (command_view command.now) w
         (Becomes (output_ends O.written O.sent O.is_failed) out.old out.new)) }
 {
     if command.summary {
@@ -232,7 +239,7 @@ fn summary_bytes<'r>(
     }
 }
 
-/// Prints the paths through modules to the imports that are asked for, as a graph, as JSON or as lines.
+/// Prints the paths through modules to the imports and the functions that are asked for.
 fn print_ways<'a, O: Output>(
     alloc: Global,
     command: &Command<'a>,
@@ -242,44 +249,41 @@ fn print_ways<'a, O: Output>(
 ) -> Result<(), WhyFault<'a>>
     requires { HasModules modules.now }
     ensures done { (w : ModulesView) → AreView modules.now w
-        → OnOk result (PrintsSome (AreWays (command_view command.now).dot
-        (command_view command.now).json w asked.now)
+        → OnOk result (PrintsSome (AreWays (command_view command.now) w asked.now)
         (Becomes (output_ends O.written O.sent O.is_failed) out.old out.new)) }
-    ensures fault { (w : ModulesView) → AreView modules.now w → IfErr result (IsWaysCause w
+    ensures fault { (w : ModulesView) → AreView modules.now w
+        → IfErr result (IsShownCause (command_view command.now) w
         (Becomes (output_ends O.written O.sent O.is_failed) out.old out.new)) }
 {
-    match ways_bytes(alloc, command, asked, modules) {
-        Ok(text) => put_bytes(&text, out),
-        Err(refusal) => Err(ways_fault(alloc, refusal)),
+    let main = &modules.main;
+    let count = main.code().funcs.len();
+    match functions_for(alloc, asked.seed(), command, main.bytes(), count) {
+        Ok(functions) => print_with(alloc, command, asked, (modules, &functions), out),
+        Err(fault) => Err(fault),
     }
 }
 
-/// The paths through modules to the imports that are asked for, as a graph, as JSON or as lines.
-fn ways_bytes<'r>(
+/// Prints the paths through modules to the imports that are asked for, and to these functions.
+fn print_with<'a, O: Output>(
     alloc: Global,
-    command: &Command<'_>,
+    command: &Command<'a>,
     asked: &Asked<'_, '_>,
-    modules: &Modules<'r>,
-) -> Result<Vec<u8>, ModulesRefusal<'r>>
-    requires { HasModules modules.now }
-    ensures text { IfOk result (λ v. (w : ModulesView) → AreView modules.now w
-        → AreWays (command_view command.now).dot (command_view command.now).json w asked.now
-        v.items) }
-    ensures refused { IfErr result
-        (IsWaysRefusal (map adapter_view modules.now.adapters.items)) }
+    ends: (&Modules<'_>, &[TreeCaller<'_>]),
+    out: &mut O,
+) -> Result<(), WhyFault<'a>>
+    requires { HasModules ends.0.now }
+    ensures done { (w : ModulesView) → AreView ends.entry.0.now w
+        → AreAskedOf w.bytes (length (code_of w.main).funcs) (command_view command.now).functions
+        (map tree_caller_view ends.entry.1.now)
+        → OnOk result (PrintsSome (AreWays (command_view command.now) w asked.now)
+        (Becomes (output_ends O.written O.sent O.is_failed) out.old out.new)) }
+    ensures fault { (w : ModulesView) → AreView ends.entry.0.now w
+        → IfErr result (IsWaysCause w
+        (Becomes (output_ends O.written O.sent O.is_failed) out.old out.new)) }
 {
-    if command.dot {
-        match ways_graph(alloc, modules, asked) {
-            Ok(text) => Ok(text.into_bytes()),
-            Err(refusal) => Err(refusal),
-        }
-    } else if command.json {
-        ways_json(alloc, modules, asked)
-    } else {
-        match ways_text(alloc, modules, asked) {
-            Ok(text) => Ok(text.into_bytes()),
-            Err(refusal) => Err(refusal),
-        }
+    match tree_of_modules(alloc, ends.0, asked, ends.1) {
+        Ok(tree) => print_tree(alloc, asked.seed(), command, &tree, out),
+        Err(refusal) => Err(ways_fault(alloc, refusal)),
     }
 }
 

@@ -3,7 +3,7 @@
 ghost use Rattle.std.specs.Prelude.{◌≡◌, map};
 ghost use Rattle.std.specs.Option.{option_map};
 ghost use Rattle.wc_read.specs.Imports.{import_value};
-ghost use Rattle.wc_why.specs.Paths.{text_of};
+ghost use Rattle.wc_why.specs.Texts.{text_of};
 ghost use Rattle.wc_import_paths.specs.Patterns.{pattern_view};
 ghost use Rattle.wcwhy.specs.Patterns.{is_near, is_near_name, is_near_package, is_package_alike, named_under, near_import, near_package, near_pattern};
 

@@ -7,7 +7,7 @@ ghost use Rattle.wc_program.specs.Screen.{Becomes, output_ends};
 ghost use Rattle.wc_program.specs.Program.{Prints, failure, success, wrong_arguments};
 ghost use Rattle.wcwhy.specs.Arguments.{command_view};
 ghost use Rattle.wcwhy.specs.Fault.{NeedsText};
-ghost use Rattle.wcwhy.specs.Program.{CommandEnds, EndsWell, EndsWith, EndsWithout, EndsWithoutArguments, IsReported, IsRunCause, IsTextCause, IsTextOf, ProgramEnds, is_alone};
+ghost use Rattle.wcwhy.specs.Program.{CommandEnds, EndsWell, EndsWith, EndsWithout, EndsWithoutArguments, IsReported, IsReportedAs, IsRunCause, IsTextCause, IsTextOf, ProgramEnds, is_alone};
 ghost use Rattle.wcwhy.specs.Private.Execution.{AnswersStop, PrintsSome};
 ghost use Rattle.wcwhy.specs.Private.Inputs.{file_view};
 ghost use Rattle.wcwhy.specs.Usage.{fault_and_usage, fault_line, help_text, usage_text};
@@ -16,6 +16,7 @@ use crate::arguments::{Command, NoCommand, parse};
 use crate::execution::print_reasons;
 use crate::fault::WhyFault;
 use crate::inputs::{Input, read_input};
+use crate::json_faults::report_json;
 use crate::module_ways::print_modules;
 use crate::usage::{NO_TEXT, VERSION, page};
 use std::alloc::{AllocError, Global};
@@ -37,14 +38,16 @@ use wc_texts::OUT_OF_MEMORY;
 /// | 0 | `parse` answers `Help` or `Version` | the help text or the version, to `out` |
 /// | 0 | the command was run | the lines of imports, or the graph or JSON of them, to `out` |
 /// | 1 | the command could not be run | the line `wcwhy: TEXT`, to `err` |
+/// | 1 | it could not be run, and has `--json` | the fault as JSON in a line, to `err` |
 /// | 1 | there was no memory for the arguments | the line `wcwhy: out of memory`, to `err` |
 /// | 2 | an argument is wrong, or no text | the line `wcwhy: TEXT` and the usage text, to `err` |
 /// | 1 | `out` or `err` failed | not known there |
 ///
-/// TEXT is the text of `run_command`'s fault (`WhyFault::text`) or of the wrong argument (`WrongArgument::text`). If
-/// there was no memory for it, it is `out of memory`, and the status is 1. The texts of `Memory` and `Output` need no
-/// memory. All printed text is flushed, except text that was printed before memory ran out. Nothing is printed to the
-/// other output, unless `out` failed or memory ran out before.
+/// TEXT is the text of `run_command`'s fault (`WhyFault::text`) or of the wrong argument (`WrongArgument::text`). The
+/// JSON is an object with `text`, which is TEXT, and `place`, what the fault is about, or null. If there was no memory for
+/// these, TEXT is `out of memory`, and the status is 1. `Memory` and `Output` need no memory for them. All printed text is
+/// flushed, except text that was printed before memory ran out. Nothing is printed to the other output, unless `out`
+/// failed or memory ran out before.
 pub fn run<F: FileStore, O: Output, E: Screen>(
     arguments: &io::Result<Vec<String>>,
     shell: &mut Shell<F, O, E>,
@@ -133,27 +136,30 @@ fn run_and_report<F: FileStore, O: Output, E: Screen>(
         &mut shell.out,
     ) {
         Ok(()) => SUCCESS,
-        Err(fault) => report(shell.alloc, &mut shell.err, &fault),
+        Err(fault) => report_as(shell.alloc, &mut shell.err, &fault, command.json),
     }
 }
 
 /// Reads the module of a command, and its adapters, and prints why imports stay.
 ///
-/// For a module that stands alone, without adapters, it prints the lines of one path for each import that is asked for,
-/// in the order of the file. They are `MODULE NAME`; the root, as `  export NAME`, `  start`, `  fills table T` or
-/// `  fills memory M`; and a line for each item of the path, as `  func 33 write_all`. If no path leads to the import,
-/// the only line is `MODULE NAME: not reached` if imports are asked for. If all are shown, the import has no line.
+/// Of a module that stands alone, without adapters: for each import that is asked for, in the order of the
+/// file, the lines of the one path to its item: `MODULE NAME`, where the path begins, as `  export NAME`, `  start`,
+/// `  fills table T` or `  fills memory M`, and then a line for each of its items, as `  func 33 write_all`. Where nothing
+/// leads there, it is the line `MODULE NAME: not reached` if imports are asked for, and no line if all are shown. Where items at
+/// the beginning of a path have lines above, `as above to ITEM` names the last of them in their place.
+///
+/// After the imports come the functions that are asked for, by index, each as `func N NAME` in place of `MODULE NAME`. Where only
+/// functions are asked for, no import is shown.
 ///
 /// Paths begin at the exports that are asked for, in their order, or at all exports in the order of the file if none is
 /// asked for; and then at the start function. If none of these leads to an import, the path to it begins at an active
 /// segment (`wc_paths`).
 ///
-/// With `--json` it prints the tree of these paths instead, as JSON (`wc_tree::tree_to_json`), and with `--dot` as a
-/// graph (`wc_tree::tree_to_graph`). An import to which nothing leads is not in the tree.
+/// With `--json` it prints the tree of these paths instead, as JSON (`wc_why_text::tree_to_json`), and with `--dot` as a
+/// graph (`wc_why_text::tree_to_graph`). An import to which nothing leads is not in the tree.
 ///
-/// With adapters the module is the main module of a component. It prints the lines of `wc_module_ways::ways_text` for
-/// the imports of the main module and of the adapters that it needs. With `--json` it prints the tree of
-/// `wc_module_ways::ways_json`, and with `--dot` the graph of `wc_module_ways::ways_graph`.
+/// With adapters the module is the main module of a component. It prints the tree of `wc_module_ways::tree_of_modules`, of its
+/// imports and those of the adapters that it needs, and of its functions that are asked for: so too as lines, as JSON or as a graph.
 ///
 /// With `--imports` it prints the lines of `wc_module_ways::imports_text` instead, or with `--json` the list of
 /// `wc_module_ways::imports_json`. It does so for a module that stands alone too.
@@ -170,16 +176,18 @@ fn run_and_report<F: FileStore, O: Output, E: Screen>(
 /// - `CannotRead`: the module could not be read. It carries why.
 /// - `RepeatedAdapter`, `NoAdapter`: two adapters have one name; or an export is asked of one that is not given.
 /// - `CannotRead`: an adapter could not be read; they are read in order.
-/// - `Source`: the module can't be followed: `Read`, if the module, or then its segments, can't be read;
-///   `MissingExport`; or `LiveBody`, of a body that paths reach. With `MissingExport` it carries the first export that
-///   is equal except for its version and the case of letters. With adapters, segments and bodies that can't be read are
-///   no faults of the main module.
+/// - `Source`: the module can't be followed: `Read` of a module that can't be read, and then of segments; `MissingExport`;
+///   `LiveBody`, of a body that paths reach. With `MissingExport` it carries the first export that is equal but for its version
+///   and for the case of letters. With adapters segments and bodies that can't be read are no faults of the main module, unless
+///   functions are asked for.
 /// - `Adapter`: the bytes of an adapter are no module.
-/// - `NoImport`: the module, or with adapters each of the modules, has none of the imports that an option asks for. It
-///   carries the first such option, and the first import that it would ask for if versions and the case of letters did
-///   not count: by the module, or otherwise by the package.
-/// - `Adapter`: an adapter that the component needs can't be followed, with the faults of a trimmed adapter
-///   (`wc_gc::why_imports`). With `MissingExport` it carries the same as `Source`.
+/// - `NoImport`: the module, or with adapters each of the modules, has none of the imports that an option asks for. It carries the
+///   first such, and the first import that it would ask for by the module, or else by the package, if versions and the case of
+///   letters did not count.
+/// - `NoFunction`, `NoNames`: the module has none of the functions that an option asks for. It carries the first such, and the name
+///   that may be meant, if there is one; or the module's path, if a name is asked for and the module has no names of functions.
+/// - `Adapter`: an adapter that the component needs can't be followed, as one that is trimmed (`wc_gc::why_imports`). With
+///   `MissingExport` it carries what `Source` does.
 /// - `Output`: a put or the flush failed; `out` is failed, and how much was printed is left open.
 /// - `Memory`: an allocation failed, or a file is too large for memory. How much was printed is left open.
 ///
@@ -230,6 +238,17 @@ fn is_alone(adapters: &[(&str, &str)], summary: bool) -> bool
     ensures { result ≡ (length adapters.now == 0 && not summary) }
 {
     adapters.is_empty() && !summary
+}
+
+/// Prints why the program failed, as JSON or in lines. The answer is the status of a failure.
+fn report_as<E: Screen>(alloc: Global, err: &mut E, fault: &WhyFault<'_>, json: bool) -> u8
+    ensures { IsReportedAs json fault.now (Becomes E.ends err.old err.new) result }
+{
+    if json {
+        report_json(alloc, err, fault)
+    } else {
+        report(alloc, err, fault)
+    }
 }
 
 /// Prints why the program failed. The answer is the status of a failure.

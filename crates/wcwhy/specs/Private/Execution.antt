@@ -1,5 +1,5 @@
 -- What parts of a run of a command do.
-use Rattle.std.specs.Prelude.{◌≡◌, ◌⊎◌, ⊤, ℕ, List, None, string_bytes}
+use Rattle.std.specs.Prelude.{◌≡◌, ◌⊎◌, ⊤, ℕ, List, length, None, string_bytes}
 use Rattle.std.specs.Option.{option_map}
 use Rattle.wc_read.specs.Imports.{ImportValue}
 use Rattle.wc_read.specs.Modules.{module_value}
@@ -9,8 +9,9 @@ use Rattle.wc_import_paths.specs.Patterns.{first_unknown, pattern_view}
 use Rattle.wcwhy.specs.Arguments.{CommandView}
 use Rattle.wcwhy.specs.Fault.{near_text}
 use Rattle.wcwhy.specs.ModuleWays.{IsNoImport}
-use Rattle.wcwhy.specs.Program.{EndsWithoutMemory, StopEnds}
-use Rattle.wcwhy.specs.Private.Followed.{IsSourceText}
+use Rattle.wcwhy.specs.Functions.{IsFunctionFault}
+use Rattle.wcwhy.specs.Program.{EndsWithoutMemory, IsSourceText, StopEnds}
+use Rattle.wc_import_paths.specs.Followed.{followed_view}
 use Rattle.wc_import_paths.specs.declared.followed.Followed.{Followed}
 use Rattle.wc_import_paths.specs.declared.patterns.ImportPattern.{ImportPattern}
 use Rattle.wc_options.specs.declared.wrong.NoCommand.{NoCommand}
@@ -28,14 +29,14 @@ AnswersStop (Wrong w) out err status = StopEnds (wrong (wrong_view w)) out err s
 -- a module that is followed has some of the imports that each option asks for, and what is asked for is printed of it
 abbrev pub IsSourcePrinted : CommandView → Followed → (Printing → Type 0) → Type 0
 IsSourcePrinted c f out =
-    (text : List ℕ) × (first_unknown (module_value f.code).imports c.imports ≡ None) × IsSourceText c.dot c.json f c.imports text × out (printed text)
+    (text : List ℕ) × (first_unknown (module_value f.code).imports c.imports ≡ None) × IsSourceText c (followed_view f) f.bytes.now text × out (printed text)
 
 -- why it could not be printed
 abbrev pub IsFollowedCause : CommandView → Followed → (Printing → Type 0) → WhyFault → Type 0
 IsFollowedCause c f out why_memory = ⊤
 IsFollowedCause c f out Output = out failed
 IsFollowedCause c f out (NoImport p near) = IsNoImport (module_value f.code).imports c.imports p near × out nothing
-IsFollowedCause c f out fault = ⊥
+IsFollowedCause c f out fault = IsFunctionFault c f.bytes.now (length (module_value f.code).funcs) fault × out nothing
 
 -- the fault for what an option asks for, of which none of these imports is
 abbrev pub IsNoImportFault : List ImportValue → ImportPattern → WhyFault → Type 0
@@ -46,3 +47,9 @@ IsNoImportFault imports p f = ⊥
 -- a text that is as `Is` says is printed
 abbrev pub PrintsSome : (List ℕ → Type 0) → (Printing → Type 0) → Type 0
 PrintsSome Is out = (text : List ℕ) × Is text × out (printed text)
+
+-- why a tree could not be printed
+abbrev pub IsTreeFault : (Printing → Type 0) → WhyFault → Type 0
+IsTreeFault out why_memory = ⊤
+IsTreeFault out Output = out failed
+IsTreeFault out f = ⊥

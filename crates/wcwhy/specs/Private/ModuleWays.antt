@@ -1,5 +1,5 @@
 -- What parts of a run over a main module and its adapters do.
-use Rattle.std.specs.Prelude.{◌≡◌, ◌≢◌, ⊤, ℕ, List, Option, Some, None, string_bytes}
+use Rattle.std.specs.Prelude.{◌≡◌, ◌≢◌, ◌⊎◌, ⊤, ℕ, length, List, Option, Some, None, string_bytes}
 use Rattle.wc_gc.specs.declared.fault.GcFault.{GcFault}
 use Rattle.wc_gc.specs.declared.fault.GcFault.TheVariants.{Memory as gc_memory}
 use Rattle.wc_gc.specs.declared.trim_place.TrimPlace.{TrimPlace}
@@ -11,6 +11,8 @@ use Rattle.wc_module_ways.specs.declared.refusals.ModulesRefusal.{ModulesRefusal
 use Rattle.wc_program.specs.Screen.{Printing, nothing, printed, failed}
 use Rattle.wc_read.specs.Imports.{ImportValue}
 use Rattle.wcwhy.specs.Arguments.{CommandView}
+use Rattle.wc_import_paths.specs.MainModules.{code_of}
+use Rattle.wcwhy.specs.Functions.{IsFunctionFault}
 use Rattle.wcwhy.specs.Fault.{IsAdapterFault, IsSourceFault}
 use Rattle.wcwhy.specs.ModuleWays.{IsNoImport, IsUnfollowed, IsShown}
 use Rattle.wcwhy.specs.NearExports.{IsNearFor}
@@ -40,9 +42,12 @@ IsWaysCause w out Memory = ⊤
 IsWaysCause w out Output = out failed
 IsWaysCause w out f = AreUnfollowed w f × out nothing
 
+abbrev pub IsShownCause : CommandView → ModulesView → (Printing → Type 0) → WhyFault → Type 0
+IsShownCause c w out f = IsWaysCause w out f ⊎ (IsFunctionFault c w.bytes (length (code_of w.main).funcs) f × out nothing)
+
 abbrev pub IsKnownCause : CommandView → ModulesView → (Printing → Type 0) → WhyFault → Type 0
 IsKnownCause c w out (NoImport p near) = IsNoImport (imports_of w) c.imports p near × out nothing
-IsKnownCause c w out f = IsWaysCause w out f
+IsKnownCause c w out f = IsShownCause c w out f
 
 -- an output failed
 abbrev pub IsPutFault : (Printing → Type 0) → WhyFault → Type 0

@@ -2,16 +2,13 @@ use Rattle.wc_program.specs.Screen.{Becomes, output_ends}
 use Rattle.std.proofs.Common.{map, refl, subst}
 use Rattle.wc_import_paths.specs.Followed.{IsSource}
 use Rattle.wc_import_paths.specs.Following.{IsRefusal}
-use Rattle.wc_why.specs.Paths.{text_of}
+use Rattle.wc_why.specs.Texts.{text_of}
 use Rattle.wcwhy.specs.Arguments.{command_view}
 use Rattle.wcwhy.proofs.ExecutionLemmas.{refused_cause, some_source_cause, source_of}
 use Rattle.wcwhy.proofs.execution.print_followed.Goals as goal
 
 pub print_source-requires-clause-paths : goal.print_source-requires-clause-paths
 print_source-requires-clause-paths g c = c.in-Ok.ensures.source.has_paths
-
-pub print_source-requires-clause-shown : goal.print_source-requires-clause-shown
-print_source-requires-clause-shown g c = c.in-Ok.ensures.shown
 
 pub returns-in-Ok-clause-done : goal.returns-in-Ok-clause-done
 returns-in-Ok-clause-done g c =

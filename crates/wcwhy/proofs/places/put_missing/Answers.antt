@@ -1,0 +1,12 @@
+use Rattle.wc_texts.specs.Shapes.{object_of}
+use Rattle.wc_why_text.proofs.TokenLemmas.{closed, then}
+use Rattle.wcwhy.proofs.places.put_missing.Goals as goal
+
+pub returns : goal.returns
+unfolding object_of
+returns c =
+    then _ _ _ c.in_ok-begin_object.ensures
+    (then _ _ _ c.in_ok-put_text.ensures
+    (then _ _ _ c.in_ok-put_text_or_null.ensures
+    (then _ _ _ c.in_ok-put_text-2.ensures
+    (closed _ _ c.in_ok-put_null.ensures c.end_object.ensures))))
