@@ -1,182 +1,136 @@
 #!/usr/bin/env python3
-"""Compares the paths that `wcwhy` prints with those of another search, breadth first in Python over what wasm-objdump lists.
+"""Compares the paths that `wcwhy` prints, alone and through adapters, with those of another search, breadth first in Python.
 
-    checks/chains.py [PROGRAM] [ADAPTER ..]
+    checks/chains.py [--program PROGRAM] [--cases N] [MAIN ..]
 
-PROGRAM is crates/wcwhy/out/wcwhy by default. The ADAPTERS are by default those that Rust's `wasm-component-ld` carries, as in
-checks/adapters.py. For each export alone, for all of them, and for ten choices of them, an import has to have a path just if this
-search finds one, of the same length, and each item of the path names the next. Then it asks by `--import` for the imports of
-one module: an item has to be marked just if none of them is reached without it, and it is none of them. A line is printed for
-each difference, and at last how many agree; the status is 1 if one differs, or if there is none. It needs wabt.
+PROGRAM is crates/wcwhy/out/wcwhy by default. Judged are the adapters that Rust's `wasm-component-ld` carries, each alone; the
+main modules MAIN (those of examples/ by default), alone and with each of these adapters; and N random components (1,000) of a
+main module and up to two adapters, alone and with them. Each is asked for all paths, then by random exports, imports and
+functions.
 
-Types are left out, since they lead to no import, and initialisers: adapters whose globals are initialised by imports are not
-judged.
+The modules are read by module_items.py. By component_paths.py each import has the shortest path through the component from the
+first list of roots that leads there, of several the first by the order of roots and of names; and an item is marked just if
+nothing that is asked for is reached without it. The JSON has to be exactly the tree of these paths, with marks and callers, and
+the lines have to be those of the tree. A line is printed for each difference, and at last how many paths and marks agree; the
+status is 1 if one differs, or if there is none.
 """
 import argparse
-import collections
+import json
 import os
 import pathlib
 import random
-import re
 import subprocess
 import sys
 import tempfile
 
 from adapters import linkers, modules_inside, read
-from module_bytes import content, items, name_at, number_at
+from component_paths import Adapter, Component, difference, different_in, way_of, with_roots
+from module_items import Module
+from random_components import ADAPTERS, adapter_of, main_of
 
-sys.path.append(str(pathlib.Path(__file__).resolve().parent.parent / "tools"))
-from repository import TOP, need
+sys.path += [str(pathlib.Path(__file__).resolve().parent.parent / folder) for folder in ("tools", "python")]
+from nuigatre._lines import asks, function_text, way_lines, word
+from repository import TOP
 
-KINDS = "func", "table", "memory", "global"
-OPERATOR = re.compile(r" [0-9a-f]+: [0-9a-f ]+\| *(\S+)(?: (.*))?")
-MEMORY = re.compile(r"\w+\.(load|store)\w*|memory\.(size|grow|fill|copy)")
-NAMED = {"call": "func", "return_call": "func", "ref.func": "func", "global.get": "global", "global.set": "global",
-         "table.get": "table", "table.set": "table", "table.size": "table", "table.grow": "table", "table.fill": "table"}
-
-
-def imports_of(module):
-    """The module, the name and the item of each import, in the order of the file."""
-    counts = collections.Counter()
-
-    def imported(data, at):
-        field, at = name_at(data, at)
-        name, at = name_at(data, at)
-        kind = KINDS[data[at]]
-        # a table and a global have a byte of a type; limits have a flag, and a maximum where it is odd
-        at += 1 + (kind in ("table", "global"))
-        for _ in range(2 + (data[at] & 1) if kind in ("table", "memory") else 1):
-            _, at = number_at(data, at)
-        counts[kind] += 1
-        return (field, name, (kind, counts[kind] - 1)), at
-
-    return items(content(module, 2), imported)
+WASI = "wasi_snapshot_preview1"
 
 
-def exports_of(module):
-    """The names of the exports, with their items."""
+class Judge:
+    """The program, a folder for modules, and what is found of it."""
 
-    def exported(data, at):
-        name, at = name_at(data, at)
-        index, after = number_at(data, at + 1)
-        return (name, (KINDS[data[at]], index)), after
+    def __init__(self, program, folder, chance):
+        self.program, self.folder, self.chance = program, folder, chance
+        self.asked, self.paths, self.items, self.marks, self.wrong = 0, 0, 0, 0, []
 
-    return dict(items(content(module, 7), exported))
+    def file(self, name, data):
+        path = os.path.join(self.folder, name + ".wasm")
+        pathlib.Path(path).write_bytes(data)
+        return path
 
+    def answer(self, words):
+        """What is printed, or nothing and the fault."""
+        ran = subprocess.run([self.program, *words], capture_output=True, text=True, check=False)
+        return (ran.stdout, "") if ran.returncode == 0 else ("", ran.stderr)
 
-def references_of(path):
-    """What each function names, by wasm-objdump."""
-    listed = subprocess.run(["wasm-objdump", "-d", path], capture_output=True, text=True, errors="replace", check=True).stdout
-    found, inside = collections.defaultdict(dict), None
-    for line in listed.splitlines():
-        head = re.match(r"[0-9a-f]+ func\[(\d+)\]", line)
-        inside = ("func", int(head[1])) if head else inside
-        operator = OPERATOR.match(line)
-        name, words = (operator[1], operator[2] or "") if operator else ("", "")
-        if name in NAMED:
-            found[inside][NAMED[name], int(words.split()[0])] = None
-        elif MEMORY.fullmatch(name):
-            found[inside]["memory", 0] = None
-        elif name in ("call_indirect", "return_call_indirect"):
-            found[inside]["table", int(words.split()[0])] = None
-    return found
-
-
-def lengths(references, roots, without=None):
-    """How many items the shortest chain to each item has that is reached, without an item."""
-    found = {root: 1 for root in roots if root != without}
-    waiting = collections.deque(found)
-    while waiting:
-        item = waiting.popleft()
-        for other in references[item]:
-            if other not in found and other != without:
-                found[other] = found[item] + 1
-                waiting.append(other)
-    return found
-
-
-def lines_of(program, path, names):
-    """The lines that the program prints."""
-    ran = subprocess.run([program, path, *names], capture_output=True, text=True, check=False)
-    if ran.returncode:
-        sys.exit(f"{path} {names}: status {ran.returncode} {ran.stderr}")
-    return ran.stdout.splitlines()
-
-
-def chains_of(lines):
-    """The import, the export and the items of each path."""
-    found = []
-    for line in lines:
-        words = line.split()
-        if not line.startswith("  "):
-            found.append([tuple(words)])
+    def ask(self, component, words, keys=(), functions=()):
+        """Compares the answers to some arguments, which ask for imports and for functions."""
+        words = [*words, *(f"--import={it}" for it in keys), *(f"--func={it}" for it in functions)]
+        self.asked += 1
+        printed, fault = self.answer([*words, "--json"])
+        if component.is_fault(functions):
+            different = "" if '"LiveBody' in fault else fault or "no fault"
         else:
-            found[-1].append(words[1] if words[0] == "export" else (words[0], int(words[1])))
-    return found
+            different = fault or self.different(component, words, keys, sorted(set(functions)), json.loads(printed))
+        if different:
+            self.wrong.append(f"{' '.join(words)}: {different}"[:1000])
 
+    def different(self, component, words, keys, functions, tree):
+        """Where the tree or the lines differ, in words."""
+        is_asked = bool(keys or functions)
+        imports = [it for it in component.imports() if not is_asked or any(asks(key, *it[:2]) for key in keys)]
+        imports = [it for it in imports if it[2] in component.found or (component.is_alone and keys)]
+        # nothing leads to a function but roots of the main module
+        ends = [("func", it) for it in functions if ("func", it) in component.reached]
+        targets = [it for _, _, it in imports] + [(0, it) for it in ends]
+        wanted, places = component.tree(targets, set(targets) if is_asked else None)
+        ways = [way_of(*it, places) for it in imports if it[2] in places]
+        ways += [{**way_of(None, None, (0, it), places), "import": None} for it in ends]
+        items = [it for module in wanted for it in module["items"] if is_asked]
+        self.paths, self.items = self.paths + len(ways), self.items + len(items)
+        self.marks += sum(it["only"] for it in items)
+        titles = [(f"{word(source)} {word(name)}", item in places) for source, name, item in imports]
+        titles += [(function_text({"index": it, "name": component.main.texts.get(it)}), ("func", it) in ends) for it in functions]
+        shown, found, left = set(), [], iter(ways)
+        for title, is_reached in titles:
+            found += way_lines(tree, next(left), shown, not component.is_alone) if is_reached else [title + ": not reached"]
+        return (difference(wanted, with_roots(tree["modules"])) or different_in("way", ways, tree["ways"])
+                or different_in("line", found, self.answer(words)[0].split("\n")[:-1]))
 
-def differing(module, references, names, printed):
-    """How many imports agree, and what is said of those that differ."""
-    exported, agreed, wrong = exports_of(module), 0, []
-    wanted = lengths(references, dict.fromkeys(exported[it] for it in names))
-    printed = iter(printed)
-    for field, name, item in imports_of(module):
-        if item not in wanted:
-            agreed += 1
-            continue
-        (title, export, *chain) = next(printed, [None, None])
-        is_chain = title == (field, name) and export in names and chain[:1] == [exported[export]] and chain[-1:] == [item]
-        is_chain = is_chain and all(after in references[before] for before, after in zip(chain, chain[1:]))
-        if is_chain and len(chain) == wanted[item]:
-            agreed += 1
-        else:
-            wrong.append(f"{field} {name} of {' '.join(names)[:60]}: {title} {export} {chain}; {wanted[item]} items wanted")
-    return agreed, wrong + [f"{' '.join(names)[:60]}: {more} is not reached" for more in printed]
+    def some(self, of, most):
+        of = list(of)
+        return self.chance.sample(of, min(len(of), self.chance.randint(0, most)))
 
-
-def differing_marks(module, references, names, asked, lines):
-    """How many lines of items agree, of the paths to the imports of a module, and what is said of those that differ."""
-    exported, agreed, wrong = exports_of(module), 0, []
-    roots = dict.fromkeys(exported[it] for it in names)
-    targets = {item for field, _, item in imports_of(module) if field == asked}
-    for line in lines:
-        words = line.removeprefix("*").split()
-        if not line.startswith(("* ", "  ")) or words[0] == "export":
-            continue
-        item = words[0], int(words[1])
-        is_marked = item not in targets and targets.isdisjoint(lengths(references, roots, item))
-        if line.startswith("* ") == is_marked:
-            agreed += 1
-        else:
-            wrong.append(f"{asked} of {' '.join(names)[:60]}: {line}: {'a' if is_marked else 'no'} mark is wanted")
-    return agreed, wrong
+    def judge(self, path, main, adapters, rounds):
+        """Asks about a main module: with adapters, which have names, paths and modules, or alone."""
+        words = [path, *(f"--adapt={name}={file}" for name, file, _ in adapters or ())]
+        for count in range(rounds):
+            exports = self.some(dict(main.exports), 5) if count else []
+            more = [self.some(dict(module.exports), 2) if count else [] for _, _, module in adapters or ()]
+            parts = adapters and [Adapter(name, module, main, asked) for (name, _, module), asked in zip(adapters, more)]
+            component = Component(main, parts, exports)
+            named = [f"--adapter-export={name}={it}" for (name, _, _), asked in zip(adapters or (), more) for it in asked]
+            keys = dict.fromkeys(source + chosen for source, name, _ in component.imports() for chosen in ("", "=" + name))
+            functions = self.some(range(main.counts["func"]), 2) if count % 2 else []
+            self.ask(component, [*words, *named, *exports], self.some(keys, 3) if count else [], functions)
 
 
 def main():
     parser = argparse.ArgumentParser(description=__doc__, formatter_class=argparse.RawDescriptionHelpFormatter)
-    parser.add_argument("program", nargs="?", default=TOP / "crates" / "wcwhy" / "out" / "wcwhy", type=os.path.abspath)
-    parser.add_argument("adapters", nargs="*", metavar="ADAPTER")
+    parser.add_argument("--program", default=TOP / "crates" / "wcwhy" / "out" / "wcwhy", type=os.path.abspath)
+    parser.add_argument("--cases", default=1000, type=int)
+    parser.add_argument("mains", nargs="*", metavar="MAIN", default=sorted((TOP / "examples").glob("*.wasm")))
     given = parser.parse_args()
-    need("wasm-objdump wabt")
-    modules = [read(it) for it in given.adapters] or [it for linker in linkers() for it in modules_inside(read(linker))]
-    agreed, marks, wrong, asked, chance = 0, 0, [], 0, random.Random(1)
     with tempfile.TemporaryDirectory() as folder:
-        path = os.path.join(folder, "adapter.wasm")
-        for module in modules:
-            pathlib.Path(path).write_bytes(module)
-            references, names = references_of(path), list(exports_of(module))
-            some = [chance.sample(names, chance.randint(2, len(names))) for _ in range(10)]
-            imported = sorted({field for field, _, _ in imports_of(module)})
-            for each in [[name] for name in names] + [names] + some:
-                more, differ = differing(module, references, each, chains_of(lines_of(given.program, path, each)))
-                agreed, wrong, asked = agreed + more, wrong + differ, asked + 1
-                key = chance.choice(imported)
-                lines = lines_of(given.program, path, [*each, f"--import={key}"])
-                more, differ = differing_marks(module, references, each, key, lines)
-                marks, wrong = marks + more, wrong + differ
-    count = f"{agreed} answers and the marks of {marks} items agree, {len(wrong)} differ"
-    print("\n".join([*wrong, f"{len(modules)} adapters, {asked} choices of exports: {count}"]))
-    return 1 if wrong or not agreed or not marks else 0
+        judge = Judge(given.program, folder, random.Random(1))
+        carried = [(WASI, judge.file(f"adapter-{n}", data), Module(data))
+                   for n, data in enumerate(data for linker in linkers() for data in modules_inside(read(linker)))]
+        for _, path, module in carried:
+            judge.judge(path, module, None, 40)
+        for path in given.mains:
+            module = Module(read(path))
+            for adapters in None, *([it] for it in carried):
+                judge.judge(str(path), module, adapters, 12)
+        for case in range(given.cases):
+            made = [(name, *adapter_of(judge.chance)) for name in ADAPTERS[:judge.chance.randint(1, 2)]]
+            data = main_of(judge.chance, [(name, exports) for name, _, exports in made])
+            adapters = [(name, judge.file(f"{case}-{name}", wasm), Module(wasm)) for name, wasm, _ in made]
+            path, module = judge.file(f"{case}-main", data), Module(data)
+            judge.judge(path, module, None, 2)
+            judge.judge(path, module, adapters, 4)
+    count = f"{judge.paths} paths, and {judge.marks} marks of {judge.items} items, {len(judge.wrong)} differ"
+    modules = f"{len(carried)} adapters, {len(given.mains)} main modules, {given.cases} random components"
+    print("\n".join([*judge.wrong, f"{modules}, {judge.asked} questions: {count}"]))
+    return 1 if judge.wrong or not judge.paths or not judge.marks else 0
 
 
 if __name__ == "__main__":

@@ -1,22 +1,23 @@
 #!/usr/bin/env python3
-"""Compares what `wcplan --imports` and `wcplan --why KEY` print with the results of another search, over what wasm-objdump lists.
+"""Compares what `--imports` and `wcplan --why KEY` print with the results of another search.
 
-    checks/summaries.py [--program PROGRAM] [--cases N] FOLDER
+    checks/summaries.py [--wcplan PROGRAM] [--wcwhy PROGRAM] [--cases N] FOLDER
 
-PROGRAM is crates/wcplan/out/wcplan by default. FOLDER has wasi-command.json, the world `wasi:cli/command`, and
+The programs are those in crates/*/out by default. FOLDER has wasi-command.json, the world `wasi:cli/command`, and
 wasi-command-adapter.wasm, the adapter `wasi_snapshot_preview1`. Main modules are the other core modules there that export
-`_start`, and N random ones (40), which import functions of the adapter and of the world.
+`_start`, and N random ones (40), which import functions of the adapter and of the world. `wcwhy` is asked about ten times N
+random components.
 
-Of --imports each line is made again: which imports are named by reached functions, which exports of the adapter lead to an
-interface, whether it goes with them, and how many bytes their bodies have. Interfaces that are imported for their types
-alone are left out. Of --why KEY, for each interface, an item has to be marked just if nothing imports the interface without
-it, and it is no such import. Main modules with other segments than active ones of table 0 are not asked for marks.
+Of --imports each line is made again (docs/PATHS.md): which imports are named by reached functions, which exports of an adapter
+lead to an interface, whether it goes with them, and how many bytes their bodies have. Interfaces that are imported for their
+types alone are left out. Of --why KEY, for each interface, and of --why all, the tree and the lines have to be as chains.py has
+them; which imports are shown for their types alone is taken from the tree.
 
-A line is printed for each difference, and at last how many lines and marks agree. The status is 1 if one differs, or if
-there are none. It needs wabt.
+A line is printed for each difference, and at last how much agrees. The status is 1 if something differs, or if there is nothing.
 """
 import argparse
 import collections
+import json
 import os
 import pathlib
 import random
@@ -24,16 +25,19 @@ import subprocess
 import sys
 import tempfile
 
-from chains import exports_of, imports_of, lengths, references_of
-from module_bytes import HEADER, content, items, name, name_at, number, number_at, section, sections, vector, vector_at
+from component_paths import Adapter, Component, difference, different_in, way_of, with_roots
+from module_bytes import HEADER, name, number, number_at, section, vector
+from module_items import Module
+from random_components import ADAPTERS, adapter_of, main_of
 
-sys.path.append(str(pathlib.Path(__file__).resolve().parent.parent / "tools"))
-from repository import TOP, need
+sys.path += [str(pathlib.Path(__file__).resolve().parent.parent / folder) for folder in ("tools", "python")]
+from nuigatre._lines import function_text, lines, word
+from repository import TOP
 
 ADAPTER = "wasi_snapshot_preview1"
 RUN = "wasi:cli/run@0.2.6#run"
 REALLOC = "cabi_import_realloc"
-ITEMS = "func", "table", "memory", "global", "type", "elem", "data"
+ADAPTER_FILE = "wasi-command-adapter.wasm"
 # functions of the world that a main module imports for itself, with their types
 OWN = [("wasi:clocks/monotonic-clock@0.2.6", "now", b"\x60\0\1\x7e"),
        ("wasi:random/random@0.2.6", "get-random-u64", b"\x60\0\1\x7e"),
@@ -43,60 +47,6 @@ NOTHING = b"\x60\0\0"
 ZERO = {0x7F: b"\x41\0", 0x7E: b"\x42\0", 0x7D: b"\x43\0\0\0\0", 0x7C: b"\x44" + bytes(8)}
 
 
-def type_at(data, at):
-    """The bytes of a function type over numbers, and the index after them."""
-    parameters, end = number_at(data, at + 1)
-    results, end = number_at(data, end + parameters)
-    return data[at:end + results], end + results
-
-
-def size_at(data, at):
-    size, at = number_at(data, at)
-    return size, at + size
-
-
-def by_index(module, ident, read):
-    """The items of the functions or bodies that a module defines, by the functions' indices."""
-    first = sum(item[0] == "func" for _, _, item in imports_of(module))
-    return dict(enumerate(items(content(module, ident), read), first))
-
-
-def functions_of(module):
-    """The type of each defined function, by its index."""
-    types = items(content(module, 1), type_at)
-    return {index: types[place] for index, place in by_index(module, 3, number_at).items()}
-
-
-def segments_of(module):
-    """The functions of each active element segment of table 0, up to a segment of another form; and whether there is one."""
-    data, found = content(module, 9), []
-    count, at = number_at(data, 0)
-    for _ in range(count):
-        if data[at] or data[at + 1] != 0x41:
-            return found, False
-        _, at = number_at(data, at + 2)
-        functions, at = vector_at(data, at + 1, number_at)
-        found.append([("func", index) for index in functions])
-    return found, True
-
-
-def names_of(module):
-    """The names of functions, by their indices, as the name section has them."""
-
-    def named(data, at):
-        index, at = number_at(data, at)
-        text, at = name_at(data, at)
-        # as the lines have it: a blank would end the name
-        return (index, text.replace(" ", r"\u{20}")), at
-
-    found = {}
-    for data in (data for ident, data in sections(module) if ident == 0):
-        text, at = name_at(data, 0)
-        for ident, part in sections(data, at) if text == "name" else ():
-            found.update(items(part, named) if ident == 1 else ())
-    return found
-
-
 def call_of(index, kind):
     """A call with zeros, whose result is dropped."""
     parameters, at = number_at(kind, 1)
@@ -104,12 +54,16 @@ def call_of(index, kind):
     return b"".join(ZERO[it] for it in kind[at:at + parameters]) + b"\x10" + number(index) + b"\x1a" * results
 
 
+def spelled(kind):
+    """The bytes of a type."""
+    return b"\x60" + b"".join(map(vector, kind))
+
+
 def main_module(adapter, chance):
     """The bytes of a random main module."""
-    own = functions_of(adapter)
-    offered = [(ADAPTER, text, own[item[1]]) for text, item in exports_of(adapter).items()
-               if item[0] == "func" and item[1] in own and text not in (RUN, REALLOC) and ":" not in text]
-    imported = chance.sample(offered, chance.randint(1, 8)) + chance.sample(OWN, chance.randint(0, 3))
+    offered = [(text, item) for text, item in adapter.exports if item[0] == "func" and text != RUN]
+    offered = [(ADAPTER, text, spelled(adapter.type_of(item))) for text, item in offered]
+    imported = chance.choices(offered, k=chance.randint(1, 8)) + chance.sample(OWN, chance.randint(0, 3))
     chance.shuffle(imported)
     count = chance.randint(2, 12)
     kinds = [kind for _, _, kind in imported] + [NOTHING] * count
@@ -117,7 +71,8 @@ def main_module(adapter, chance):
     bodies = []
     for _ in range(count):
         called = [chance.randrange(chance.choice((first, first + count))) for _ in range(chance.randint(0, 3))]
-        body = b"\0" + b"".join(call_of(it, kinds[it]) for it in called) + b"\x0b"
+        indirect = b"\x41\0\x11" + number(first) + b"\0" if chance.random() < 0.3 else b""
+        body = b"\0" + indirect + b"".join(call_of(it, kinds[it]) for it in called) + b"\x0b"
         bodies.append(number(len(body)) + body)
     # the last function is the realloc
     realloc = b"\0\x41\0\x0b"
@@ -133,6 +88,7 @@ def main_module(adapter, chance):
         section(4, b"\1\x70\0" + number(len(filled))),
         section(5, b"\1\0\1"),
         section(7, vector(exports)),
+        section(8, number(first + chance.randrange(count))) if chance.random() < 0.2 else b"",
         section(9, vector([b"\0\x41\0\x0b" + vector(filled)] if filled else [])),
         section(10, vector(bodies)),
     ])
@@ -142,127 +98,140 @@ def counted(count):
     return f"{count} import{'' if count == 1 else 's'}"
 
 
-class Component:
-    """A main module and the adapter: what is reached, and the graph of the items of both, 0 and 1, with those where paths begin."""
+def texts(names):
+    return " ".join(map(word, names))
 
-    def __init__(self, main, main_path, adapter, references):
-        self.adapter = adapter
-        self.imports = [it for it in imports_of(main) if it[2][0] == "func"]
-        self.names, self.texts, exported = references_of(main_path), names_of(main), exports_of(adapter)
-        segments, self.is_plain = segments_of(main)
-        reached = lengths(self.names, [*exports_of(main).values(), *(it for functions in segments for it in functions)])
-        self.reached = [it for it in sorted(reached) if it[0] == "func"]
-        used = [field for source, field, _ in self.imports if source == ADAPTER]
-        self.wanted = list(dict.fromkeys(used))
-        self.required = {text: exported[text] for text in self.wanted + [it for it in (RUN, REALLOC) if it not in used]}
-        self.leads = {text: lengths(references, [item]) for text, item in self.required.items()}
-        self.live = set().union(*self.leads.values())
-        self.stay = [(source, item) for source, _, item in imports_of(adapter) if item in self.live]
-        self.interfaces = list(dict.fromkeys(it[0] for it in self.imports + self.stay if ":" in it[0]))
-        self.graph = collections.defaultdict(list)
-        for place, named in enumerate((self.names, references)):
-            for item, others in list(named.items()):
-                self.graph[place, item] += [(place, other) for other in others]
-        for index, functions in enumerate(segments):
-            self.graph[0, ("elem", index)] += [(0, it) for it in functions]
-        for source, field, item in self.imports:
-            if source == ADAPTER:
-                self.graph[0, item].append((1, exported[field]))
-        self.begins = [(0, it) for it in exports_of(main).values()] + [(0, ("elem", it)) for it in range(len(segments))]
-        found = lengths(self.graph, self.begins)
-        self.begins += [(0, item) for _, _, item in self.imports if (0, item) not in found]
-        self.begins += [(1, item) for text, item in self.required.items() if text not in self.wanted]
 
-    def main_part(self, interface):
+class Summary:
+    """What the modules of a component import, by interfaces."""
+
+    def __init__(self, component):
+        self.component = component
+        self.required = [(part, text) for part, adapter in enumerate(component.adapters, 1)
+                         for text in dict.fromkeys([*adapter.imported, *adapter.always])]
+        roots = {(part, text): (part, component.adapters[part - 1].exports[text]) for part, text in self.required}
+        self.leads = {of: set(component.search([[(root, {})]])) for of, root in roots.items()}
+        live = set().union(*self.leads.values())
+        self.imports = [(source, item) for source, _, item in component.imports() if item[0] == 0 or item in live]
+
+    def main_part(self, own):
         """What is said of the main module's imports of an interface."""
-        own = [item for source, _, item in self.imports if source == interface]
-        by = [it[1] for it in self.reached if any(item in self.names[it] for item in own)]
-        by = [f"func {it} {self.texts[it]}" if it in self.texts else f"func {it}" for it in by]
+        main = self.component.main
+        own = {item for part, item in own if part == 0}
+        by = [it[1] for it in sorted(self.component.reached) if it[0] == "func" and not own.isdisjoint(main.names[it])]
+        by = [function_text({"index": it, "name": main.texts.get(it)}) for it in by]
         more = f" and {len(by) - 3} more" if len(by) > 3 else ""
         return [f"{counted(len(own))} of main" + (f" by {', '.join(by[:3])}{more}" if by else "")] if own else []
 
-    def adapter_part(self, interface):
-        """What is said of the adapter, how many bytes go, and whether the interface stays."""
-        own = [item for source, item in self.stay if source == interface]
-        if not own:
+    def adapter_part(self, part, own):
+        """What is said of an adapter, how many bytes go, and whether the interface stays."""
+        adapter, sizes = self.component.adapters[part - 1], self.component.modules[part].sizes
+        count = sum(it[0] == part for it in own)
+        if not count:
             return [], 0, False
-        led = [text for text in self.required if any(item in self.leads[text] for item in own)]
-        others = set().union(*[found for text, found in self.leads.items() if text not in led])
-        sizes = by_index(self.adapter, 10, size_at)
-        gone = sum(sizes.get(index, 0) for kind, index in self.live - others if kind == "func")
-        staying = [text for text in led if text not in self.wanted]
-        end = f"stays for {' '.join(staying)}" if staying else f"{gone} bytes with {' '.join(led)}"
-        return [f"{counted(len(own))} of adapter {ADAPTER}, {end}"], gone, bool(staying)
+        led = [text for it, text in self.required if it == part and not self.leads[part, text].isdisjoint(own)]
+        others = [found for (it, text), found in self.leads.items() if it == part and text not in led]
+        gone = set().union(*(self.leads[part, text] for text in led)).difference(*others)
+        size = sum(sizes.get(item, 0) for _, item in gone)
+        always = [text for text in led if text in adapter.always]
+        end = f"always needed for {texts(always)}" if always else f"{size} bytes, needed only for {texts(led)}"
+        return [f"{counted(count)} of adapter {word(adapter.name)}, {end}"], size, bool(always)
 
     def lines(self):
         """The lines of --imports."""
         found = []
-        for interface in self.interfaces:
-            main, (part, gone, stays) = self.main_part(interface), self.adapter_part(interface)
-            rank = 0 if main else 2 if stays else 1
-            found.append((rank, -gone, f"{interface}: {'; '.join(main + part)}"))
+        for interface in dict.fromkeys(source for source, _ in self.imports):
+            own = {item for source, item in self.imports if source == interface}
+            main, parts = self.main_part(own), [self.adapter_part(part, own) for part in range(1, len(self.component.modules))]
+            rank = 0 if main else 2 if any(stays for _, _, stays in parts) else 1
+            said = "; ".join(main + [it for more, _, _ in parts for it in more])
+            found.append((rank, -sum(size for _, size, _ in parts), f"{word(interface)}: {said}"))
         return [line for _, _, line in sorted(found, key=lambda it: it[:2])]
 
-    def differing_marks(self, interface, lines):
-        """How many items of the printed paths are marked, and how many are not, as they have to be; and what differs."""
-        targets = {(0, item) for source, _, item in self.imports if source == interface}
-        targets |= {(1, item) for source, item in self.stay if source == interface}
-        place, agreed, wrong, for_types = 0, collections.Counter(), [], False
-        for line in lines:
-            words = line.removeprefix("*").split()
-            if not line.startswith(("* ", "  ")):
-                place, for_types = 0, line.endswith(": for its types")
-            elif words[0] == "adapter" and words[2] == "exports":
-                place = 1
-            elif words[0] in ITEMS:
-                item = None if for_types else (place, (words[0], int(words[1])))
-                wanted = item is not None and item not in targets and targets.isdisjoint(lengths(self.graph, self.begins, item))
-                if line.startswith("* ") == wanted:
-                    agreed[wanted] += 1
-                else:
-                    wrong.append(f"{interface}: {line}: {'a' if wanted else 'no'} mark is wanted")
-        return agreed, wrong
+
+def different_why(component, interface, tree, printed):
+    """Where the answer to `--why` of an interface, or of all, differs; and how many paths, marks and items it has."""
+    imports = [it for it in component.imports() if ":" in it[0] and interface in (it[0], "all") and it[2] in component.found]
+    targets = [it for _, _, it in imports]
+    for way in tree["ways"]:
+        if way["name"] is None and way["item"] is not None:
+            it = tree["modules"][way["module"]]["items"][way["item"]]
+            targets.append((way["module"], (it["space"], it["index"])))
+    asked = set(targets[:len(imports)]) if interface != "all" else None
+    wanted, places = component.tree(targets, asked)
+    ways = [way_of(*it, places) for it in imports]
+    items = [it for module in wanted for it in module["items"] if asked is not None]
+    counts = {"paths": len(ways), "marks": sum(it["only"] for it in items), "items": len(items)}
+    different = difference(wanted, with_roots(tree["modules"])) or different_in("line", list(lines(tree, True)), printed)
+    return different or different_in("way", ways, [it for it in tree["ways"] if it["name"] is not None]), counts
 
 
-def printed(program, folder, path, *asked):
-    """The lines that the program prints."""
-    command = [program, os.path.join(folder, "wasi-command.json"), path, *asked,
-               "--adapt", f"{ADAPTER}={os.path.join(folder, 'wasi-command-adapter.wasm')}"]
-    ran = subprocess.run(command, capture_output=True, text=True, check=False)
+def printed(command):
+    """What a program prints."""
+    ran = subprocess.run(list(map(str, command)), capture_output=True, text=True, check=False)
     if ran.returncode:
-        sys.exit(f"{path} {' '.join(asked)}: status {ran.returncode} {ran.stderr}")
-    return ran.stdout.splitlines()
+        sys.exit(f"{' '.join(map(str, command))}: status {ran.returncode} {ran.stderr}")
+    return ran.stdout
+
+
+def judged_world(program, given, path, adapter):
+    """What is wrong in the answers of `wcplan` on a main module, and how much was compared."""
+    main, file = Module(path.read_bytes()), os.path.join(given, ADAPTER_FILE)
+    component = Component(main, [Adapter(ADAPTER, adapter, main, always=[RUN, REALLOC])])
+    summary = Summary(component)
+    summary.imports = [it for it in summary.imports if ":" in it[0]]
+    command = [program, os.path.join(given, "wasi-command.json"), path, "--adapt", f"{ADAPTER}={file}"]
+    wanted, found = summary.lines(), [it for it in printed([*command, "--imports"]).splitlines() if ": types, used by " not in it]
+    counts, wrong = collections.Counter(lines=len(wanted)), [different_in("--imports", wanted, found)]
+    for interface in [*dict.fromkeys(source for source, _ in summary.imports), "all"]:
+        asked = [*command, "--why", interface]
+        text, more = different_why(component, interface, json.loads(printed([*asked, "--json"])), printed(asked).split("\n")[:-1])
+        counts.update(more)
+        wrong.append(text and f"--why {interface}: {text}")
+    return [f"{path.name}: {it}" for it in wrong if it], counts
+
+
+def judged_modules(program, folder, chance):
+    """The same of `wcwhy --imports` on a random component."""
+    made = [(text, *adapter_of(chance)) for text in ADAPTERS[:chance.randint(0, 2)]]
+    data, path = main_of(chance, [(text, exports) for text, _, exports in made]), folder / "main.wasm"
+    path.write_bytes(data)
+    command, main, adapters = [program, path, "--imports"], Module(data), []
+    for text, data, _ in made:
+        folder.joinpath(text + ".wasm").write_bytes(data)
+        adapters.append(Adapter(text, Module(data), main))
+        command.append(f"--adapt={text}={folder / text}.wasm")
+    wanted = Summary(Component(main, adapters)).lines()
+    wrong = different_in("wcwhy --imports", wanted, printed(command).splitlines())
+    return [wrong] if wrong else [], {"lines": len(wanted)}
 
 
 def main():
     parser = argparse.ArgumentParser(description=__doc__, formatter_class=argparse.RawDescriptionHelpFormatter)
-    parser.add_argument("--program", default=TOP / "crates" / "wcplan" / "out" / "wcplan", type=os.path.abspath)
+    for program in "wcplan", "wcwhy":
+        parser.add_argument("--" + program, default=TOP / "crates" / program / "out" / program, type=os.path.abspath)
     parser.add_argument("--cases", default=40, type=int)
-    parser.add_argument("folder", metavar="FOLDER")
+    parser.add_argument("folder", metavar="FOLDER", type=pathlib.Path)
     given = parser.parse_args()
-    need("wasm-objdump wabt")
-    adapter_path = os.path.join(given.folder, "wasi-command-adapter.wasm")
-    adapter, references = pathlib.Path(adapter_path).read_bytes(), references_of(adapter_path)
-    agreed, marks, wrong, chance = 0, collections.Counter(), [], random.Random(1)
-    with tempfile.TemporaryDirectory() as folder:
-        paths = [it for it in sorted(pathlib.Path(given.folder).glob("*.wasm"))
-                 if it.read_bytes().startswith(HEADER) and "_start" in exports_of(it.read_bytes())]
+    adapter, chance = Module(given.folder.joinpath(ADAPTER_FILE).read_bytes()), random.Random(1)
+    wrong, counts = [], collections.Counter()
+    with tempfile.TemporaryDirectory() as made:
+        folder, paths = pathlib.Path(made), []
+        for path in sorted(given.folder.glob("*.wasm")):
+            if path.read_bytes().startswith(HEADER) and "_start" in dict(Module(path.read_bytes()).exports):
+                paths.append(path)
         for case in range(given.cases):
-            paths.append(pathlib.Path(folder, f"random-{case}.wasm"))
+            paths.append(folder / f"random-{case}.wasm")
             paths[-1].write_bytes(main_module(adapter, chance))
-        for path in paths:
-            component = Component(path.read_bytes(), path, adapter, references)
-            wanted = component.lines()
-            found = [it for it in printed(given.program, given.folder, path, "--imports") if ": types of " not in it]
-            agreed += sum(a == b for a, b in zip(wanted, found))
-            wrong += [f"{path.name}: {a} / {b}" for a, b in zip(wanted, found) if a != b]
-            wrong += [f"{path.name}: {len(wanted)} lines wanted, {len(found)} printed"] * (len(wanted) != len(found))
-            for interface in component.interfaces if component.is_plain else ():
-                more, differ = component.differing_marks(interface, printed(given.program, given.folder, path, "--why", interface))
-                marks, wrong = marks + more, wrong + [f"{path.name}: {it}" for it in differ]
-    count = f"{agreed} lines, {marks[True]} marks and {marks[False]} items without one agree, {len(wrong)} differ"
-    print("\n".join([*wrong, f"{len(paths)} main modules: {count}"]))
-    return 1 if wrong or not agreed or not marks[True] else 0
+        answers = [judged_world(given.wcplan, given.folder, path, adapter) for path in paths]
+        answers += [judged_modules(given.wcwhy, folder, chance) for _ in range(10 * given.cases)]
+    for more, count in answers:
+        wrong += more
+        counts.update(count)
+    count = f"{counts['lines']} lines, {counts['paths']} paths, and {counts['marks']} marks of {counts['items']} items"
+    modules = f"{len(paths)} main modules and {10 * given.cases} random components"
+    print("\n".join([*wrong, f"{modules}: {count}, {len(wrong)} differ"]))
+    return 1 if wrong or not counts["lines"] or not counts["marks"] else 0
 
 
 if __name__ == "__main__":

@@ -32,13 +32,13 @@ function* fileLines({ files, numbers }) {
 function* interfaceLines(shown) {
   for (const it of shown.interfaces.filter((other) => other.kind !== null)) {
     const through = `${it.through.join(", ")}${it.others ? ` and ${it.others} more` : ""}`;
-    yield `${it.key}: ${it.kind === "types" ? "for its types" : `${it.count} of ${it.all} functions, through ${through}${it.kind === "stays" ? "; it stays" : ""}`}`;
+    yield `${it.key}: ${it.kind === "types" ? "only its types are used" : `${it.count} of ${it.all} functions, through ${through}${it.kind === "stays" ? "; it stays" : ""}`}`;
   }
   if (shown.moreInterfaces) yield `${shown.moreInterfaces} more`;
 }
 
 function* pathLines({ picked, picture }) {
-  if (!picked.list.length) yield `${picked.key}: in the world, not imported`;
+  if (!picked.list.length) yield `${picked.key}: in the world but not imported`;
   for (const it of picked.list) yield `${it.key}: ${it.says}`;
   if (picture.cuts.length) yield `cut at * ${picture.cuts.join(", * ")}: each path goes through there`;
   for (const it of forest(picture.boxes).all.filter((other) => other.kind === "import")) yield `  ${pathOf(it)}`;

@@ -13,7 +13,8 @@ from nuigatre import Adapter, Error, NoLibrary, Rename
 from nuigatre._lines import Refused, component_tree, lines, own_tree, text
 
 WHY = """Says why a module imports something, in the lines of wcwhy; with --adapt of a main module and its adapters; and with
---worlds in those of `wcplan --why KEY`. Without --worlds no line says who calls through a table."""
+--worlds in those of `wcplan --why KEY`. Without --worlds no line says who calls through a table; through adapters nothing is
+marked, and of several shortest paths another may be shown."""
 
 
 def content(path: str) -> bytes:
@@ -53,7 +54,7 @@ def why(asked: argparse.Namespace) -> Iterator[str]:
     listed = [Adapter(name, wasm, keys) for name, wasm, keys in parts]
     tree = nuigatre.component_paths(content(asked.worlds), asked.world, main, listed, key=key)
     if not tree["ways"] and key != "all":
-        yield f"{text(key)}: in the world, not imported"
+        yield f"{text(key)}: in the world but not imported"
     yield from lines(tree, True)
 
 

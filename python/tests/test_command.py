@@ -109,9 +109,10 @@ def test_lines_say_callers_roots_and_types():
     ways.append({"interface": "a:b/d", "name": None, "module": None, "item": None, "import": {"module": "world exports", "name": "x"}, "type": "t"})
     path = ["  main fills table 0", "  func 1", "  called by func 4 a\\u{202e}b", "  called by 2 more", "  func 2", "  main imports a:b/c f"]
     assert list(lines({"modules": [module], "ways": ways}, True)) == [
-        "a:b/c f\\u{20}g", *path, "a:b/c f", "  main reaches it nowhere", "  main imports a:b/c f",
+        "a:b/c f\\u{20}g", *path, "a:b/c f", "  main never uses it", "  main imports a:b/c f",
         "a:b/c f", "  main is not followed: element section", "  main imports a:b/c f",
-        "a:b/c: for its types", *path, "  type t", "a:b/d: for its types", "  world exports x", "  type t"]
+        "a:b/c: only its types are used", "  as above to func 2 of main", "  main imports a:b/c f", "  type t",
+        "a:b/d: only its types are used", "  world exports x", "  type t"]
 
 
 def test_an_adapter_that_nothing_needs_is_left_out(examples):

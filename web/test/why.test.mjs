@@ -46,10 +46,10 @@ test("an interface for its types alone is listed, and asked about", () => {
   try {
     const main = join(folder, "main.wasm"), worlds = path("../wasi-command.json");
     writeFileSync(main, throughTable().main);
-    assert.deepEqual(said(main, worlds).lines.slice(2), ["wasi:filesystem/types@0.2.6: 1 of 1 functions, through main.wasm", "wasi:clocks/wall-clock@0.2.6: for its types"]);
+    assert.deepEqual(said(main, worlds).lines.slice(2), ["wasi:filesystem/types@0.2.6: 1 of 1 functions, through main.wasm", "wasi:clocks/wall-clock@0.2.6: only its types are used"]);
     const types = said(main, worlds, "--import", "wasi:clocks");
     assert.equal(types.lines.at(-1), "  main.wasm → table 0 → called by func 1 → func 3 → filesystem/types descriptor.stat → wasi:clocks/wall-clock@0.2.6 for its type datetime");
-    assert.deepEqual([types.status, said(main, worlds, "--import", "wasi:sockets").lines.at(-1)], [0, "wasi:sockets: in the world, not imported"]);
+    assert.deepEqual([types.status, said(main, worlds, "--import", "wasi:sockets").lines.at(-1)], [0, "wasi:sockets: in the world but not imported"]);
   } finally {
     rmSync(folder, { recursive: true });
   }

@@ -2,13 +2,14 @@
 
 use crate::encoder::{ComponentEncoder, MainOrAdapter};
 use crate::error::Error;
-use crate::gc::{self, Chains, ItemIndex};
+use crate::gc::{self, Chain, Chains, ItemIndex};
 use crate::imports::{Import, PayloadInfo, PayloadType};
 use crate::index::Index;
 use crate::memory::{push, string};
 use crate::scan::{Scan, scan};
 use crate::world::{ComponentWorld, ValidatedModule};
 use std::fmt::{self, Display, Formatter, Write};
+use std::iter::Peekable;
 
 /// An import of a core module that comes from the world: a function, the drop of a resource, or a built-in for a future or a
 /// stream of an imported function.
@@ -29,7 +30,7 @@ pub struct WorldImport<'a> {
     pub name: &'a str,
 }
 
-/// A step of the path to an import. Its text is the line that the program `wcplan` prints.
+/// A step of the path to an import. Its text is the line that the program `wcplan` prints, but a name that Rust mangled stays so.
 ///
 /// [`ComponentWorld::ways`](crate::ComponentWorld::ways) has an example.
 #[derive(Clone, Debug, PartialEq, Eq, Hash)]
@@ -81,17 +82,29 @@ pub struct Ways<'a> {
 #[derive(Clone, Debug)]
 struct Searched {
     scan: Scan,
+    /// From the exports that the component has to have whatever the main module imports, if there are any.
+    always: Option<Chains>,
+    /// From all that are required.
     chains: Chains,
     /// The positions of imports by the names of their modules and their own.
     numbers: Index,
 }
 
 impl Searched {
-    fn of<'a>(wasm: &[u8], required: impl Iterator<Item = &'a str>) -> Result<Self, Error> {
+    fn of<'a>(
+        wasm: &[u8],
+        mut always: Peekable<impl Iterator<Item = &'a str>>,
+        required: impl Iterator<Item = &'a str>,
+    ) -> Result<Self, Error> {
         let (chains, scan) = (gc::why(wasm, required)?, scan(wasm)?);
         let numbers = Index::of(scan.imports.len(), |number| names(&scan, number))?;
+        let always = match always.peek() {
+            Some(_) => Some(gc::why(wasm, always)?),
+            None => None,
+        };
         Ok(Searched {
             scan,
+            always,
             chains,
             numbers,
         })
@@ -101,6 +114,16 @@ impl Searched {
         let wanted = (import.module, import.name);
         let is_at = |number| names(&self.scan, number) == wanted;
         self.numbers.find(&wanted, self.scan.imports.len(), is_at)
+    }
+
+    /// The path to the import of a position, and whether it begins at an export that is always needed.
+    fn chain(&self, position: usize) -> Result<Option<(Chain, bool)>, Error> {
+        if let Some(always) = &self.always {
+            if let Some(chain) = always.of_import(position)? {
+                return Ok(Some((chain, true)));
+            }
+        }
+        Ok(self.chains.of_import(position)?.map(|chain| (chain, false)))
     }
 }
 
@@ -144,8 +167,9 @@ impl ComponentWorld {
             let found = index.find(name.as_str(), given.len(), is_it);
             let wasm = given[found.ok_or(Error::OtherVersion)?].wasm;
             let required = self.required_exports(name).ok_or(Error::OtherVersion)?;
+            let always = adapter.info.exports.iter().map(|it| it.0).peekable();
             let of_adapter = match adapter.library_info {
-                None => Some(Searched::of(wasm, required)?),
+                None => Some(Searched::of(wasm, always, required)?),
                 Some(_) => None,
             };
             push(&mut searched, of_adapter)?;
@@ -242,9 +266,9 @@ impl<'a> Ways<'a> {
     }
 
     /// The path to the import of this number, whose last step it is; without a step where there are fewer. That to an import of
-    /// an adapter begins at an export: one that the main module imports, as the first step says, or one that the component has
-    /// to have. Items lead from there to the import, which is the last of them, each naming the next, by the shortest way in the
-    /// adapter before it is trimmed ([`gc::why`]).
+    /// an adapter begins at an export: one that the component has to have whatever the main module imports, or, if none of these
+    /// leads there, one that the main module imports, as the first step says. Items lead from there to the import, which is the
+    /// last of them, each naming the next, by the shortest way in the adapter before it is trimmed ([`gc::why`]).
     ///
     /// # Errors
     ///
@@ -277,19 +301,13 @@ impl<'a> Ways<'a> {
         };
         let position = searched.number(self.imports[number]);
         let chain = match position {
-            Some(position) => searched.chains.of_import(position)?,
+            Some(position) => searched.chain(position)?,
             None => None,
         };
-        let Some(chain) = chain else {
+        let Some((chain, is_always)) = chain else {
             return Ok(());
         };
-        if self
-            .world
-            .info
-            .imports
-            .get(adapter, &chain.export)
-            .is_some()
-        {
+        if !is_always {
             push(steps, imported(None, adapter, &chain.export)?)?;
         }
         let export = WayStep::Export {

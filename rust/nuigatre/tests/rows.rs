@@ -212,6 +212,29 @@ fn paths_of(row: &Row) -> Paths {
     imports.collect()
 }
 
+/// Replaces each line `as above to ITEM of MODULE` by the lines that it stands for.
+fn tell_in_full(paths: &mut Paths) {
+    let mut above = HashMap::new();
+    for path in paths {
+        let mut module = "main".to_owned();
+        let mut told = Vec::new();
+        for line in path.drain(1..) {
+            if let Some(item) = line.strip_prefix("  as above to ") {
+                told.clone_from(&above[item]);
+                module = item.rsplit_once(" of ").expect("a module").1.to_owned();
+                continue;
+            }
+            if let Some((adapter, _)) = line.split_once(" exports ") {
+                module = adapter.trim_start().to_owned();
+            }
+            let item = format!("{} of {module}", &line[2..]);
+            told.push(line);
+            above.entry(item).or_insert_with(|| told.clone());
+        }
+        path.append(&mut told);
+    }
+}
+
 /// The paths that the program prints.
 fn printed(row: &Row) -> Paths {
     let mut paths = Paths::new();
@@ -228,8 +251,9 @@ fn printed(row: &Row) -> Paths {
             _ => paths.push(vec![line.to_owned()]),
         }
     }
+    tell_in_full(&mut paths);
     // what isn't imported has no path, and the one to what needs the types of an interface is the program's alone
-    paths.retain(|path| path.len() > 1 && !path[0].ends_with(": for its types"));
+    paths.retain(|path| path.len() > 1 && !path[0].ends_with(": only its types are used"));
     let begins =
         |line: &String| line.starts_with("  main imports ") || line.starts_with("  adapter ");
     for path in &mut paths {
