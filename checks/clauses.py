@@ -48,10 +48,6 @@ REASONS = {
     "finds the byte of a fault, of which `stop_in` promises only that it is in the section; rows test which byte it is":
         "wc_read/stops::Sought::is_of_order wc_read/stops::fault_in wc_read/stops::fault_of_items wc_read/stops::fault_of_item wc_read/stops::left "
         "wc_read/stops::fault_at",
-    "open: without an item that it leaves out, a caller answers that an allocation failed":
-        "wc_module_ways/tree::wanted_imports wc_ways/found_adapters::cited_of wc_ways/tree::imports_of "
-        "wc_ways/tree::put_imports wc_ways/tree::put_own wc_ways/typed_ends::cites_of wc_ways/typed_ends::put_typed_imports",
-    "open: no clause says which item of a library an import is, nor its name": "wc_ways/found_libraries::read_library",
 }
 
 

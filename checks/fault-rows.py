@@ -129,7 +129,8 @@ def readings(known, enum, text):
     if enum == "Problem":
         # after the path to the value
         text = text.rpartition(": ")[2]
-    for name, shown, fields in known[enum][1]:
+    # of wcwhy the longest text first, since `no function {0}` fits a text of two lines too
+    for name, shown, fields in sorted(known[enum][1], key=lambda it: -len(it[1]) if enum == "WhyFault" else 0):
         pattern = re.escape(shown)
         for number in range(len(fields)):
             pattern = pattern.replace(re.escape("{%d}" % number), "(?P<f%d>.*)" % number)
@@ -169,6 +170,8 @@ def texts(call, lines):
             yield line[len("printed wctrim: "):]
         elif call in ("wcwhy", "wcwhy_failing") and line.startswith("error wcwhy: "):
             yield line[len("error wcwhy: "):]
+            if not any(it.startswith("error usage: ") for it in lines):
+                yield "\\n".join(it[len("error "):] for it in lines if it.startswith("error "))[len("wcwhy: "):]
         elif call in ("wcplan", "wcplan_failing") and re.match("error wcplan: (?!warning: )", line) and "status 2" not in lines:
             yield re.sub(r"(PageSize) `.*`: page size \d+, main module's \d+$", r"\1", line[len("error wcplan: "):])
         elif call == "parse_wcplan" and line in ("help", "version"):

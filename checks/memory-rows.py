@@ -8,7 +8,7 @@ A function that returns AllocError or a fault could be proved if it always retur
 it rules that out. The sources say which functions rows reach: from `main` of the program of rows and of the programs, and
 from the calls of the library in tests/*.py, each function that the text of one names. A name means the function of its file's
 crate, or of the crate that the file imports it from; after a type's name a function of that type or trait; after a point any
-method of that name. UNREACHED names what no row reaches, and why. Each call of rows also has a row whose answer is no fault,
+method of that name. UNREACHED names what no row reaches and nothing calls, and why. Each call of rows also has a row whose answer is no fault,
 but for FAULTS.
 
 Something also names each public function: the rows, a program, or a call from C. And `args` of the program of rows has each
@@ -26,8 +26,11 @@ from row_format import rows_of
 
 # The program of rows, the programs, and the library, which tests/rows.py asks.
 ROWS, PROGRAMS, LIBRARY = "wc_tests", ("wctrim", "wcwhy", "wcplan"), "nuigatre"
-# What no row reaches, and why.
-UNREACHED = {}
+# What no row reaches and nothing calls, and why.
+UNREACHED = dict.fromkeys(
+    ("wc_graph::either", "wc_graph::on_chains", "wc_graph::Chains::finders", "wc_graph::Chains::missing_of", "wc_graph::Chains::on_chains"),
+    "no program uses it: the chains of `wc_gc` have code of their own",
+)
 # Calls of rows that have no answer but a fault, and why.
 FAULTS = {
     "no_such_call": "no call has this name",
@@ -214,8 +217,9 @@ def main():
     public = dict(functions())
     known, reached = {name for name, can_fail in public.items() if can_fail}, set(map(str, found))
     wrong = ["no row reaches " + name for name in sorted(known - reached - set(UNREACHED))]
-    wrong += ["nothing calls " + name for name in sorted(set(public) - set(map(str, named)))]
-    wrong += [f"UNREACHED has {name}, which " + ("a row reaches" if name in known else "doesn't exist") for name in UNREACHED if name not in known - reached]
+    called = set(map(str, named))
+    wrong += ["nothing calls " + name for name in sorted(set(public) - called - set(UNREACHED))]
+    wrong += [f"UNREACHED has {name}, which " + ("is called" if name in public else "doesn't exist") for name in UNREACHED if name not in set(public) - called]
     wrong += ["no row answers without a fault to " + call for call in calls_without_answer() if call not in FAULTS]
     wrong += wrong_counts()
     for line in wrong:

@@ -27,12 +27,9 @@ REASONS = {
         "wc_read/distinct wc_read/section_contents wc_read/stops wc_write/inits wc_resolve/canonical_ids wc_resolve/flattening wc_resolve/functions wc_resolve/validate/order "
         "wc_resolve/validate/type_test wc_resolve/walk wc_write/contents wc_write/module_sections wc_encoder/well_formed wc_names/payloads "
         "wc_names/standard wc_validate/exports/first_singles wc_validate/name_fault wc_validate/signatures wc_gc/assemble wc_gc/ranks "
-        "wc_paths/counts wc_paths/graph wc_paths/names wc_world/import_map wc_plan/lowerings wc_ways/forms wc_ways/found_adapters "
-        "wc_module_ways/main_module wc_module_ways/paths wc_module_ways/shared wc_module_ways/ways "
-        "wc_ways/found_libraries wc_ways/found_main wc_ways/main_ways wc_ways/paths wc_ways/recorded wc_ways/typed_forms",
-    "the tree of what was found, part by part, is in `TypedFound`, `TreeFrom` and `MainEnds`, its marks in `MarkedTree`": "wc_ways/main_tree wc_ways/tree wc_ways/tree_marks wc_ways/typed_ends",
-    "what was found is in `Found`, items one after another in `FoundItems`, and the tree of it in `FoundTree`":
-        "wc_tree/found_adapters wc_tree/main_tree",
+        "wc_paths/counts wc_paths/names wc_world/import_map wc_plan/lowerings "
+        "wc_module_ways/shared",
+    "the tree of a world is in `WaysTree`, with its texts": "wc_ways/tree",
     "what all parts of imports answer, and the kinds of these, are in `Functions` and `Kinds`":
         "wc_validate/imports/environment wc_validate/imports/root wc_validate/imports/scheme",
     "the stages of the program are in `Program` and `Inputs`, in their order, what private functions answer in `Private/Runs` and `Private/Causes`":
@@ -42,8 +39,11 @@ REASONS = {
         "wc_encoder/encoder nuigatre/lib wc_texts/fault_text wc_texts/pieces wc_dedupe/rename_list",
     "the chains of a search's tree are in `ShortestChains`": "wc_graph/tree",
     "the chains of an adapter's items are in `LiveChains`": "wc_gc/finders wc_gc/import_chains",
-    "the path to an import is in `JsonPaths`, and of which module in `Followed`":
-        "wc_import_paths/import_paths",
+    "the links of a component are in `Graph`, those of a part in `Part`": "wc_why/links",
+    "names without mangling are in `RustNames`": "wc_why_text/name_parts",
+    "the lines of a tree are in `TreeLines`": "wc_why_text/way_items wc_why_text/way_lines",
+    "the file of specs/ is in the plural: it has relations of many": "wc_import_paths/main_module wc_import_paths/part",
+    "the names of functions are in `Names`": "wc_module_ways/functions",
 }
 
 

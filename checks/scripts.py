@@ -162,7 +162,7 @@ def wrong_pages():
         for code in re.findall(r"`( +[^ `\n][^`\n]*?)`", re.sub(r"(?m)^    .*$|`[^ `\n][^`\n]*`", "", page)):
             if not code.endswith(" ") and "\\ " * (len(code) - len(code.lstrip())) not in path.read_text(encoding="utf-8"):
                 yield f"docs/{path.name}: `{code}` has no blanks at its front"
-    path = re.search(r"(?m)^    wasi:filesystem/preopens\S* get-directories\n(?:    (?:  |\* ).*\n)*", read("docs", "WHY.md"))
+    path = re.search(r"(?m)^wasi:filesystem/preopens\S* get-directories\n(?:(?:  |\* ).*\n)*", read("docs", "WHY.md"))
     if not path or re.findall(r"func (\d+)", path[0]) != re.findall(r"func (\d+)", read("docs", "pictures", "why.dot")):
         yield "docs/WHY.md has another path than docs/pictures/why.dot"
     asked = """compopt() { :; }; cd examples/wcplan; . ../../docs/wcplan.bash
