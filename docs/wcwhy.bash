@@ -5,8 +5,9 @@ _wcwhy() {
         --adapt) what=(-f) ;;
         --adapter-export) what=(-W '') ;;
         --import) what=(-W '') ;;
+        --func) what=(-W '') ;;
     esac
-    [[ $word != -* ]] || what=(-W '--adapt --adapter-export --import --dot --json --imports --help --version')
+    [[ $word != -* ]] || what=(-W '--adapt --adapter-export --import --func --dot --json --imports --help --version')
     mapfile -t COMPREPLY < <(compgen "${what[@]}" -- "$word")
 }
 complete -o filenames -F _wcwhy wcwhy
