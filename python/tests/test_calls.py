@@ -123,6 +123,8 @@ def test_a_world_and_its_plan_are_those_of_the_examples(examples, notes):
         ("[constructor]note", 0, None), ("[method]note.text", 1, "cabi_realloc"), ("[constructor]note", 2, None),
         ("summarize", 3, "cabi_import_realloc")]
     assert nuigatre.plan(*notes()) == made.record["plan"]
+    lifted = [{"interface": None, "name": "print", "options": 7}, {"interface": None, "name": "is-ready", "options": 0}]
+    assert made.record["export_options"] == lifted
     assert nuigatre.world(*notes()).record == {key: it for key, it in made.record.items() if key != "plan"}
     nuigatre.validate(*notes())
     nuigatre.validate(*notes(), adapter="old-notes")

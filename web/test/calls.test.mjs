@@ -149,6 +149,8 @@ test("a component's world and plan are those of the examples", () => {
     ["summarize", 3, "cabi_import_realloc"],
   ]);
   assert.deepEqual(library.plan(notes()), record.plan);
+  const lifted = [{ interface: null, name: "print", options: 7 }, { interface: null, name: "is-ready", options: 0 }];
+  assert.deepEqual(record.export_options, lifted);
   const { plan, ...world } = record;
   assert.deepEqual(library.world(notes()).record, world);
   library.validate(notes());
