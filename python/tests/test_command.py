@@ -68,7 +68,7 @@ SUMMARIZE = """my:notes/store@1.2.0 summarize
 def test_why_goes_on_through_adapters_with_a_world_or_without(said):
     assert said("why", *COMPONENT, "--import", "my:notes/store=summarize") == (0, SUMMARIZE, "")
     every = said("why", *COMPONENT)[1]
-    assert SUMMARIZE in every and every == said("why", *COMPONENT, *WORLD)[1]
+    assert SUMMARIZE.splitlines()[0] in every.splitlines() and every == said("why", *COMPONENT, *WORLD)[1]
     marked = said("why", *COMPONENT, *WORLD, "--import", "my:notes")[1]
     assert "* func 5\n" in marked and marked.replace("* ", "  ") == every
 
