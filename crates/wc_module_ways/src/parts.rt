@@ -155,7 +155,8 @@ fn links_of<'a>(
     places: &ExportPlaces<'_>,
 ) -> Result<Vec<Link<'a>>, AllocError>
     requires { item_count (counts_value counts.now) < 2 ^ 64 }
-    ensures { IfOk result (λ v. (adapters : List AdapterView) → ArePlaces adapters places.now.entries
+    ensures { IfOk result (λ v. (adapters : List AdapterView)
+        → ArePlaces adapters places.now.entries
         → AreLinks (import_values imports.now) (counts_value counts.now) adapters
         (map link_view v.items)) }
 {

@@ -71,8 +71,8 @@ fn put_roots(
     list: usize,
     out: &mut Vec<usize>,
 ) -> Result<(), AllocError>
-    ensures { OnOk result (PutsRootsOf numbers.now part (map begin_view begins.now) list out.old.items
-        out.new.items) }
+    ensures { OnOk result (PutsRootsOf numbers.now part (map begin_view begins.now) list
+        out.old.items out.new.items) }
 {
     for begin in begins {
         put_begin(numbers, part, *begin, list, out)?;

@@ -171,7 +171,8 @@ fn after<'c, 'a>(
 /// The item of a part by its number there.
 fn item_of(shown: Shown<'_, '_>, part: usize, own: usize) -> PathItem
     requires { part < length shown.graph.parts.now }
-    ensures { (view : PartView) → slice_get (map part_view shown.entry.graph.parts.now) part ≡ Some view
+    ensures { (view : PartView)
+        → slice_get (map part_view shown.entry.graph.parts.now) part ≡ Some view
         → result ≡ item_at view.counts own }
 {
     item_at(&shown.graph.parts[part].counts, own)
@@ -202,7 +203,8 @@ fn mark_in(numbers: &Numbers, marks: &Vec<bool>, part: usize, own: usize) -> boo
 fn begin_of<'a>(shown: Shown<'_, 'a>, part: usize, own: usize) -> Option<TreeRoot<'a>>
     requires shown { IsShown shown }
     requires there { has_item (map part_view shown.graph.parts.now) (part, own) ≡ true }
-    ensures { (view : PartView) → slice_get (map part_view shown.entry.graph.parts.now) part ≡ Some view
+    ensures { (view : PartView)
+        → slice_get (map part_view shown.entry.graph.parts.now) part ≡ Some view
         → IsRootOf view.begins own (option_map tree_root_view result) }
 {
     match shown.graph.numbers.number(part, own) {

@@ -32,8 +32,8 @@ pub(crate) fn functions_for<'a, 'r>(
     bytes: &'r [u8],
     count: usize,
 ) -> Result<Vec<TreeCaller<'r>>, WhyFault<'a>>
-    ensures asked { IfOk result (λ v. AreAskedOf bytes.now count (command_view command.now).functions
-        (map tree_caller_view v.items)) }
+    ensures asked { IfOk result (λ v. AreAskedOf bytes.now count
+        (command_view command.now).functions (map tree_caller_view v.items)) }
     ensures fault { IfErr result (λ f. (f ≡ Memory)
         ⊎ IsFunctionFault (command_view command.now) bytes.now count f) }
 {
