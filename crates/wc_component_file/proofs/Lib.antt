@@ -1,0 +1,14 @@
+mod FaultLemmas
+mod FramesLemmas
+mod InsideLemmas
+mod SearchLemmas
+mod NamesLemmas
+mod FilesLemmas
+mod EachLemmas
+mod PickedLemmas
+mod RenamedLemmas
+mod MainModuleLemmas
+mod ServingLemmas
+mod RoleLemmas
+mod ListingLemmas
+mod UniqueLemmas

@@ -1,0 +1,14 @@
+pub mod Headers
+pub mod Frames
+pub mod Fault
+pub mod Refusals
+pub mod Inside
+pub mod Names
+pub mod Files
+pub mod Renamed
+pub mod Serving
+pub mod MainModules
+pub mod Told
+pub mod Roles
+pub mod Listing
+pub mod Private
