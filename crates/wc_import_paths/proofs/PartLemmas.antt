@@ -8,7 +8,7 @@ use Rattle.wc_paths.specs.declared.items.PathItem.{PathItem}
 use Rattle.wc_why.specs.Part.{BeginView, PartView}
 use Rattle.wc_why.specs.Rows.{row_in}
 use Rattle.wc_import_paths.specs.Following.{FollowedView, graph_in}
-use Rattle.wc_import_paths.specs.Parts.{IsPartOf, export_begins, followed_begins, segment_begins, start_begins, unreached_begins}
+use Rattle.wc_import_paths.specs.Parts.{IsPartOf, core_begins, export_begins, followed_begins, required_begins, required_start, segment_begins, start_begins, unreached_begins}
 use Rattle.wc_import_paths.specs.Rows.{AreRowsFor}
 use Rattle.wc_import_paths.specs.declared.rows.ModuleRows.{ModuleRows}
 
@@ -36,3 +36,10 @@ pub followed_begun : (f : FollowedView) (is_main : Bool) (items : List PathItem)
 followed_begun f is_main items c e es ees xs exs o0 o1 o2 o3 o4 e0 e1 e2 e3 e4 =
     four_put (export_begins c es) (start_begins c f.code.start) (segment_begins c f.segments) (unreached_begins c is_main xs) o0 o1 o2 o3 o4 e0 e1 e2 e3 e4
     ∙ (λ t. export_begins (e t) (ees t) ++ (start_begins (e t) f.code.start ++ (segment_begins (e t) f.segments ++ unreached_begins (e t) is_main (exs t))))
+
+pub core_begun : (f : FollowedView) (c : CountsValue) → c ≡ counts_of (graph_in f) → (es : List ExportValue) (o1 o2 o3 : List BeginView) → o1 ≡ required_begins c es
+    → o2 ≡ o1 ++ required_start c f.code.start → o3 ≡ o2 ++ segment_begins c f.segments → o3 ≡ core_begins f es
+core_begun f c e es o1 o2 o3 e1 e2 e3 =
+    e3 ∙ (ap (λ z. z ++ segment_begins c f.segments) (e2 ∙ ap (λ z. z ++ required_start c f.code.start) e1)
+    ∙ (append_assoc (required_begins c es) (required_start c f.code.start) (segment_begins c f.segments)
+    ∙ ap (λ (z : CountsValue). required_begins z es ++ (required_start z f.code.start ++ segment_begins z f.segments)) e))

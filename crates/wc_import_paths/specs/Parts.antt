@@ -49,6 +49,11 @@ unreached_begins c is_main items = cond is_main (import_begins c (Some (unfollow
 abbrev pub required_begins : CountsValue → List ExportValue → List BeginView
 required_begins c exports = flat_map (λ (e : ExportValue). begin_at c 0 (Some (exported e.name None)) (export_item e)) exports
 
+-- and at the start function of a module that has to have it whatever the main module imports
+abbrev pub required_start : CountsValue → Option ℕ → List BeginView
+required_start c None = []
+required_start c (Some n) = begin_at c 0 (Some (begun by_start)) (Item Funcs n)
+
 -- a part whose items name what the module's name
 pub record IsPartOf (g : GraphValue) (p : PartView) : Type 0 where
   pub counts : p.counts ≡ counts_of g
@@ -92,6 +97,20 @@ pub record IsAdapterPart (name : List ℕ) (m : ModuleValue) (bytes : List ℕ) 
   pub links : p.links ≡ []
   pub spelled : p.bytes ≡ bytes
   pub calls : p.calling ≡ calls_none
+
+-- a core module of this name that is followed, with its exports that the main module does not import
+abbrev pub core_begins : FollowedView → List ExportValue → List BeginView
+core_begins f always =
+    required_begins (counts_of (graph_in f)) always ++ (required_start (counts_of (graph_in f)) f.code.start
+    ++ segment_begins (counts_of (graph_in f)) f.segments)
+
+pub record IsCorePart (name : List ℕ) (f : FollowedView) (bytes : List ℕ) (calling : Calling) (always : List ExportValue) (p : PartView) : Type 0 where
+  pub part : IsPartOf (graph_in f) p
+  pub named : p.name ≡ Some name
+  pub begins : p.begins ≡ core_begins f always
+  pub links : p.links ≡ []
+  pub spelled : p.bytes ≡ bytes
+  pub calls : p.calling ≡ calling
 
 -- a library of this name
 pub record IsLibraryPart (name : List ℕ) (m : ModuleValue) (bytes : List ℕ) (p : PartView) : Type 0 where

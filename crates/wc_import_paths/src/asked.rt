@@ -173,6 +173,52 @@ impl<'p, 'a> Asked<'p, 'a> {
     }
 }
 
+/// Imports, ready to be looked up by patterns.
+#[derive(Drop)]
+pub struct OfferedImports<'s, 'i> {
+    /// As they are given.
+    imports: &'s [Import<'i>],
+    /// The patterns that ask for any of them.
+    set: Set<PatternKey<'i>>,
+}
+
+impl<'s, 'i> Model for OfferedImports<'s, 'i> {
+    ghost use Rattle.std.specs.Prelude.{List, map};
+    ghost use Rattle.wc_read.specs.Imports.{ImportValue, import_value};
+    ghost use Rattle.wc_import_paths.specs.Private.Asked.{HasOffered};
+
+    ghost Value = { List ImportValue };
+
+    ghost view = { λ o. map import_value o.imports.now };
+
+    ghost invariant = { λ o. HasOffered o.set.keys (map import_value o.imports.now) };
+}
+
+impl<'s, 'i> OfferedImports<'s, 'i> {
+    /// Makes these imports ready to be looked up. `seed`: the seed of the set that is made.
+    ///
+    /// # Errors
+    ///
+    /// `AllocError`: an allocation failed.
+    pub fn new(
+        alloc: Global,
+        seed: Seed,
+        imports: &'s [Import<'i>],
+    ) -> Result<OfferedImports<'s, 'i>, AllocError>
+        ensures { IfOk result (λ o. o ≡ map import_value imports.now) }
+    {
+        let set = offered(alloc, seed, imports)?;
+        Ok(OfferedImports { imports, set })
+    }
+
+    /// Whether a pattern asks for any of them.
+    pub fn is_known(&self, pattern: &ImportPattern<'_>) -> bool
+        ensures { result ≡ is_known self.now (pattern_view pattern.now) }
+    {
+        has_pattern(&self.set, pattern)
+    }
+}
+
 /// The patterns as a set.
 fn set_of<'a>(
     alloc: Global,

@@ -265,7 +265,7 @@ fn are_digits(bytes: &[u8]) -> bool
 }
 
 /// The index that a text of decimal digits is, if it is one.
-fn index_of(text: &str) -> Option<usize>
+pub fn index_of(text: &str) -> Option<usize>
     ensures { result ≡ index_of text.now }
 {
     if is_number(text) {

@@ -13,7 +13,7 @@ ghost use Rattle.wc_why.specs.Part.{begin_view, part_view};
 ghost use Rattle.wc_why.specs.Tree.{tree_root_view, unfollowed};
 ghost use Rattle.wc_import_paths.specs.Followed.{HasPaths, followed_view};
 ghost use Rattle.wc_import_paths.specs.Rows.{AreRowsFor, bare_graph};
-ghost use Rattle.wc_import_paths.specs.Parts.{IsAdapterPart, IsFollowedPart, IsLibraryPart, IsUnreadPart, active_begins, begin_at, export_begins, import_begins, required_begins, segment_begins, start_begins, unreached_begins};
+ghost use Rattle.wc_import_paths.specs.Parts.{IsAdapterPart, IsCorePart, IsFollowedPart, IsLibraryPart, IsUnreadPart, active_begins, begin_at, export_begins, import_begins, required_begins, required_start, segment_begins, start_begins, unreached_begins};
 
 use crate::followed::Followed;
 use crate::rows::ModuleRows;
@@ -129,6 +129,42 @@ pub fn adapter_part<'a>(
     })
 }
 
+/// The part of a core module of a component that is followed and is not its main module. Paths begin at those of its
+/// exports that the main module does not import, `always`, in this order; at its start function; and at its active
+/// segments.
+///
+/// It takes time and memory linear in the module.
+///
+/// # Errors
+///
+/// `AllocError`: an allocation failed.
+pub fn core_part<'a>(
+    alloc: Global,
+    name: &'a str,
+    followed: &'a Followed<'_>,
+    always: &[Export<'a>],
+) -> Result<Part<'a>, AllocError>
+    requires { HasPaths followed.now }
+    ensures { IfOk result (λ p. IsCorePart name.now (followed_view followed.now)
+        followed.now.bytes.now (calling_of followed.now.callers) (map export_value always.now)
+        (part_view p)) }
+{
+    let counts = &followed.rows.counts;
+    let segments = &followed.segments;
+    let mut begins = required_begins(alloc, counts, always)?;
+    push_required_start(counts, followed.code.start, &mut begins)?;
+    push_segments(alloc, counts, segments, &mut begins)?;
+    Ok(Part {
+        name: Some(name),
+        counts: *counts,
+        rows: &followed.rows.rows,
+        begins,
+        links: Vec::new(alloc),
+        bytes: followed.bytes,
+        callers: Some(&followed.callers),
+    })
+}
+
 /// The part of a library, of which only its imports are known: nothing leads to them, and they lead nowhere.
 ///
 /// # Errors
@@ -231,6 +267,26 @@ fn push_start<'a>(
             let item = PathItem::Item(Space::Funcs, start as usize);
             let root = TreeRoot::Begin(PathRoot::Start);
             push_begin(counts, DIRECT, Some(root), item, begins)
+        }
+        None => Ok(()),
+    }
+}
+
+/// Appends the start function of a module that has to have it whatever the main module imports, if there is one.
+fn push_required_start<'a>(
+    counts: &Counts,
+    start: Option<u32>,
+    begins: &mut Vec<Begin<'a>>,
+) -> Result<(), AllocError>
+    requires { item_count (counts_value counts.now) < 2 ^ 64 }
+    ensures { OnOk result (map begin_view begins.new.items ≡ map begin_view begins.old.items
+        ++ required_start (counts_value counts.now) start) }
+{
+    match start {
+        Some(start) => {
+            let item = PathItem::Item(Space::Funcs, start as usize);
+            let root = TreeRoot::Begin(PathRoot::Start);
+            push_begin(counts, ALWAYS, Some(root), item, begins)
         }
         None => Ok(()),
     }

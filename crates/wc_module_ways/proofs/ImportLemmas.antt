@@ -1,5 +1,5 @@
 -- What modules import, as it is noted.
-use Rattle.std.proofs.Common.{◌≡◌, ℕ, not, zero, suc, ◌+◌, ◌<◌, Bool, true, false, cond, ◌||◌, List, [], ◌∷◌, ◌++◌, length, map, take, get_or, is_some, Contains, option_map, Option, Some, None, String, string_bytes, refl, sym, ◌∙◌, ap, subst, inl, inr, arith}
+use Rattle.std.proofs.Common.{◌≡◌, ℕ, not, zero, suc, ◌+◌, ◌<◌, Bool, true, false, cond, ◌||◌, List, [], ◌∷◌, ◌++◌, length, map, take, get_or, is_some, Contains, option_map, Option, Some, None, String, string_bytes, refl, sym, ◌∙◌, ap, append_assoc, subst, inl, inr, arith}
 use Rattle.std.proofs.Math.Bool.{or-false}
 use Rattle.std.proofs.lemmas.Bool.{cases_Bool, or_left}
 use Rattle.std.proofs.lemmas.List.{map-append, take_more}
@@ -49,6 +49,9 @@ use Rattle.wc_module_ways.specs.Adapters.{AdapterView, adapter_view}
 use Rattle.wc_module_ways.specs.Imports.{AreAdapterTags, AreEntries, AreFound, AreMainNames, AreFoundAt, AreParts, ArePartsAt, IsAdapterTag, IsEntry, IsImportsJsonIn, IsImportsTextIn, adapter_by, is_wanted, main_tags}
 use Rattle.wc_import_paths.specs.MainModules.{bytes_in, code_of, main_view, segments_of}
 use Rattle.wc_module_ways.specs.Modules.{AreView, ModulesView}
+use Rattle.wc_module_ways.specs.CoreImports.{AreCoreFound, AreCoreUses}
+use Rattle.wc_module_ways.specs.CoreModules.{CoreView, core_view}
+use Rattle.wc_module_ways.specs.Private.CoreImports.{NotesCores}
 use Rattle.wc_module_ways.specs.Private.Imports.{AreWanted, NotesAdaptersOf, NotesMainOf, NotesThis, NotesWanted, has_key, tag_at, tags_at}
 use Rattle.wc_module_ways.specs.declared.adapter.AdapterModule.{AdapterModule}
 use Rattle.wc_module_ways.specs.declared.modules.Modules.{Modules}
@@ -279,36 +282,48 @@ far_all imports adapters k old new all s = subst (λ (n : ℕ). NotesSoFar impor
 
 -- ---- all entries
 
-module _ (p : Modules) (w : ModulesView) (v : AreView p w) (start main adapters sorted : EntriesView) (none : start ≡ []) (in_main : NotesMainOf (main_view p.main) w.given start main)
-    (in_adapters : NotesAdaptersOf (code_of (main_view p.main)).imports (map adapter_view p.adapters.items) main adapters) (order : IsSorted adapters sorted)
+module _ (p : Modules) (w : ModulesView) (v : AreView p w) (start main adapters cores sorted : EntriesView) (none : start ≡ [])
+    (in_main : NotesMainOf (main_view p.main) w.given start main)
+    (in_adapters : NotesAdaptersOf (code_of (main_view p.main)).imports (map adapter_view p.adapters.items) main adapters)
+    (in_cores : NotesCores (code_of (main_view p.main)).imports w.given (map core_view p.core.items) adapters cores) (order : IsSorted cores sorted)
   where
     code : code_of (main_view p.main) ≡ code_of w.main
     code = ap code_of v.main
 
-    abbrev names : List (List ℕ)
-    names = first_occurrences (named_in (main_tags w.given (code_of w.main).imports) ++ in_adapters.found)
+    abbrev all_found : List (List ℕ)
+    all_found = named_in (main_tags w.given (code_of w.main).imports) ++ (in_adapters.found ++ in_cores.found)
 
-    interfaces : interfaces_of adapters ≡ names
+    interfaces : interfaces_of cores ≡ first_occurrences all_found
     interfaces =
-        lists_more start main adapters (named_in (main_tags w.given (code_of (main_view p.main)).imports)) in_adapters.found in_main.listed in_adapters.listed [] (ap interfaces_of none)
-        ∙ ap (λ (m : ModuleValue). first_occurrences (named_in (main_tags w.given m.imports) ++ in_adapters.found)) code
+        let tags = named_in (main_tags w.given (code_of (main_view p.main)).imports) in
+        let both = lists_more start main adapters tags in_adapters.found in_main.listed in_adapters.listed in
+        lists_more start adapters cores (tags ++ in_adapters.found) in_cores.found both in_cores.listed [] (ap interfaces_of none)
+        ∙ (ap first_occurrences (append_assoc tags in_adapters.found in_cores.found)
+        ∙ ap (λ (m : ModuleValue). first_occurrences (named_in (main_tags w.given m.imports) ++ (in_adapters.found ++ in_cores.found))) code)
 
     entry_is : (e : EntryView) → Contains sorted e → IsEntry w e
     entry_is e there =
-        let found : parts_of adapters e.0 ≡ e.1 =
-        sorted_part (named_in (main_tags w.given (code_of w.main).imports) ++ in_adapters.found) adapters sorted interfaces order e there in
+        let found : parts_of cores e.0 ≡ e.1 = sorted_part all_found cores sorted interfaces order e there in
         let a = in_main.each e.0 in
         let b = in_adapters.each e.0 in
-        let noted : parts_of adapters e.0 ≡ with_adapters b.0 (with_main a.0 no_parts) =
-        b.2 ∙ ap (with_adapters b.0) (a.2 (ap (λ (z : EntriesView). parts_of z e.0) none)) in
-        let is : with_adapters b.0 (with_main a.0 no_parts) ≡ e.1 = sym noted ∙ found in
+        let d = in_cores.each e.0 in
+        let noted : parts_of cores e.0 ≡ with_adapters (b.0 ++ d.0) (with_main a.0 no_parts) =
+        d.2 ∙ (ap (with_adapters d.0) (b.2 ∙ ap (with_adapters b.0) (a.2 (ap (λ (z : EntriesView). parts_of z e.0) none)))
+        ∙ with_both (with_main a.0 no_parts) b.0 d.0) in
+        let is : with_adapters (b.0 ++ d.0) (with_main a.0 no_parts) ≡ e.1 = sym noted ∙ found in
         record {
           main = subst (λ (z : PartsView). IsMainPartOf (code_of w.main) (segments_of w.main) (main_tags w.given (code_of w.main).imports) e.0 z.main) is
               (subst (λ (s : Option SegmentsValue). IsMainPartOf (code_of w.main) s (main_tags w.given (code_of w.main).imports) e.0 a.0) (ap segments_of v.main)
               (subst (λ (m : ModuleValue). IsMainPartOf m (segments_of (main_view p.main)) (main_tags w.given m.imports) e.0 a.0) code a.1));
-          adapters = subst (λ (z : PartsView). AreParts (code_of w.main).imports w.adapters e.0 z.adapters) is
-              (subst (λ (m : ModuleValue). AreParts m.imports w.adapters e.0 b.0) code
-              (subst (λ (z : List AdapterView). AreParts (code_of (main_view p.main)).imports z e.0 b.0) v.adapters b.1));
+          adapters = record {
+            of_adapters = b.0;
+            are_of_adapters = subst (λ (m : ModuleValue). AreParts m.imports w.adapters e.0 b.0) code
+                (subst (λ (z : List AdapterView). AreParts (code_of (main_view p.main)).imports z e.0 b.0) v.adapters b.1);
+            of_core = d.0;
+            are_of_core = subst (λ (m : ModuleValue). AreCoreUses m.imports w.given w.core e.0 d.0) code
+                (subst (λ (z : List CoreView). AreCoreUses (code_of (main_view p.main)).imports w.given z e.0 d.0) v.core d.1);
+            are = ap (λ (z : PartsView). z.adapters) (sym is);
+          };
           types = ap (λ (z : PartsView). z.types) (sym is);
         }
 
@@ -316,10 +331,12 @@ module _ (p : Modules) (w : ModulesView) (v : AreView p w) (start main adapters 
     are_entries = record {
       found = in_adapters.found;
       are_found = subst (λ (z : List AdapterView). AreFound z in_adapters.found) v.adapters in_adapters.are_found;
-      names = names;
+      core = in_cores.found;
+      are_core = subst (λ (z : List CoreView). AreCoreFound w.given z in_cores.found) v.core in_cores.are_found;
+      names = first_occurrences all_found;
       are_names = refl;
       each = entry_is;
-      all = λ name. let s = sorted_names adapters sorted order name in
+      all = λ name. let s = sorted_names cores sorted order name in
           (λ c. subst (λ (z : List (List ℕ)). Contains z name) interfaces (s.0 c), λ c. s.1 (subst (λ (z : List (List ℕ)). Contains z name) (sym interfaces) c));
       ordered = subst (λ (z : List (List ℕ)). AllPairs (IsListedBefore z) sorted) interfaces order.ordered;
     }

@@ -1,4 +1,5 @@
 pub mod NameListLemmas
+pub mod MatchedLemmas
 pub mod PlaceLemmas
 pub mod LinkLemmas
 pub mod AdapterPartLemmas
@@ -6,4 +7,7 @@ pub mod EndLemmas
 pub mod TreeLemmas
 pub mod RequiredLemmas
 pub mod ModuleLemmas
+pub mod CoreModuleLemmas
+pub mod CorePartLemmas
 mod ImportLemmas
+mod CoreImportLemmas

@@ -1,5 +1,5 @@
 -- The modules of a component, as they are read.
-use Rattle.std.proofs.Common.{◌≡◌, ℕ, ◌+◌, ◌<◌, Bool, true, false, cond, ◌||◌, List, [], ◌∷◌, ◌++◌, length, map, filter, take, get_or, Option, Some, None, option_map, Result, Ok, Err, IfErr, All, suc, refl, sym, ◌∙◌, ap, subst, inl, inr, arith}
+use Rattle.std.proofs.Common.{◌≡◌, ℕ, ◌+◌, ◌<◌, Bool, true, false, cond, ◌||◌, List, [], ◌∷◌, ◌++◌, length, map, filter, take, get_or, Option, Some, None, option_map, Result, Ok, Err, IfErr, All, suc, refl, sym, ◌∙◌, ap, append_assoc, subst, inl, inr, arith}
 use Rattle.std.proofs.lemmas.Cmp.{nat_list_eq_equiv}
 use Rattle.std.proofs.lemmas.List.{length-map}
 use Rattle.std.proofs.lemmas.List.Elements.{All-append, All-cons, All-nil}
@@ -23,11 +23,13 @@ use Rattle.wc_import_paths.proofs.JoinedLemmas.{one_more}
 use Rattle.wc_module_ways.specs.AdapterNames.{HasNames, is_name}
 use Rattle.wc_module_ways.specs.Adapters.{AdapterView, AreAdapters, Given, IsAdapterFor, IsPartAt, IsRead, adapter_view, given_view, is_needed_as, search_input}
 use Rattle.wc_import_paths.specs.MainModules.{IsMainOf, code_of, main_view}
+use Rattle.wc_module_ways.specs.CoreModules.{HasCore, IsCore, core_view}
+use Rattle.wc_module_ways.specs.Matched.{AreMatched}
 use Rattle.wc_module_ways.specs.NameLists.{AreListed}
-use Rattle.wc_module_ways.specs.Modules.{AreImportsIn, AreModules, InputView, IsWholeIf, imports_through, is_of_main}
+use Rattle.wc_module_ways.specs.Modules.{AreImportsIn, AreModules, InputView, IsWholeIf, core_imports, given_in, imports_through, is_of_main}
 use Rattle.wc_module_ways.specs.Names.{NamePair, function_pairs, names_under}
 use Rattle.wc_module_ways.specs.Private.Others.{AreOthers}
-use Rattle.wc_module_ways.specs.Refusals.{IsAdapterUnread, IsAdaptersRefusal, IsGivenRefusal, IsMainFault, IsOfAdapter, IsOfMain, IsReadRefusal, IsThisRefusal, IsWaysRefusal}
+use Rattle.wc_module_ways.specs.Refusals.{IsAdapterUnread, IsAdaptersRefusal, IsGivenRefusal, IsMainFault, IsOfAdapter, IsOfMain, IsOthersRefusal, IsReadRefusal, IsThisRefusal, IsWaysRefusal, moved}
 use Rattle.wc_module_ways.specs.Required.{always_names, is_needed, required_names}
 use Rattle.wc_import_paths.specs.declared.main_module.MainModule.{MainModule}
 use Rattle.wc_module_ways.specs.declared.modules.Modules.{Modules}
@@ -46,18 +48,24 @@ one_any true false = refl
 one_any false true = refl
 one_any false false = refl
 
+-- a name more
+pub name_put : (given : List Given) (g : Given) (x : Bor (List ℕ)) (old new : List (Bor (List ℕ))) → x.now ≡ g.0
+    → ((q : Bor (List ℕ)) → list_any (is_name q) new ≡ cond (is_name x q) true (list_any (is_name q) old)) → HasNames given old
+    → HasNames (given ++ g ∷ []) new
+name_put given g x old new same put h q =
+    let test = (λ (g : Given). bytes_eq q.now g.0) in
+    put q
+    ∙ (ap (λ a. cond (bytes_eq x.now q.now) true a) (h q)
+    ∙ (one_any (list_any test given) (bytes_eq x.now q.now)
+    ∙ (ap (λ b. list_any test given || (b || false)) (nat_list_eq_equiv.symm x.now q.now ∙ ap (bytes_eq q.now) same)
+    ∙ sym (list_any-append test given (g ∷ [])))))
+
 pub names_next : (given : List GivenPair) (k : ℕ) (d : GivenPair) (old new : List (Bor (List ℕ))) → k < length given
     → ((q : Bor (List ℕ)) → list_any (is_name q) new ≡ cond (is_name (get_or given k d).0 q) true (list_any (is_name q) old))
     → HasNames (map given_view (take k given)) old → HasNames (map given_view (take (k + 1) given)) new
-names_next given k d old new lt put h q =
-    let x = get_or given k d in
-    let front = map given_view (take k given) in
-    let test = (λ (g : Given). bytes_eq q.now g.0) in
-    put q
-    ∙ (ap (λ a. cond (bytes_eq x.0.now q.now) true a) (h q)
-    ∙ (one_any (list_any test front) (bytes_eq x.0.now q.now)
-    ∙ (ap (λ b. list_any test front || (b || false)) (nat_list_eq_equiv.symm x.0.now q.now)
-    ∙ sym (ap (list_any test) (taken_more given_view given k d lt) ∙ list_any-append test front (given_view x ∷ [])))))
+names_next given k d old new lt put h =
+    subst (λ z. HasNames z new) (sym (taken_more given_view given k d lt))
+    (name_put (map given_view (take k given)) (given_view (get_or given k d)) (get_or given k d).0 old new refl put h)
 
 -- ---- an adapter, by what is listed under its name
 
@@ -124,10 +132,9 @@ chains_of_read one w m c spelled (n, also, chains) = subst (λ (k : ModuleValue)
 
 -- ---- refusals
 
-pub main_refused : (i : InputView) (f : GcFault) (place : Option TrimPlace) (r : ModulesRefusal) → IsOfMain f place r
+pub main_refused : (i : InputView) (f : GcFault) (place : Option TrimPlace) (r : ModulesRefusal) → IsOfMain f (moved i.main_offset place) r
     → IsMainFault i.is_whole i.main i.exports f place → IsReadRefusal i r
-main_refused i f place r of h =
-    inl (of.0, subst (λ z. IsMainFault i.is_whole i.main i.exports z r.place) (sym of.1) (subst (λ z. IsMainFault i.is_whole i.main i.exports f z) (sym of.2) h))
+main_refused i f place r of h = inl (of.0, of.1, place, subst (λ z. IsMainFault i.is_whole i.main i.exports z place) (sym of.2) h, of.3)
 
 pub one_refused : (given : List Given) (g : Given) (k : ℕ) (r : ModulesRefusal) → slice_get given k ≡ Some g → IsGivenRefusal g r → IsAdaptersRefusal given r
 one_refused given g k r at h = inr (g, (k, slice_get_within given k g at, get_or_from_slice_get given k g g at), h)
@@ -137,8 +144,9 @@ pub this_refused : (a : AdapterView) (f : GcFault) (place : Option TrimPlace) (r
 this_refused a f place r of fault explained =
     inr (
       of.0,
-      subst (IsFault (search_input a)) (sym of.1) fault,
-      subst (λ z. IsExplained (search_input a) z r.place) (sym of.1) (subst (λ z. IsExplained (search_input a) f z) (sym of.2) explained),
+      of.1,
+      subst (IsFault (search_input a)) (sym of.2) fault,
+      subst (λ z. IsExplained (search_input a) z r.place) (sym of.2) (subst (λ z. IsExplained (search_input a) f z) (sym of.3) explained),
     )
 
 pub way_refused : (adapters : List AdapterView) (a : AdapterView) (k : ℕ) (r : ModulesRefusal) → slice_get adapters k ≡ Some a → IsThisRefusal a r
@@ -149,45 +157,60 @@ way_refused adapters a k r at (inr fault) = inr (a, (k, slice_get_within adapter
 pub given_refused : (g : Given) (f : GcFault) (place : Option TrimPlace) (r : ModulesRefusal) → IsOfAdapter g.0 g.1 f place r → IsAdapterUnread g.1 f place
     → IsGivenRefusal g r
 given_refused g f place r of h =
-    (of.0, subst (λ z. IsAdapterUnread g.1 z r.place) (sym of.1) (subst (λ z. IsAdapterUnread g.1 f z) (sym of.2) h))
+    (of.0, of.1, subst (λ z. IsAdapterUnread g.1 z r.place) (sym of.2) (subst (λ z. IsAdapterUnread g.1 f z) (sym of.3) h))
 
 -- ---- all of them
 
 pub modules_read : (i : InputView) (p : Modules) → IsMainOf i.main i.exports p.main → IsWholeIf i.is_whole (main_view p.main)
     → AreListed (function_pairs (code_of (main_view p.main)).imports) p.functions.entries
     → AreAdapters (function_pairs (code_of (main_view p.main)).imports) i.adapter_exports i.adapters (map adapter_view p.adapters.items)
-    → HasNames i.adapters p.names.keys → AreModules i p
-modules_read i p h all functions adapters names = record {
-  view = record { main = main_view p.main; bytes = i.main; adapters = map adapter_view p.adapters.items; given = i.adapters };
-  is_modules = record { main = h.is_main; is_whole = all; bytes = refl; adapters = adapters; given = refl };
-  are_view = record { main = refl; bytes = h.spelled; adapters = refl; names = names };
+    → AreMatched IsCore i.core (map core_view p.core.items) → All HasCore p.core.items → HasNames (given_in i) p.names.keys → AreModules i p
+modules_read i p h all functions adapters cores has names = record {
+  view = record {
+    main = main_view p.main;
+    bytes = i.main;
+    adapters = map adapter_view p.adapters.items;
+    core = map core_view p.core.items;
+    given = given_in i;
+  };
+  is_modules = record { main = h.is_main; is_whole = all; bytes = refl; adapters = adapters; core = cores; given = refl };
+  are_view = record { main = refl; bytes = h.spelled; adapters = refl; core = refl; names = names };
   has_modules = record {
     main = h.has_main;
     functions = functions;
     adapters = all_read (function_pairs (code_of (main_view p.main)).imports) i.adapter_exports i.adapters (map adapter_view p.adapters.items) adapters;
+    core = has;
   };
 }
 
 -- of a main module, and others
 pub modules_made : (i : InputView) (main : MainModule) (o : Others) (p : Modules) → IsMainOf i.main i.exports main → IsWholeIf i.is_whole (main_view main)
-    → AreOthers i (code_of (main_view main)).imports o → p.main ≡ main → p.adapters.items ≡ o.adapters.items → p.functions.entries ≡ o.functions.entries
-    → p.names.keys ≡ o.names.keys → AreModules i p
-modules_made i main o p h all others is adapters functions names =
+    → AreOthers i (code_of (main_view main)).imports o → p.main ≡ main → p.adapters.items ≡ o.adapters.items → p.core.items ≡ o.core.items
+    → p.functions.entries ≡ o.functions.entries → p.names.keys ≡ o.names.keys → AreModules i p
+modules_made i main o p h all others is adapters cores functions names =
     let m : IsMainOf i.main i.exports p.main = subst (IsMainOf i.main i.exports) (sym is) h in
     let whole = subst (λ (z : MainModule). IsWholeIf i.is_whole (main_view z)) (sym is) all in
     let rest = subst (λ (z : MainModule). AreOthers i (code_of (main_view z)).imports o) (sym is) others in
     modules_read i p m whole (subst (AreListed (function_pairs (code_of (main_view p.main)).imports)) (sym functions) rest.functions)
     (subst (λ v. AreAdapters (function_pairs (code_of (main_view p.main)).imports) i.adapter_exports i.adapters (map adapter_view v)) (sym adapters) rest.adapters)
-    (subst (HasNames i.adapters) (sym names) rest.names)
+    (subst (λ v. AreMatched IsCore i.core (map core_view v)) (sym cores) rest.core)
+    (subst (All HasCore) (sym cores) rest.has)
+    (subst (HasNames (given_in i)) (sym names) rest.names)
 
-pub others_refused : {T : Type 0} (i : InputView) (r : Result T ModulesRefusal) → IfErr r (IsAdaptersRefusal i.adapters) → IfErr r (IsReadRefusal i)
+pub others_refused : {T : Type 0} (i : InputView) (r : Result T ModulesRefusal) → IfErr r (IsOthersRefusal i) → IfErr r (IsReadRefusal i)
 others_refused i (Ok x) h = tt
 others_refused i (Err e) h = inr h
 
--- the imports of the main module, and of all adapters, put after none
-pub imports_are : (p : Modules) (none first all : List ImportValue) → none ≡ []
+-- the imports of the main module, of all adapters, and of all core modules, put after none
+pub imports_are : (p : Modules) (none first next all : List ImportValue) → none ≡ []
     → ((given : List Given) → HasNames given p.names.keys → first ≡ none ++ filter (is_of_main given) (code_of (main_view p.main)).imports)
-    → all ≡ first ++ flat_map imports_through (map adapter_view p.adapters.items) → AreImportsIn p all
-imports_are p none first all empty main put w v =
-    put
-    ∙ ((λ t. (main w.given v.names ∙ (λ u. empty u ++ filter (is_of_main w.given) (ap code_of v.main u).imports)) t ++ flat_map imports_through (v.adapters t)))
+    → next ≡ first ++ flat_map imports_through (map adapter_view p.adapters.items)
+    → ((given : List Given) → HasNames given p.names.keys → all ≡ next ++ flat_map (core_imports given) (map core_view p.core.items)) → AreImportsIn p all
+imports_are p none first next all empty main put last w v =
+    let one : first ≡ filter (is_of_main w.given) (code_of w.main).imports =
+    main w.given v.names ∙ (λ t. empty t ++ filter (is_of_main w.given) (code_of (v.main t)).imports) in
+    let two : next ≡ filter (is_of_main w.given) (code_of w.main).imports ++ flat_map imports_through w.adapters =
+    put ∙ (λ t. one t ++ flat_map imports_through (v.adapters t)) in
+    last w.given v.names
+    ∙ ((λ t. two t ++ flat_map (core_imports w.given) (v.core t))
+    ∙ append_assoc (filter (is_of_main w.given) (code_of w.main).imports) (flat_map imports_through w.adapters) (flat_map (core_imports w.given) w.core))

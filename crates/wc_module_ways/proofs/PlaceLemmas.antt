@@ -1,4 +1,4 @@
--- The exports of adapters, when they are put one after another.
+-- The exports of modules that serve functions, when they are put one after another.
 use Rattle.std.proofs.Common.{◌≡◌, ℕ, ◌+◌, ◌<◌, Bool, true, false, cond, List, [], length, map, get_or, Some, None, refl, sym, ◌∙◌, ap, subst, inl, inr, arith}
 use Rattle.std.proofs.lemmas.Bool.{and_from, and_parts, cases_lt}
 use Rattle.std.proofs.lemmas.Option.{same_Some, slice_get_within}
@@ -9,17 +9,17 @@ use Rattle.std.specs.Prelude.{◌&&◌, ◌⊎◌}
 use Rattle.std.specs.Str.{bytes_eq}
 use Rattle.wc_read.specs.Exports.{ExportValue, export_value}
 use Rattle.wc_read.specs.declared.exports.Export.{Export}
-use Rattle.wc_paths.specs.Items.{CountsValue, counts_of, has_item}
+use Rattle.wc_paths.specs.Items.{CountsValue, has_item}
 use Rattle.wc_paths.specs.Numbers.{number_of}
 use Rattle.wc_paths.specs.Roots.{export_item}
 use Rattle.wc_paths.specs.declared.items.PathItem.{PathItem}
-use Rattle.wc_import_paths.specs.Rows.{bare_graph}
 use Rattle.wc_import_paths.proofs.ShownLemmas.{at_view}
-use Rattle.wc_module_ways.specs.Adapters.{AdapterView}
-use Rattle.wc_module_ways.specs.Private.Places.{ArePlaces, HasPlacesTo, IsNamedSo, IsOfExports, IsPassed, IsPlace, Key, Places, is_key}
+use Rattle.wc_module_ways.specs.Servers.{ServerView}
+use Rattle.wc_module_ways.specs.Private.Places.{ArePlaces, HasPlacesTo, IsNamedSo, IsPassed, IsPlace, Key, Places, is_key}
+use Rattle.wc_module_ways.specs.Private.Servers.{server_by}
 
-pub no_places : (adapters : List AdapterView) (entries : Places) → entries ≡ [] → HasPlacesTo adapters 0 0 entries
-no_places adapters entries none = record {
+pub no_places : (servers : List ServerView) (entries : Places) → entries ≡ [] → HasPlacesTo servers 0 0 entries
+no_places servers entries none = record {
   there = λ q place e. let bad : None ≡ Some place = sym (ap (lookup (is_key q)) none) ∙ e in absurd cc;
   missing = λ q e index position a x passed at is named. absurd (nothing index position passed);
 }
@@ -34,15 +34,15 @@ PutsNamed from name index x c old new =
     (q : Key) → lookup (is_key q) new
     ≡ cond (has_item c x && (bytes_eq from q.0.now && bytes_eq name q.1.now)) (Some (index + 1, number_of c x)) (lookup (is_key q) old)
 
--- one export more of an adapter
-module _ (adapters : List AdapterView) (n m : ℕ) (a : AdapterView) (at : slice_get adapters n ≡ Some a) (x : ExportValue)
-    (is : slice_get a.code.exports m ≡ Some x) (old : Places) (h : HasPlacesTo adapters n m old) (text : List ℕ) (from : text ≡ a.name)
+-- one export more of a module
+module _ (servers : List ServerView) (n m : ℕ) (a : ServerView) (at : slice_get servers n ≡ Some a) (x : ExportValue)
+    (is : slice_get a.exports m ≡ Some x) (old : Places) (h : HasPlacesTo servers n m old) (text : List ℕ) (from : text ≡ a.name)
   where
     abbrev is_it : Key → Bool
     is_it q = bytes_eq text q.0.now && bytes_eq x.name q.1.now
 
     abbrev c : CountsValue
-    c = counts_of (bare_graph a.code)
+    c = a.counts
 
     abbrev place : ℕ × ℕ
     place = (n + 1, number_of c (export_item x))
@@ -59,23 +59,23 @@ module _ (adapters : List AdapterView) (n m : ℕ) (a : AdapterView) (at : slice
       | inr more ↦ inr (same, omega (arith, lt, more))
     ]
 
-    here_a : (index : ℕ) (b : AdapterView) → index ≡ n → slice_get adapters index ≡ Some b → a ≡ b
-    here_a index b same there = same_Some a b (sym at ∙ subst (λ k. slice_get adapters k ≡ Some b) same there)
+    here_a : (index : ℕ) (b : ServerView) → index ≡ n → slice_get servers index ≡ Some b → a ≡ b
+    here_a index b same there = same_Some a b (sym at ∙ subst (λ k. slice_get servers k ≡ Some b) same there)
 
-    here_x : (position : ℕ) (b : AdapterView) (y : ExportValue) → a ≡ b → position ≡ m → slice_get b.code.exports position ≡ Some y → x ≡ y
+    here_x : (position : ℕ) (b : ServerView) (y : ExportValue) → a ≡ b → position ≡ m → slice_get b.exports position ≡ Some y → x ≡ y
     here_x position b y one same there =
-        same_Some x y (sym is ∙ (ap (λ (z : AdapterView). slice_get z.code.exports m) one ∙ subst (λ k. slice_get b.code.exports k ≡ Some y) same there))
+        same_Some x y (sym is ∙ (ap (λ (z : ServerView). slice_get z.exports m) one ∙ subst (λ k. slice_get b.exports k ≡ Some y) same there))
 
     module _ (new : Places) (put : PutsNamed text x.name n (export_item x) c old new) where
       there_at : (has : Bool) → has_item c (export_item x) ≡ has → (q : Key) (p : ℕ × ℕ) (b : Bool) → is_it q ≡ b
-          → cond (has && b) (Some place) (lookup (is_key q) old) ≡ Some p → IsPlace adapters q.0.now q.1.now p
+          → cond (has && b) (Some place) (lookup (is_key q) old) ≡ Some p → IsPlace servers q.0.now q.1.now p
       there_at true has q p true same e =
           let both = parts_of q same in
-          subst (IsPlace adapters q.0.now q.1.now) (same_Some place p e)
+          subst (IsPlace servers q.0.now q.1.now) (same_Some place p e)
           (record {
             index = n;
-            adapter = a;
-            is_adapter = at;
+            server = a;
+            is_server = at;
             position = m;
             export = x;
             is_export = is;
@@ -87,17 +87,17 @@ module _ (adapters : List AdapterView) (n m : ℕ) (a : AdapterView) (at : slice
       there_at false has q p b same e = h.there q p e
 
       missing_at : (has : Bool) → has_item c (export_item x) ≡ has → (q : Key) (b : Bool) → is_it q ≡ b
-          → cond (has && b) (Some place) (lookup (is_key q) old) ≡ None → (index position : ℕ) (z : AdapterView) (y : ExportValue)
-          → IsPassed n (m + 1) index position → slice_get adapters index ≡ Some z → slice_get z.code.exports position ≡ Some y → ¬ (IsNamedSo z y q.0.now q.1.now)
+          → cond (has && b) (Some place) (lookup (is_key q) old) ≡ None → (index position : ℕ) (z : ServerView) (y : ExportValue)
+          → IsPassed n (m + 1) index position → slice_get servers index ≡ Some z → slice_get z.exports position ≡ Some y → ¬ (IsNamedSo z y q.0.now q.1.now)
       missing_at has is_has q b same e index position z y passed there also named = elim (earlier index position passed) [
         | inl before ↦ h.missing q (none has b e) index position z y before there also named
         | inr here ↦
             let one = here_a index z here.0 there in
             let two = here_x position z y one here.1 also in
-            let same_from : text ≡ q.0.now = from ∙ (ap (λ (w : AdapterView). w.name) one ∙ named.0) in
+            let same_from : text ≡ q.0.now = from ∙ (ap (λ (w : ServerView). w.name) one ∙ named.0) in
             let same_name : x.name ≡ q.1.now = ap (λ (w : ExportValue). w.name) two ∙ named.1 in
             let has_it : has_item c (export_item x) ≡ true =
-            (λ t. has_item (counts_of (bare_graph (one t).code)) (export_item (two t))) ∙ named.2 in
+            (λ t. has_item ((one t).counts) (export_item (two t))) ∙ named.2 in
             taken has b e (sym is_has ∙ has_it)
             (sym same ∙ and_from (bytes_eq text q.0.now) (bytes_eq x.name q.1.now) ((bytes_eq-Decides text q.0.now).1 same_from)
             ((bytes_eq-Decides x.name q.1.now).1 same_name))
@@ -113,50 +113,42 @@ module _ (adapters : List AdapterView) (n m : ℕ) (a : AdapterView) (at : slice
           taken true false f g k = absurd (let bad : false ≡ true = k in cc)
           taken false b f g k = absurd (let bad : false ≡ true = g in cc)
 
-      pub place_put : HasPlacesTo adapters n (m + 1) new
+      pub place_put : HasPlacesTo servers n (m + 1) new
       place_put = record {
         there = λ q p e. there_at (has_item c (export_item x)) refl q p (is_it q) refl (sym (put q) ∙ e);
         missing = λ q e. missing_at (has_item c (export_item x)) refl q (is_it q) refl (sym (put q) ∙ e);
       }
 
--- all exports of an adapter
-pub adapter_put : (adapters : List AdapterView) (n m : ℕ) (a : AdapterView) → slice_get adapters n ≡ Some a → m ≡ length a.code.exports → (entries : Places)
-    → HasPlacesTo adapters n m entries → HasPlacesTo adapters (n + 1) 0 entries
-adapter_put adapters n m a at all entries h = record {
+-- all exports of a module
+pub server_put : (servers : List ServerView) (n m : ℕ) (a : ServerView) → slice_get servers n ≡ Some a → m ≡ length a.exports → (entries : Places)
+    → HasPlacesTo servers n m entries → HasPlacesTo servers (n + 1) 0 entries
+server_put servers n m a at all entries h = record {
   there = h.there;
   missing = λ q e index position z y passed there also named. h.missing q e index position z y (within index position z y there also passed) there also named;
 }
   where
-    within : (index position : ℕ) (z : AdapterView) (y : ExportValue) → slice_get adapters index ≡ Some z → slice_get z.code.exports position ≡ Some y
+    within : (index position : ℕ) (z : ServerView) (y : ExportValue) → slice_get servers index ≡ Some z → slice_get z.exports position ≡ Some y
         → IsPassed (n + 1) 0 index position → IsPassed n m index position
     within index position z y there also (inl lt) = elim (cases_lt index n) [
       | inl less ↦ inl less
       | inr more ↦
           let same : index ≡ n = omega (arith, lt, more) in
-          let one : a ≡ z = same_Some a z (sym at ∙ subst (λ k. slice_get adapters k ≡ Some z) same there) in
-          let short = slice_get_within z.code.exports position y also in
-          inr (same, subst (λ k. position < k) (ap (λ (w : AdapterView). length w.code.exports) (sym one) ∙ sym all) short)
+          let one : a ≡ z = same_Some a z (sym at ∙ subst (λ k. slice_get servers k ≡ Some z) same there) in
+          let short = slice_get_within z.exports position y also in
+          inr (same, subst (λ k. position < k) (ap (λ (w : ServerView). length w.exports) (sym one) ∙ sym all) short)
     ]
     within index position z y there also (inr h) = let lt = h.1 in absurd (omega (arith, lt))
 
--- one export more, by what is known of it
-pub export_put : (adapters : List AdapterView) (n m : ℕ) (a : AdapterView) → slice_get adapters n ≡ Some a → (x : ExportValue) → (name : List ℕ)
-    → (exports : List ExportValue) → (c : CountsValue) → IsOfExports name exports c a → slice_get exports m ≡ Some x → (old : Places)
-    → HasPlacesTo adapters n m old → (new : Places) → PutsNamed name x.name n (export_item x) c old new → HasPlacesTo adapters n (m + 1) new
-export_put adapters n m a at x name exports c is there old h new put =
-    place_put adapters n m a at x (ap (λ z. slice_get z m) is.has ∙ there) old h name (sym is.named) new
-    (λ q. put q ∙ ap (λ z. cond (has_item z (export_item x) && (bytes_eq name q.0.now && bytes_eq x.name q.1.now)) (Some (n + 1, number_of z (export_item x))) (lookup (is_key q) old)) is.counted)
-
 -- the same of exports that are gone through
-pub export_more : (adapters : List AdapterView) (n : ℕ) (a : AdapterView) → slice_get adapters n ≡ Some a → (name : List ℕ) (exports : List Export) (c : CountsValue)
-    → IsOfExports name (map export_value exports) c a → (k : ℕ) (d : Export) → k < length exports → (x : PathItem)
-    → x ≡ export_item (export_value (get_or exports k d)) → (old : Places) → HasPlacesTo adapters n k old → (new : Places)
-    → PutsNamed name (get_or exports k d).name.now n x c old new → HasPlacesTo adapters n (k + 1) new
-export_more adapters n a at name exports c is k d lt x same old h new put =
+pub export_more : (servers : List ServerView) (n : ℕ) (name : List ℕ) (exports : List Export) (c : CountsValue)
+    → slice_get servers n ≡ Some (server_by name (map export_value exports) c) → (k : ℕ) (d : Export) → k < length exports → (x : PathItem)
+    → x ≡ export_item (export_value (get_or exports k d)) → (old : Places) → HasPlacesTo servers n k old → (new : Places)
+    → PutsNamed name (get_or exports k d).name.now n x c old new → HasPlacesTo servers n (k + 1) new
+export_more servers n name exports c at k d lt x same old h new put =
     let e = export_value (get_or exports k d) in
-    export_put adapters n k a at e name (map export_value exports) c is (at_view export_value exports k d lt) old h new
+    place_put servers n k (server_by name (map export_value exports) c) at e (at_view export_value exports k d lt) old h name refl new
     (λ q. put q ∙ ap (λ z. cond (has_item c z && (bytes_eq name q.0.now && bytes_eq e.name q.1.now)) (Some (n + 1, number_of c z)) (lookup (is_key q) old)) same)
 
--- all adapters
-pub all_places : (adapters : List AdapterView) (n : ℕ) (entries : Places) → n ≡ length adapters → HasPlacesTo adapters n 0 entries → ArePlaces adapters entries
-all_places adapters n entries all h = subst (λ k. HasPlacesTo adapters k 0 entries) all h
+-- all modules
+pub all_places : (servers : List ServerView) (n : ℕ) (entries : Places) → n ≡ length servers → HasPlacesTo servers n 0 entries → ArePlaces servers entries
+all_places servers n entries all h = subst (λ k. HasPlacesTo servers k 0 entries) all h

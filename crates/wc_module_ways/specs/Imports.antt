@@ -1,5 +1,5 @@
 -- What the modules of a component import, by interfaces, where no world says it: the interface of an import is its module's name.
-use Rattle.std.specs.Prelude.{◌≡◌, ◌↔◌, ◌⊎◌, ℕ, List, [], ◌++◌, AllPairs, Bool, ◌&&◌, not, Contains, cond, codes, length, map, Option, Some, None}
+use Rattle.std.specs.Prelude.{◌≡◌, ◌↔◌, ◌⊎◌, ℕ, List, [], ◌++◌, AllPairs, Bool, ◌&&◌, not, Contains, codes, length, map, Option, Some, None}
 use Rattle.std.specs.List.{list_any, slice_get}
 use Rattle.std.specs.Str.{bytes_eq}
 use Rattle.json.specs.Lex.{tokens}
@@ -23,12 +23,11 @@ use Rattle.wc_module_ways.specs.Adapters.{AdapterView, Given}
 use Rattle.wc_import_paths.specs.MainModules.{MainView, code_of, segments_of, unread, whole}
 use Rattle.wc_module_ways.specs.Modules.{AreView, ModulesView, is_of_adapter, is_of_main}
 use Rattle.wc_module_ways.specs.Names.{function_pairs, names_under}
+use Rattle.wc_module_ways.specs.CoreImports.{AreCoreFound, AreCoreUses}
+use Rattle.wc_module_ways.specs.Tags.{tag_if}
 use Rattle.wc_module_ways.specs.declared.modules.Modules.{Modules}
 
--- the interface of an import, if the import belongs to no module of the component
-abbrev pub tag_if : Bool → ImportValue → Option (List ℕ)
-tag_if is_one i = cond is_one (Some i.module_name) None
-
+-- the interface of each import, if the import belongs to no module of the component
 abbrev pub main_tags : List Given → List ImportValue → Tags
 main_tags given imports = map (λ (i : ImportValue). tag_if (is_of_main given i) i) imports
 
@@ -73,10 +72,18 @@ ArePartsAt imports adapters interface k parts =
 abbrev pub AreParts : List ImportValue → List AdapterView → List ℕ → List AdapterPartView → Type 0
 AreParts imports adapters interface parts = AreJoined (length adapters) (ArePartsAt imports adapters interface) parts
 
+-- what adapters import of an interface, and then what the other core modules do
+pub record AreAllParts (w : ModulesView) (interface : List ℕ) (parts : List AdapterPartView) : Type 0 where
+  pub of_adapters : List AdapterPartView
+  pub are_of_adapters : AreParts (code_of w.main).imports w.adapters interface of_adapters
+  pub of_core : List AdapterPartView
+  pub are_of_core : AreCoreUses (code_of w.main).imports w.given w.core interface of_core
+  pub are : parts ≡ of_adapters ++ of_core
+
 -- an interface, with what modules import of it; none is known to be imported for its types
 pub record IsEntry (w : ModulesView) (e : EntryView) : Type 0 where
   pub main : IsMainPartOf (code_of w.main) (segments_of w.main) (main_tags w.given (code_of w.main).imports) e.0 e.1.main
-  pub adapters : AreParts (code_of w.main).imports w.adapters e.0 e.1.adapters
+  pub adapters : AreAllParts w e.0 e.1.adapters
   pub types : e.1.types ≡ None
 
 -- the interfaces of which adapters import something, of each in the order of its imports, each once
@@ -86,12 +93,14 @@ AreFoundAt adapters k names = (a : AdapterView) → slice_get adapters k ≡ Som
 abbrev pub AreFound : List AdapterView → List (List ℕ) → Type 0
 AreFound adapters names = AreJoined (length adapters) (AreFoundAt adapters) names
 
--- what modules import: all interfaces, each once, are the main module's, and those of the adapters
+-- what modules import: all interfaces, each once, are the main module's, those of the adapters, and those of the other core modules
 pub record AreEntries (w : ModulesView) (entries : List EntryView) : Type 0 where
   pub found : List (List ℕ)
   pub are_found : AreFound w.adapters found
+  pub core : List (List ℕ)
+  pub are_core : AreCoreFound w.given w.core core
   pub names : List (List ℕ)
-  pub are_names : names ≡ first_occurrences (named_in (main_tags w.given (code_of w.main).imports) ++ found)
+  pub are_names : names ≡ first_occurrences (named_in (main_tags w.given (code_of w.main).imports) ++ (found ++ core))
   pub each : (e : EntryView) → Contains entries e → IsEntry w e
   pub all : (name : List ℕ) → Contains (map (λ (e : EntryView). e.0) entries) name ↔ Contains names name
   pub ordered : AllPairs (IsListedBefore names) entries

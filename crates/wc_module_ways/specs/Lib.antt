@@ -3,10 +3,16 @@ pub mod Names
 pub mod NameLists
 pub mod Required
 pub mod Adapters
+pub mod Matched
+pub mod CoreModules
 pub mod AdapterNames
 pub mod Modules
 pub mod Refusals
+pub mod Servers
 pub mod Parts
+pub mod CoreParts
+pub mod Tags
+pub mod CoreImports
 pub mod Imports
 pub mod Tree
 pub mod Private

@@ -10,14 +10,16 @@ ghost use Rattle.wc_summary.specs.Summary.{entry_view};
 ghost use Rattle.wc_why.specs.Texts.{text_of};
 ghost use Rattle.wc_module_ways.specs.AdapterNames.{HasNames};
 ghost use Rattle.wc_module_ways.specs.Adapters.{Given, IsRead, adapter_view};
-ghost use Rattle.wc_module_ways.specs.Imports.{AreEntries, AreMainNames, IsImportsJsonIn, IsImportsTextIn, main_tags, tag_if};
+ghost use Rattle.wc_module_ways.specs.Imports.{AreEntries, AreMainNames, IsImportsJsonIn, IsImportsTextIn, main_tags};
 ghost use Rattle.wc_import_paths.specs.MainModules.{bytes_in, code_of, main_view};
 ghost use Rattle.wc_module_ways.specs.Modules.{AreView, HasModules, ModulesView, is_of_main};
 ghost use Rattle.wc_module_ways.specs.Refusals.{IsThisRefusal, IsWaysRefusal};
+ghost use Rattle.wc_module_ways.specs.Tags.{tag_if};
 ghost use Rattle.wc_module_ways.specs.Private.Imports.{AreChainsOf, AreWanted, NotesAdaptersOf, NotesFor, NotesMainOf, NotesWanted, tag_at, tags_at};
 
 use crate::adapter::AdapterModule;
 use crate::adapters::names_at;
+use crate::core_imports::note_core;
 use crate::modules::Modules;
 use crate::name_lists::NameLists;
 use crate::refusals::{ModulesRefusal, of_adapter};
@@ -114,6 +116,7 @@ fn entries_of<'r>(alloc: Global, modules: &Modules<'r>) -> Result<Entries<'r>, M
     let mut entries = Map::with_hasher(alloc, *modules.names.hasher());
     note_main(alloc, modules, &mut entries)?;
     note_adapters(alloc, modules, &mut entries)?;
+    note_core(alloc, modules, &mut entries)?;
     sort_entries(&mut entries)?;
     Ok(entries)
 }
@@ -196,7 +199,11 @@ fn adapter_tag(
 }
 
 /// The interface of an import, if it is one of those.
-fn tag_if(alloc: Global, is_one: bool, import: &Import<'_>) -> Result<Option<String>, AllocError>
+pub(crate) fn tag_if(
+    alloc: Global,
+    is_one: bool,
+    import: &Import<'_>,
+) -> Result<Option<String>, AllocError>
     ensures { IfOk result (λ t. tag_view t ≡ tag_if is_one (import_value import.now)) }
 {
     if is_one {

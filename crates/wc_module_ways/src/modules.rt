@@ -4,21 +4,24 @@ ghost use Rattle.std.specs.Prelude.{◌≡◌, ◌++◌, IfErr, IfOk, List, OnOk
 ghost use Rattle.std.specs.List.{flat_map};
 ghost use Rattle.wc_read.specs.Imports.{import_values};
 ghost use Rattle.wc_why.specs.Texts.{text_of};
-ghost use Rattle.wc_module_ways.specs.Adapters.{AreAdapters, adapter_view, given_view};
+ghost use Rattle.wc_module_ways.specs.Adapters.{AreAdapters, Given, adapter_view, given_view};
+ghost use Rattle.wc_module_ways.specs.CoreModules.{core_view};
 ghost use Rattle.wc_import_paths.specs.MainModules.{IsMainOf, main_view};
 ghost use Rattle.wc_module_ways.specs.NameLists.{AreListed};
 ghost use Rattle.wc_module_ways.specs.Names.{NamePair};
 ghost use Rattle.wc_module_ways.specs.Private.Others.{AreOthers};
-ghost use Rattle.wc_module_ways.specs.Modules.{AreImportsIn, AreModules, IsWholeIf, imports_through, input_view};
-ghost use Rattle.wc_module_ways.specs.Refusals.{IsAdaptersRefusal, IsMainFault, IsReadRefusal};
+ghost use Rattle.wc_module_ways.specs.Modules.{AreImportsIn, AreModules, IsWholeIf, core_imports, given_in, imports_through, input_view};
+ghost use Rattle.wc_module_ways.specs.Refusals.{IsAdaptersRefusal, IsMainFault, IsOthersRefusal, IsReadRefusal};
 ghost use Rattle.wc_module_ways.specs.AdapterNames.{HasNames};
 
 use crate::adapter::AdapterModule;
 use crate::adapters::{Wanted, read_adapters};
+use crate::core_module::{CoreInput, CoreModule};
+use crate::core_modules::{push_core_names, read_core};
 use crate::functions::function_names_of;
 use crate::name_lists::{NameLists, list_names};
 use crate::refusals::{ModulesRefusal, of_main};
-use crate::shared::{push_adapter_imports, push_main_imports};
+use crate::shared::{push_adapter_imports, push_core_imports, push_main_imports};
 use std::alloc::{AllocError, Global};
 use wc_import_paths::{MainModule, Refusal};
 use wc_maps::{Seed, Set};
@@ -29,26 +32,33 @@ use wc_read::Import;
 pub struct ModulesInput<'a, 's> {
     /// The bytes of the main module.
     pub main: &'a [u8],
+    /// Where its first byte lies in its file: 0, if it is a file of its own.
+    pub main_offset: usize,
     /// The exports of it at which paths may begin, in order; all, if there are none.
     pub exports: &'s [&'a str],
     /// The names of the adapters, and the bytes of their modules, in order.
     pub adapters: &'s [(&'a str, &'a [u8])],
+    /// The other core modules of a component's file, in order; none, where the modules are files of their own.
+    pub core: &'s [CoreInput<'a>],
     /// Exports that are asked of adapters, each after the name of its adapter.
     pub adapter_exports: &'s [(&'a str, &'a str)],
     /// Whether what can't be read of the main module is a fault.
     pub is_whole: bool,
 }
 
-/// The modules of a component before it is made: the main module, and the adapters that it needs.
+/// The modules of a component: before it is made the main module, and the adapters that it needs; of a component's file
+/// the main module, and the other core modules.
 #[derive(Drop)]
 pub struct Modules<'r> {
     /// The main module.
     pub main: MainModule<'r>,
     /// The adapters that a component of it needs, in order.
     pub adapters: Vec<AdapterModule<'r>>,
+    /// The other core modules of a component's file, in order.
+    pub core: Vec<CoreModule<'r>>,
     /// The names of the functions that the main module imports, under the modules that they come from.
     pub(crate) functions: NameLists<'r>,
-    /// The names of all adapters.
+    /// The names of all adapters, and of the core modules from whose names others import.
     pub(crate) names: Set<&'r str>,
 }
 
@@ -63,6 +73,9 @@ impl<'r> Modules<'r> {
     /// `__indirect_function_table`. An adapter is left out if the main module imports no function of it, it exports no
     /// function of an interface, and none of its exports is asked for.
     ///
+    /// The other core modules of a component's file are followed from all their exports, the start function and active
+    /// segments, and libraries among them are read. They are not trimmed, and none is left out.
+    ///
     /// It takes time and memory linear in the modules and in the names.
     ///
     /// # Errors
@@ -73,6 +86,8 @@ impl<'r> Modules<'r> {
     ///   not there. A section of segments, or a body, that can't be read is one only where the main module has to be
     ///   whole.
     /// - Of an adapter, in order: `Read`, with the byte at which it stops to be a module.
+    /// - Of another core module, in order: what `wc_import_paths::follow` names of it; of a library only `Read`, with
+    ///   the byte.
     /// - `Memory`: an allocation failed.
     pub fn read(
         alloc: Global,
@@ -84,13 +99,15 @@ impl<'r> Modules<'r> {
     {
         match main_of(alloc, seed, input) {
             Ok(main) => read_with(alloc, seed, input, main),
-            Err(refused) => Err(of_main(refused)),
+            Err(refused) => Err(of_main(input.main_offset, refused)),
         }
     }
 
     /// The imports of the modules to which paths may be shown: first the imports of the main module that are not from
-    /// an adapter, and then the imports of each adapter. Imports that modules of a component share are left out:
-    /// imports from `__main_module__`, and the `memory` that an adapter imports from `env`.
+    /// an adapter, then the imports of each adapter, and then those of each other core module. Imports that modules of
+    /// a component share are left out: imports from `__main_module__`, and the `memory` that an adapter imports from
+    /// `env`; of another core module also what it imports from the name of one of them, and of a library what it
+    /// imports from `env`, `GOT.mem` and `GOT.func`.
     ///
     /// # Errors
     ///
@@ -101,6 +118,7 @@ impl<'r> Modules<'r> {
         let mut imports = Vec::new(alloc);
         push_main_imports(&self.names, &self.main.code().imports, &mut imports)?;
         push_all_imports(&self.adapters, &mut imports)?;
+        push_all_core_imports(&self.names, &self.core, &mut imports)?;
         Ok(imports)
     }
 }
@@ -137,6 +155,23 @@ fn push_all_imports<'r>(
     Ok(())
 }
 
+/// Appends the imports of core modules that belong to no other module of the component. `names`: the names of those
+/// that serve them.
+fn push_all_core_imports<'r>(
+    names: &Set<&'r str>,
+    core: &[CoreModule<'r>],
+    found: &mut Vec<Import<'r>>,
+) -> Result<(), AllocError>
+    ensures { (given : List Given) → HasNames given names.now.keys → OnOk result
+        (import_values found.new.items ≡ import_values found.old.items
+        ++ flat_map (core_imports given) (map core_view core.now)) }
+{
+    for one in core {
+        push_core_imports(names, one.is_library(), &one.code().imports, found)?;
+    }
+    Ok(())
+}
+
 /// The modules with this main module.
 fn read_with<'r>(
     alloc: Global,
@@ -147,7 +182,7 @@ fn read_with<'r>(
     requires is_main { IsMainOf input.now.main.now (map text_of input.now.exports.now) main }
     requires whole { IsWholeIf input.now.is_whole (main_view main) }
     ensures modules { IfOk result (AreModules (input_view input.now)) }
-    ensures refused { IfErr result (IsAdaptersRefusal (map given_view input.now.adapters.now)) }
+    ensures refused { IfErr result (IsOthersRefusal (input_view input.now)) }
 {
     match read_others(alloc, seed, input, &main.code().imports) {
         Ok(others) => Ok(modules_of(main, others)),
@@ -159,31 +194,35 @@ fn read_with<'r>(
 fn modules_of<'r>(main: MainModule<'r>, others: Others<'r>) -> Modules<'r>
     ensures main { result.main ≡ main.entry }
     ensures adapters { result.adapters.items ≡ others.entry.adapters.items }
+    ensures core { result.core.items ≡ others.entry.core.items }
     ensures functions { result.functions.entries ≡ others.entry.functions.entries }
     ensures names { result.names.keys ≡ others.entry.names.keys }
 {
     let Others {
         adapters,
+        core,
         functions,
         names,
     } = others;
     Modules {
         main,
         adapters,
+        core,
         functions,
         names,
     }
 }
 
-/// The adapters that a component needs, and what is looked up of them.
+/// The adapters that a component needs, the other core modules, and what is looked up of them.
 #[derive(Drop)]
 struct Others<'r> {
     adapters: Vec<AdapterModule<'r>>,
+    core: Vec<CoreModule<'r>>,
     functions: NameLists<'r>,
     names: Set<&'r str>,
 }
 
-/// The adapters for a main module with these imports.
+/// The adapters, and the other core modules, for a main module with these imports.
 fn read_others<'r>(
     alloc: Global,
     seed: Seed,
@@ -191,13 +230,15 @@ fn read_others<'r>(
     imports: &[Import<'r>],
 ) -> Result<Others<'r>, ModulesRefusal<'r>>
     ensures others { IfOk result (AreOthers (input_view input.now) (import_values imports.now)) }
-    ensures refused { IfErr result (IsAdaptersRefusal (map given_view input.now.adapters.now)) }
+    ensures refused { IfErr result (IsOthersRefusal (input_view input.now)) }
 {
     let functions = function_names_of(alloc, seed, imports)?;
     let adapters = adapters_for(alloc, seed, input, &functions)?;
-    let names = adapter_names(alloc, seed, input.adapters)?;
+    let core = read_core(alloc, seed, input.core)?;
+    let names = names_of(alloc, seed, input)?;
     Ok(Others {
         adapters,
+        core,
         functions,
         names,
     })
@@ -222,6 +263,19 @@ fn adapters_for<'r>(
         asked: &asked,
     };
     read_adapters(alloc, seed, input.adapters, wanted)
+}
+
+/// The names of adapters, and of the core modules from whose names others import, as a set.
+fn names_of<'r>(
+    alloc: Global,
+    seed: Seed,
+    input: &ModulesInput<'r, '_>,
+) -> Result<Set<&'r str>, AllocError>
+    ensures { IfOk result (λ s. HasNames (given_in (input_view input.now)) s.keys) }
+{
+    let mut names = adapter_names(alloc, seed, input.adapters)?;
+    push_core_names(input.core, &mut names)?;
+    Ok(names)
 }
 
 /// The names of adapters as a set.

@@ -1,50 +1,67 @@
 //! The modules as parts of a component.
 
-ghost use Rattle.std.specs.Prelude.{◌≡◌, ◌+◌, ◌<◌, ◌^◌, ◌++◌, All, IfOk, List, OnOk, map};
+ghost use Rattle.std.specs.Prelude.{◌≡◌, ◌<◌, ◌^◌, ◌++◌, All, IfOk, List, OnOk, map};
 ghost use Rattle.std.specs.Option.{option_map, option_to_list};
-ghost use Rattle.wc_read.specs.Exports.{export_value};
 ghost use Rattle.wc_read.specs.Imports.{import_value, import_values};
 ghost use Rattle.wc_paths.specs.Counts.{counts_value};
 ghost use Rattle.wc_paths.specs.Numbers.{item_count};
 ghost use Rattle.wc_why.specs.Part.{link_view, part_view};
-ghost use Rattle.wc_import_paths.specs.MainModules.{bytes_in, main_view};
-ghost use Rattle.wc_module_ways.specs.Adapters.{AdapterView, IsRead, adapter_view};
+ghost use Rattle.wc_import_paths.specs.MainModules.{bytes_in, code_of, main_view};
+ghost use Rattle.wc_module_ways.specs.Adapters.{IsRead, adapter_view};
+ghost use Rattle.wc_module_ways.specs.CoreModules.{core_view};
 ghost use Rattle.wc_module_ways.specs.Modules.{HasModules};
 ghost use Rattle.wc_module_ways.specs.Parts.{AreAdapterParts, AreLinks, AreParts, IsPartOfAdapter};
-ghost use Rattle.wc_module_ways.specs.Private.Places.{ArePlaces, IsOfExports, PutsAdapter, PutsPlace, link_of};
+ghost use Rattle.wc_module_ways.specs.Private.Places.{ArePlaces, found_place, found_view, link_of, named_place, original_place};
+ghost use Rattle.wc_module_ways.specs.Servers.{ServerView, servers_of};
 
 use crate::adapter::AdapterModule;
+use crate::core_parts::push_core_parts;
 use crate::functions::is_function;
 use crate::modules::Modules;
+use crate::servers::{ExportPlaces, export_places, servers_of};
 use std::alloc::{AllocError, Global};
+use wc_component_file::original_import_name;
 use wc_import_paths::{adapter_part, exports_of_names};
-use wc_maps::{Map, Seed};
-use wc_paths::{Counts, PathItem, export_item, has_item, import_items, number_of};
-use wc_read::{Export, Import};
+use wc_maps::Seed;
+use wc_paths::{Counts, PathItem, has_item, import_items, number_of};
+use wc_read::Import;
 use wc_why::{Link, Part};
 
-/// For each export of an adapter, by the adapter's name and its own, the position of the part and the number of its
-/// item.
-type ExportPlaces<'a> = Map<(&'a str, &'a str), (usize, usize)>;
-
-/// The parts of a component: the main module, and then each adapter.
+/// The parts of a component: the main module, then each adapter, and then each other core module.
 pub(crate) fn parts_of<'a>(
     alloc: Global,
     modules: &'a Modules<'_>,
 ) -> Result<Vec<Part<'a>>, AllocError>
     requires { HasModules modules.now }
     ensures { IfOk result (λ v. AreParts (main_view modules.now.main) (bytes_in modules.now.main)
-        (map adapter_view modules.now.adapters.items) (map part_view v.items)) }
+        (map adapter_view modules.now.adapters.items) (map core_view modules.now.core.items)
+        (map part_view v.items)) }
 {
     let seed = *modules.names.hasher();
     let mut main = modules.main.part(alloc)?;
-    let mut parts = adapter_parts(alloc, seed, &modules.adapters)?;
-    let places = export_places(alloc, seed, &modules.adapters, &parts)?;
-    let imports = &modules.main.code().imports;
-    let links = links_of(alloc, imports, &main.counts, &places)?;
+    let links = links_in(alloc, seed, modules, &main.counts)?;
     main.links = links;
+    let mut parts = adapter_parts(alloc, seed, &modules.adapters)?;
+    push_core_parts(alloc, &modules.functions, &modules.core, &mut parts)?;
     parts.insert(0, main)?;
     Ok(parts)
+}
+
+/// The links from the main module, which has so many items.
+fn links_in<'a>(
+    alloc: Global,
+    seed: Seed,
+    modules: &'a Modules<'_>,
+    counts: &Counts,
+) -> Result<Vec<Link<'a>>, AllocError>
+    requires { item_count (counts_value counts.now) < 2 ^ 64 }
+    ensures { IfOk result (λ v. AreLinks (code_of (main_view modules.now.main)).imports
+        (counts_value counts.now) (servers_of (map adapter_view modules.now.adapters.items)
+        (map core_view modules.now.core.items)) (map link_view v.items)) }
+{
+    let servers = servers_of(alloc, modules)?;
+    let places = export_places(alloc, seed, &servers)?;
+    links_of(alloc, &modules.main.code().imports, counts, &places)
 }
 
 /// The parts of adapters.
@@ -77,77 +94,7 @@ fn part_of_adapter<'a>(
     adapter_part(alloc, adapter.name, adapter.bytes, &adapter.rows, &always)
 }
 
-/// The exports of all adapters, of which these are the parts.
-fn export_places<'a>(
-    alloc: Global,
-    seed: Seed,
-    adapters: &'a [AdapterModule<'_>],
-    parts: &[Part<'_>],
-) -> Result<ExportPlaces<'a>, AllocError>
-    requires { AreAdapterParts (map adapter_view adapters.now) (map part_view parts.now) }
-    ensures { IfOk result (λ m. ArePlaces (map adapter_view adapters.now) m.entries) }
-{
-    let mut places = Map::with_hasher(alloc, seed);
-    for index in 0..adapters.len() {
-        let adapter = &adapters[index];
-        let counts = &parts[index].counts;
-        put_exports(
-            adapter.name,
-            &adapter.code.exports,
-            index,
-            counts,
-            &mut places,
-        )?;
-    }
-    Ok(places)
-}
-
-/// Puts the exports of the adapter of a name at an index, which has so many items.
-fn put_exports<'a>(
-    name: &'a str,
-    exports: &'a [Export<'_>],
-    index: usize,
-    counts: &Counts,
-    places: &mut ExportPlaces<'a>,
-) -> Result<(), AllocError>
-    requires fits { item_count (counts_value counts.now) < 2 ^ 64 }
-    requires room { index + 1 < 2 ^ 64 }
-    ensures { (a : AdapterView) → IsOfExports name.now (map export_value exports.now)
-        (counts_value counts.now) a
-        → OnOk result (PutsAdapter a index places.old.entries places.new.entries) }
-{
-    for export in exports {
-        put_export(
-            (name, export.name),
-            index,
-            export_item(export),
-            counts,
-            places,
-        )?;
-    }
-    Ok(())
-}
-
-/// Puts the item of an export of the adapter at an index under a key, if it is there.
-fn put_export<'a>(
-    key: (&'a str, &'a str),
-    index: usize,
-    item: PathItem,
-    counts: &Counts,
-    places: &mut ExportPlaces<'a>,
-) -> Result<(), AllocError>
-    requires fits { item_count (counts_value counts.now) < 2 ^ 64 }
-    requires room { index + 1 < 2 ^ 64 }
-    ensures { OnOk result (PutsPlace key.entry index item (counts_value counts.now)
-        places.old.entries places.new.entries) }
-{
-    if has_item(counts, item) {
-        places.insert(key, (index + 1, number_of(counts, item)))?;
-    }
-    Ok(())
-}
-
-/// The links from functions that the main module imports to the exports of adapters that have their names.
+/// The links from functions that the main module imports to exports, which are at these places.
 fn links_of<'a>(
     alloc: Global,
     imports: &'a [Import<'_>],
@@ -155,9 +102,9 @@ fn links_of<'a>(
     places: &ExportPlaces<'_>,
 ) -> Result<Vec<Link<'a>>, AllocError>
     requires { item_count (counts_value counts.now) < 2 ^ 64 }
-    ensures { IfOk result (λ v. (adapters : List AdapterView)
-        → ArePlaces adapters places.now.entries
-        → AreLinks (import_values imports.now) (counts_value counts.now) adapters
+    ensures { IfOk result (λ v. (servers : List ServerView)
+        → ArePlaces servers places.now.entries
+        → AreLinks (import_values imports.now) (counts_value counts.now) servers
         (map link_view v.items)) }
 {
     let items = import_items(alloc, imports)?;
@@ -174,7 +121,7 @@ fn links_of<'a>(
     Ok(links)
 }
 
-/// Appends the link of an import with this item, if it is an export of an adapter.
+/// Appends the link of an import with this item, if it is an export of a module.
 fn push_link<'a>(
     import: &'a Import<'_>,
     item: PathItem,
@@ -196,7 +143,7 @@ fn push_link<'a>(
     }
 }
 
-/// The link of an import with this item, if it is an export of an adapter.
+/// The link of an import with this item, if it is an export of a module.
 fn link_of<'a>(
     import: &'a Import<'_>,
     item: PathItem,
@@ -208,16 +155,62 @@ fn link_of<'a>(
         (counts_value counts.now) places.now.entries }
 {
     if is_function(import.ty) && has_item(counts, item) {
-        match places.get(&(import.module, import.name)) {
-            Some((part, linked)) => Some(Link {
+        match found_place(import.module, import.name, places) {
+            Some((export, (part, linked))) => Some(Link {
                 item: number_of(counts, item),
-                part: *part,
-                linked: *linked,
-                export: import.name,
+                part,
+                linked,
+                export,
             }),
             None => None,
         }
     } else {
         None
+    }
+}
+
+/// The place of the export of a name of a module; if there is none, that of the name before its version. It comes with
+/// the name that was found.
+fn found_place<'a>(
+    from: &'a str,
+    name: &'a str,
+    places: &ExportPlaces<'_>,
+) -> Option<(&'a str, (usize, usize))>
+    ensures { option_map found_view result
+        ≡ found_place places.now.entries from.now name.now }
+{
+    match places.get(&(from, name)) {
+        Some(place) => Some((name, *place)),
+        None => original_place(from, name, places),
+    }
+}
+
+/// The place of the export of the name before the version of a name, with that name.
+fn original_place<'a>(
+    from: &'a str,
+    name: &'a str,
+    places: &ExportPlaces<'_>,
+) -> Option<(&'a str, (usize, usize))>
+    ensures { option_map found_view result
+        ≡ original_place places.now.entries from.now name.now }
+{
+    match original_import_name(name) {
+        Some(original) => named_place(from, original, places),
+        None => None,
+    }
+}
+
+/// The place of the export of a name of a module, with the name.
+fn named_place<'a>(
+    from: &'a str,
+    name: &'a str,
+    places: &ExportPlaces<'_>,
+) -> Option<(&'a str, (usize, usize))>
+    ensures { option_map found_view result
+        ≡ named_place places.now.entries from.now name.now }
+{
+    match places.get(&(from, name)) {
+        Some(place) => Some((name, *place)),
+        None => None,
     }
 }

@@ -10,6 +10,7 @@ ghost use Rattle.wc_import_paths.specs.MainModules.{bytes_in, main_view, reached
 ghost use Rattle.wc_import_paths.specs.Shown.{end_view, import_ends};
 ghost use Rattle.wc_module_ways.specs.AdapterNames.{HasNames};
 ghost use Rattle.wc_module_ways.specs.Adapters.{Given, adapter_view};
+ghost use Rattle.wc_module_ways.specs.CoreModules.{core_view};
 ghost use Rattle.wc_module_ways.specs.Modules.{AreView, HasModules, ModulesView, is_adapter_shown, is_main_shown};
 ghost use Rattle.wc_module_ways.specs.Parts.{AreParts};
 ghost use Rattle.wc_module_ways.specs.Refusals.{HasNoCause, IsThisRefusal, IsWaysRefusal};
@@ -17,6 +18,7 @@ ghost use Rattle.wc_module_ways.specs.Private.Parts.{HasAdapterParts};
 ghost use Rattle.wc_module_ways.specs.Tree.{IsTreeIn, all_adapter_ends, import_ends_of, shown_ends};
 
 use crate::adapter::AdapterModule;
+use crate::core_tree::push_core;
 use crate::modules::Modules;
 use crate::parts::parts_of;
 use crate::refusals::{ModulesRefusal, of_adapter};
@@ -32,8 +34,8 @@ use wc_read::Import;
 use wc_why::{Part, Tree, TreeCaller};
 
 /// The tree of the paths to the imports of modules that are asked for: those of the main module that are not from an
-/// adapter, and then those of each adapter; and then to these functions of the main module. Where only functions are
-/// asked for, no import is shown.
+/// adapter, then those of each adapter, and then those of each other core module; and then to these functions of the
+/// main module. Where only functions are asked for, no import is shown.
 ///
 /// It takes time and memory linear in the modules.
 ///
@@ -113,7 +115,8 @@ fn shown_in<'r>(
     parts: &[Part<'_>],
 ) -> Result<Vec<ShownEnd<'r>>, AllocError>
     requires { AreParts (main_view modules.now.main) (bytes_in modules.now.main)
-        (map adapter_view modules.now.adapters.items) (map part_view parts.now) }
+        (map adapter_view modules.now.adapters.items) (map core_view modules.now.core.items)
+        (map part_view parts.now) }
     ensures { (w : ModulesView) → AreView modules.now w → IfOk result (λ v. map end_view v.items
         ≡ shown_ends w asked.now (reached_in modules.now.main) (map tree_caller_view functions.now)) }
 {
@@ -133,7 +136,8 @@ fn imports_if<'r>(
     parts: &[Part<'_>],
 ) -> Result<Vec<ShownEnd<'r>>, AllocError>
     requires { AreParts (main_view modules.now.main) (bytes_in modules.now.main)
-        (map adapter_view modules.now.adapters.items) (map part_view parts.now) }
+        (map adapter_view modules.now.adapters.items) (map core_view modules.now.core.items)
+        (map part_view parts.now) }
     ensures { (w : ModulesView) → AreView modules.now w → IfOk result (λ v. map end_view v.items
         ≡ cond is_wanted (import_ends_of w asked.now) []) }
 {
@@ -155,7 +159,8 @@ fn push_imports<'r>(
     shown: &mut Vec<ShownEnd<'r>>,
 ) -> Result<(), AllocError>
     requires { AreParts (main_view modules.now.main) (bytes_in modules.now.main)
-        (map adapter_view modules.now.adapters.items) (map part_view parts.now) }
+        (map adapter_view modules.now.adapters.items) (map core_view modules.now.core.items)
+        (map part_view parts.now) }
     ensures { (w : ModulesView) → AreView modules.now w → OnOk result (map end_view shown.new.items
         ≡ map end_view shown.old.items ++ import_ends_of w asked.now) }
 {
@@ -167,7 +172,8 @@ fn push_imports<'r>(
         (imports, &parts[0].counts),
         shown,
     )?;
-    push_adapters(alloc, &modules.adapters, asked, parts, shown)
+    push_adapters(alloc, &modules.adapters, asked, parts, shown)?;
+    push_core(alloc, modules, asked, modules.adapters.len() + 1, shown)
 }
 
 /// Appends the imports of the main module that are asked for, and from no adapter, of which these are the names.

@@ -56,7 +56,7 @@ filtered_by : {A B : Type 0} (p : B → Bool) (g : A → B) (x : A) (xs : List A
 filtered_by p g x xs rest true e = rw e (ap (λ ys. g x ∷ ys) rest)
 filtered_by p g x xs rest false e = rw e rest
 
-filter_mapped : {A B : Type 0} (p : B → Bool) (g : A → B) (xs : List A) → filter p (map g xs) ≡ map g (filter (λ (y : A). p (g y)) xs)
+pub filter_mapped : {A B : Type 0} (p : B → Bool) (g : A → B) (xs : List A) → filter p (map g xs) ≡ map g (filter (λ (y : A). p (g y)) xs)
 filter_mapped p g [] = refl
 filter_mapped p g (x ∷ xs) = filtered_by p g x xs (filter_mapped p g xs) (p (g x)) refl
 
@@ -78,7 +78,7 @@ body_at funcs x b (Some v) e f = (by (own_body v) f, slice_get_within funcs x v 
     by (Some body) g = let same : (x, length body) ≡ b = (let both : Some (x, length body) ≡ Some b = g in cc both) in ap (λ (z : ℕ × ℕ). z.0) (sym same)
 
 -- a function of the module's own is there
-body_inside : (m : ModuleValue) (b : ℕ × ℕ) → Contains (own_bodies m.funcs) b → is_in (decode m) (Funcs, b.0) ≡ true
+pub body_inside : (m : ModuleValue) (b : ℕ × ℕ) → Contains (own_bodies m.funcs) b → is_in (decode m) (Funcs, b.0) ≡ true
 body_inside m b c =
     let r = from_filter_map (sized_body m.funcs) (range_with_len 0 (length m.funcs)) b c in
     let h = body_at m.funcs r.0 b (slice_get m.funcs r.0) refl r.1 in
@@ -149,6 +149,7 @@ module _ (a : AdapterValue) (interfaces : List (List ℕ)) (distinct : AllPairs 
           a.required are.sources are.are_sources (led_at uses u) led_are;
       exports = refl;
       stays = refl;
+      roots = refl;
       gone = filter is_gone (own_bodies a.value.funcs);
       are_gone = (is_gone, gone_is, refl);
       functions = counted.items ∙ (ap length picked_is ∙ length-map (filter is_gone (own_bodies a.value.funcs)) add);

@@ -16,3 +16,5 @@ mod AdapterLemmas
 pub mod AdapterPartLemmas
 pub mod NotedLemmas
 pub mod ListedLemmas
+mod CoreModuleLemmas
+mod CorePartLemmas

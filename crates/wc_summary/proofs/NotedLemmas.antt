@@ -38,6 +38,7 @@ with_all name b i ps names wanted a = record {
   imports = i;
   exports = exports_at true names wanted ps;
   stays = exports_at false names wanted ps;
+  roots = [];
   functions = a.items;
   bytes = a.size;
 }
@@ -134,6 +135,7 @@ module _ (name : List ℕ) (value : ModuleValue) (tags : Tags) (required : List 
     led = h.led;
     are_led = h.are_led;
     exports = h.exports ∙ filter_agree p q same (names_at required h.led);
+    roots = h.roots;
     stays = h.stays ∙ filter_agree (λ e. not (p e)) (λ e. not (q e)) (λ e. ap not (same e)) (names_at required h.led);
     gone = h.gone;
     are_gone = h.are_gone;

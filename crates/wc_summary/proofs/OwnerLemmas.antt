@@ -114,11 +114,11 @@ before_one imports k l i j e f less same =
     ap (λ s. count_by (λ (x : ImportValue). is_in_space s x.ty) (take l imports)) space in
     omega (arith, index, more, most, at, same_count)
 
-number_by : (c : CountsValue) (x : PathItem) (n : ℕ) (b : Bool) → has_item c x ≡ b → cond b (Some (number_of c x)) None ≡ Some n → (has_item c x ≡ true) × (number_of c x ≡ n)
+pub number_by : (c : CountsValue) (x : PathItem) (n : ℕ) (b : Bool) → has_item c x ≡ b → cond b (Some (number_of c x)) None ≡ Some n → (has_item c x ≡ true) × (number_of c x ≡ n)
 number_by c x n true h e = (h, let same : Some (number_of c x) ≡ Some n = e in cc same)
 number_by c x n false h e = absurd (let bad : None ≡ Some n = e in cc bad)
 
-one_number : (c : CountsValue) (x y : PathItem) (n : ℕ) → as_number c x ≡ Some n → as_number c y ≡ Some n → x ≡ y
+pub one_number : (c : CountsValue) (x y : PathItem) (n : ℕ) → as_number c x ≡ Some n → as_number c y ≡ Some n → x ≡ y
 one_number c x y n e f =
     let h = number_by c x n (has_item c x) refl e in
     let k = number_by c y n (has_item c y) refl f in

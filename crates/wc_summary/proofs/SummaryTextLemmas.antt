@@ -54,6 +54,13 @@ pub names_as : {a b : Written} (name : List ℕ) (x y : List (String Global)) �
     → Puts a b (key name ∷ json_tokens (array_of (map string (map string_bytes y))))
 names_as {a} {b} name x y e p = subst (λ (z : List (String Global)). Puts a b (key name ∷ json_tokens (array_of (map string (map string_bytes z))))) e p
 
+pub stays_as : {a b : Written} (x y v w : List (String Global)) → x ≡ y → v ≡ w
+    → Puts a b (key (codes "stays") ∷ json_tokens (array_of (map string (map string_bytes x) ++ map string (map string_bytes v))))
+    → Puts a b (key (codes "stays") ∷ json_tokens (array_of (map string (map string_bytes y) ++ map string (map string_bytes w))))
+stays_as {a} {b} x y v w e f p =
+    subst (λ (z : List (String Global)). Puts a b (key (codes "stays") ∷ json_tokens (array_of (map string (map string_bytes y) ++ map string (map string_bytes z))))) f
+    (subst (λ (z : List (String Global)). Puts a b (key (codes "stays") ∷ json_tokens (array_of (map string (map string_bytes z) ++ map string (map string_bytes v))))) e p)
+
 pub values_as : {a b : Written} (json : ℕ → Json) (x y : List ℕ) → x ≡ y → Puts a b (key (codes "by") ∷ json_tokens (array_of (map json x)))
     → Puts a b (key (codes "by") ∷ json_tokens (array_of (map json y)))
 values_as {a} {b} json x y e p = subst (λ (z : List ℕ). Puts a b (key (codes "by") ∷ json_tokens (array_of (map json z)))) e p

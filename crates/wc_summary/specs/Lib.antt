@@ -6,4 +6,5 @@ pub mod SummaryJson
 pub mod Parts
 pub mod Entries
 pub mod Notes
+pub mod CoreModules
 pub mod Private

@@ -80,6 +80,7 @@ pub record IsAdapterPartOf (interface : List ℕ) (a : AdapterValue) (p : Adapte
   pub are_led : AreAscending (LeadsAt a.value a.tags a.required interface) led
   pub exports : p.exports ≡ filter a.is_wanted (names_at a.required led)
   pub stays : p.stays ≡ filter (λ (e : List ℕ). not (a.is_wanted e)) (names_at a.required led)
+  pub roots : p.roots ≡ []
   -- and what is live for these alone, of whose bodies a number of 64 bits counts the bytes
   pub gone : List (ℕ × ℕ)
   pub are_gone : ArePicked (λ (b : ℕ × ℕ). IsGone a.value a.tags a.required interface b.0) (own_bodies a.value.funcs) gone
@@ -88,4 +89,4 @@ pub record IsAdapterPartOf (interface : List ℕ) (a : AdapterValue) (p : Adapte
 
 -- ---- a library, of which only its imports are known
 abbrev pub library_part : List ℕ → ℕ → AdapterPartView
-library_part name imports = record { adapter = name; is_library = true; imports = imports; exports = []; stays = []; functions = 0; bytes = 0 }
+library_part name imports = record { adapter = name; is_library = true; imports = imports; exports = []; stays = []; roots = []; functions = 0; bytes = 0 }

@@ -5,3 +5,4 @@ pub mod SummaryMain
 pub mod Tags
 pub mod Uses
 pub mod SummaryAdapters
+pub mod CoreModules

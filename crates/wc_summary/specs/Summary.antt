@@ -15,13 +15,15 @@ pub record MainPartView : Type 0 where
   pub imports : ℕ
   pub by : List ℕ
 
--- what an adapter imports of it: how many imports, the exports that lead to one, and what is live for these alone
+-- what an adapter or another core module imports of it: how many imports, the exports that lead to one, where else paths to one begin, and
+-- what is live for these alone
 pub record AdapterPartView : Type 0 where
   pub adapter : List ℕ
   pub is_library : Bool
   pub imports : ℕ
   pub exports : List (List ℕ)
   pub stays : List (List ℕ)
+  pub roots : List (List ℕ)
   pub functions : ℕ
   pub bytes : ℕ
 
@@ -42,6 +44,7 @@ part_view p = record {
   imports = p.imports;
   exports = map string_bytes p.exports.items;
   stays = map string_bytes p.stays.items;
+  roots = map string_bytes p.roots.items;
   functions = p.functions;
   bytes = p.bytes;
 }
@@ -58,9 +61,9 @@ parts_view e = record { main = main_view e.main; adapters = map part_view e.adap
 abbrev pub entry_view : String Global × Entry → EntryView
 entry_view e = (string_bytes e.0, parts_view e.1)
 
--- an adapter imports of it whatever the main module imports
+-- an adapter or another core module imports of it whatever the main module imports
 abbrev pub stays_in : AdapterPartView → Bool
-stays_in p = p.is_library || nat_lt 0 (length p.stays)
+stays_in p = (p.is_library || nat_lt 0 (length p.stays)) || nat_lt 0 (length p.roots)
 
 -- what it takes for it to go: by whether the main module imports it, whether no adapter does, and whether one does whatever the
 -- main module imports

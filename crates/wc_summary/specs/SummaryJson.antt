@@ -16,12 +16,12 @@ abbrev pub main_json : List GlobalNameValue → MainPartView → Json
 main_json names p =
     object_of ((codes "adapter", text_or_null None) ∷ (codes "imports", number_json p.imports) ∷ (codes "by", array_of (map (function_json names) p.by)) ∷ [])
 
--- what an adapter imports
+-- what an adapter or another core module imports
 abbrev pub adapter_json : AdapterPartView → Json
 adapter_json p =
     object_of (
     (codes "adapter", string p.adapter) ∷ (codes "imports", number_json p.imports) ∷ (codes "exports", array_of (map string p.exports))
-    ∷ (codes "stays", array_of (map string p.stays)) ∷ (codes "functions", number_json p.functions) ∷ (codes "bytes", number_json p.bytes) ∷ []
+    ∷ (codes "stays", array_of (map string p.stays ++ map string p.roots)) ∷ (codes "functions", number_json p.functions) ∷ (codes "bytes", number_json p.bytes) ∷ []
     )
 
 -- the modules that import something of it

@@ -7,7 +7,7 @@ use Rattle.wc_summary.specs.Names.{function_name}
 use Rattle.wc_why_text.specs.ItemTexts.{item_text}
 use Rattle.wc_why_text.specs.RustNames.{rust_name}
 use Rattle.wc_why_text.specs.Texts.{word}
-use Rattle.wc_summary.specs.Summary.{AdapterPartView, EntryView, MainPartView, PartsView}
+use Rattle.wc_summary.specs.Summary.{AdapterPartView, EntryView, MainPartView, PartsView, stays_in}
 
 -- texts, each after a text: the first after one, the others after another
 abbrev pub separated : List ℕ → List ℕ → List (List ℕ) → List ℕ
@@ -42,13 +42,16 @@ words_text names = flat_map (λ (name : List ℕ). codes " " ++ word name) names
 abbrev pub gone_text : ℕ → List ℕ
 gone_text bytes = codes ", " ++ (decimal bytes ++ codes " bytes, needed only for")
 
--- that it is always needed, and for which exports; or which exports need it, and how many bytes
-abbrev pub trimmed_text : ℕ → List (List ℕ) → List (List ℕ) → List ℕ
-trimmed_text bytes exports [] = gone_text bytes ++ words_text exports
-trimmed_text bytes exports (name ∷ names) = codes ", always needed for" ++ words_text (name ∷ names)
+-- which exports need it, and how many bytes
+abbrev pub only_text : ℕ → List (List ℕ) → List ℕ
+only_text bytes exports = gone_text bytes ++ words_text exports
+
+-- that it is always needed, for which exports, and where else paths to it begin: these are no words from outside
+abbrev pub always_text : List (List ℕ) → List (List ℕ) → List ℕ
+always_text stays roots = codes ", always needed for" ++ (words_text stays ++ flat_map (λ (root : List ℕ). codes " " ++ root) roots)
 
 abbrev pub effect_text : AdapterPartView → List ℕ
-effect_text p = cond p.is_library (codes ", always needed") (trimmed_text p.bytes p.exports p.stays)
+effect_text p = cond p.is_library (codes ", always needed") (cond (stays_in p) (always_text p.stays p.roots) (only_text p.bytes p.exports))
 
 abbrev pub adapter_text : AdapterPartView → List ℕ
 adapter_text p = count_text p.imports ++ (codes "adapter " ++ (word p.adapter ++ effect_text p))

@@ -56,7 +56,7 @@ fn own(owners: &mut Vec<Option<usize>>, item: Option<usize>, place: Option<usize
 }
 
 /// The number of an item in a module's graph, if it is there.
-fn number_if(counts: &Counts, item: PathItem) -> Option<usize>
+pub(crate) fn number_if(counts: &Counts, item: PathItem) -> Option<usize>
     requires { item_count (counts_value counts.now) < 2 ^ 64 }
     ensures { result ≡ as_number (counts_value counts.now) item }
 {

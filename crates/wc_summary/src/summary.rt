@@ -15,7 +15,7 @@ pub struct MainPart {
     pub by: Vec<u32>,
 }
 
-/// The imports of an interface by an adapter.
+/// The imports of an interface by an adapter, or by another core module.
 #[derive(Drop)]
 pub struct AdapterPart<'a> {
     /// Its name.
@@ -28,6 +28,9 @@ pub struct AdapterPart<'a> {
     pub exports: Vec<String>,
     /// Those that are required whatever the main module imports.
     pub stays: Vec<String>,
+    /// Where else a path to one of these begins: at the start function, or at a segment. It is empty for an adapter
+    /// that is trimmed.
+    pub roots: Vec<String>,
     /// How many functions are live for these exports alone.
     pub functions: usize,
     /// How many bytes their bodies have.
@@ -143,8 +146,8 @@ fn any_stays(parts: &[AdapterPart<'_>]) -> bool
 }
 
 /// Whether an adapter imports of an interface whatever the main module imports.
-fn stays(part: &AdapterPart<'_>) -> bool
+pub(crate) fn stays(part: &AdapterPart<'_>) -> bool
     ensures { result ≡ stays_in (part_view part.now) }
 {
-    part.is_library || !part.stays.is_empty()
+    part.is_library || !part.stays.is_empty() || !part.roots.is_empty()
 }

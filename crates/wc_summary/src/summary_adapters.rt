@@ -139,7 +139,7 @@ fn uses_of(
 }
 
 /// The uses of as many interfaces as are counted: by the items of exports and of imports, and by the functions.
-fn uses_in(
+pub(crate) fn uses_in(
     alloc: Global,
     graph: &ModuleGraph<'_, '_>,
     items: (&[Option<usize>], &[Option<usize>]),

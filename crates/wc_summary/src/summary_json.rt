@@ -185,7 +185,7 @@ fn put_adapter(out: &mut Writer, part: &AdapterPart<'_>) -> Result<(), AllocErro
     put_text(out, "adapter", part.adapter)?;
     put_number(out, "imports", part.imports)?;
     put_names(out, "exports", &part.exports)?;
-    put_names(out, "stays", &part.stays)?;
+    put_stays(out, &part.stays, &part.roots)?;
     put_number(out, "functions", part.functions)?;
     put_number(out, "bytes", part.bytes)?;
     end_object(out)
@@ -202,4 +202,27 @@ fn put_names(out: &mut Writer, member: &str, names: &[String]) -> Result<(), All
         out.string(name)?;
     }
     out.end_array()
+}
+
+/// Writes the member that lists exports that stay, and where else paths begin.
+fn put_stays(out: &mut Writer, stays: &[String], roots: &[String]) -> Result<(), AllocError>
+    ensures { OnOk result (Puts out.old out.new (key (codes "stays") ∷ json_tokens (array_of
+        (map string (map string_bytes stays.now) ++ map string (map string_bytes roots.now))))) }
+{
+    out.key("stays")?;
+    out.begin_array()?;
+    put_texts(out, stays)?;
+    put_texts(out, roots)?;
+    out.end_array()
+}
+
+/// Writes texts, one after another.
+fn put_texts(out: &mut Writer, texts: &[String]) -> Result<(), AllocError>
+    ensures { OnOk result (Puts out.old out.new (flat_map json_tokens
+        (map string (map string_bytes texts.now)))) }
+{
+    for text in texts {
+        out.string(text)?;
+    }
+    Ok(())
 }

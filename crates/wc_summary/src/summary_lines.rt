@@ -8,9 +8,9 @@ ghost use Rattle.wc_why.specs.Texts.{text_of};
 ghost use Rattle.wc_summary.specs.Names.{function_name};
 ghost use Rattle.wc_summary.specs.Summary.{entry_view, main_view, part_view, parts_view, user_view};
 ghost use Rattle.wc_summary.specs.Private.Entries.{entry_shown};
-ghost use Rattle.wc_summary.specs.SummaryLines.{adapter_text, count_text, effect_text, entry_line, entry_lines, entry_parts, function_text, gone_text, main_parts, main_text, more_text, named_function, separated, trimmed_text, types_parts, types_text, words_text};
+ghost use Rattle.wc_summary.specs.SummaryLines.{adapter_text, always_text, count_text, effect_text, entry_line, entry_lines, entry_parts, function_text, gone_text, main_parts, main_text, more_text, named_function, only_text, separated, types_parts, types_text, words_text};
 
-use crate::summary::{AdapterPart, Entries, Entry, MainPart};
+use crate::summary::{AdapterPart, Entries, Entry, MainPart, stays};
 use std::alloc::{AllocError, Global};
 use wc_maps::OrderedMap;
 use wc_read::Space;
@@ -232,38 +232,36 @@ fn adapter_text(alloc: Global, part: &AdapterPart<'_>) -> Result<String, AllocEr
     format!(in alloc; "{count}adapter {name}{effect}")
 }
 
-/// That the imports of an adapter are always needed, and for which exports; or which exports need them, and how many bytes.
+/// That the imports of an adapter are always needed, and for what; or which exports need them, and how many bytes.
 fn effect_text(alloc: Global, part: &AdapterPart<'_>) -> Result<String, AllocError>
     ensures { IfOk result (λ s. string_bytes s ≡ effect_text (part_view part.now)) }
 {
     if part.is_library {
         String::from_str(alloc, ", always needed")
+    } else if stays(part) {
+        always_text(alloc, &part.stays, &part.roots)
     } else {
-        trimmed_text(alloc, part.bytes, &part.exports, &part.stays)
+        only_text(alloc, part.bytes, &part.exports)
     }
 }
 
-/// That the imports of a trimmed adapter are always needed, and for which exports; or which exports need them, and how many bytes.
-fn trimmed_text(
-    alloc: Global,
-    bytes: usize,
-    exports: &[String],
-    stays: &[String],
-) -> Result<String, AllocError>
+/// That imports are always needed, for which exports, and where else paths to them begin.
+fn always_text(alloc: Global, stays: &[String], roots: &[String]) -> Result<String, AllocError>
     ensures { IfOk result (λ s. string_bytes s
-        ≡ trimmed_text bytes (map string_bytes exports.now) (map string_bytes stays.now)) }
+        ≡ always_text (map string_bytes stays.now) (map string_bytes roots.now)) }
 {
-    match stays {
-        [] => {
-            let gone = gone_text(alloc, bytes)?;
-            let exports = words_text(alloc, exports)?;
-            format!(in alloc; "{gone}{exports}")
-        }
-        [_, ..] => {
-            let exports = words_text(alloc, stays)?;
-            format!(in alloc; ", always needed for{exports}")
-        }
-    }
+    let exports = words_text(alloc, stays)?;
+    let others = each_after(alloc, " ", roots)?;
+    format!(in alloc; ", always needed for{exports}{others}")
+}
+
+/// Which exports need imports, and how many bytes.
+fn only_text(alloc: Global, bytes: usize, exports: &[String]) -> Result<String, AllocError>
+    ensures { IfOk result (λ s. string_bytes s ≡ only_text bytes (map string_bytes exports.now)) }
+{
+    let gone = gone_text(alloc, bytes)?;
+    let exports = words_text(alloc, exports)?;
+    format!(in alloc; "{gone}{exports}")
 }
 
 /// How many bytes are needed for the exports that follow alone.

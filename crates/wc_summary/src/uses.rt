@@ -59,7 +59,7 @@ pub(crate) fn push_uses<'a, T>(
 }
 
 /// Notes a part of an interface.
-fn push_one<'a>(
+pub(crate) fn push_one<'a>(
     alloc: Global,
     interface: &str,
     part: AdapterPart<'a>,
@@ -94,13 +94,14 @@ fn part_of<'a, T>(
         imports: count_at(uses, position),
         exports,
         stays,
+        roots: Vec::new(alloc),
         functions: alone.items,
         bytes: alone.size,
     })
 }
 
 /// How many imports are of the interface at a position.
-fn count_at(uses: &Uses, position: usize) -> usize
+pub(crate) fn count_at(uses: &Uses, position: usize) -> usize
     ensures { result ≡ slice_index uses.now.counts.items position }
 {
     match uses.counts.get(position) {
@@ -110,7 +111,7 @@ fn count_at(uses: &Uses, position: usize) -> usize
 }
 
 /// The positions of the required exports that lead to the interface at a position; none of a library.
-fn led_at(uses: &Uses, position: usize) -> &[usize]
+pub(crate) fn led_at(uses: &Uses, position: usize) -> &[usize]
     ensures { result.now ≡ led_at uses.now position }
 {
     match uses.led.get(position) {
@@ -120,7 +121,7 @@ fn led_at(uses: &Uses, position: usize) -> &[usize]
 }
 
 /// The functions that are live for these alone.
-fn alone_at(uses: &Uses, position: usize) -> Alone
+pub(crate) fn alone_at(uses: &Uses, position: usize) -> Alone
     ensures { result ≡ alone_at uses.now position }
 {
     match uses.alone.get(position) {
@@ -166,7 +167,7 @@ fn note_name<T>(
 }
 
 /// Notes a name, if it is picked.
-fn note_if(
+pub(crate) fn note_if(
     alloc: Global,
     is_picked: bool,
     name: &str,

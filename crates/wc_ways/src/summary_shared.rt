@@ -154,12 +154,14 @@ fn copied_part<'a>(alloc: Global, part: &AdapterPart<'a>) -> Result<AdapterPart<
 {
     let exports = copied_texts(alloc, &part.exports)?;
     let stays = copied_texts(alloc, &part.stays)?;
+    let roots = copied_texts(alloc, &part.roots)?;
     Ok(AdapterPart {
         adapter: part.adapter,
         is_library: part.is_library,
         imports: part.imports,
         exports,
         stays,
+        roots,
         functions: part.functions,
         bytes: part.bytes,
     })

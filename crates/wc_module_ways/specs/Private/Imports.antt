@@ -14,7 +14,8 @@ use Rattle.wc_maps.specs.Texts.{is_in}
 use Rattle.wc_texts.specs.Names.{named_view}
 use Rattle.wc_import_paths.specs.MainModules.{MainView, code_of, segments_of}
 use Rattle.wc_module_ways.specs.Adapters.{AdapterView, Given}
-use Rattle.wc_module_ways.specs.Imports.{AreAdapterTags, AreFound, AreParts, adapter_by, main_tags, tag_if}
+use Rattle.wc_module_ways.specs.Imports.{AreAdapterTags, AreFound, AreParts, adapter_by, main_tags}
+use Rattle.wc_module_ways.specs.Tags.{tag_if}
 use Rattle.wc_module_ways.specs.NameLists.{AreListed, NameLists}
 use Rattle.wc_module_ways.specs.Names.{function_pairs}
 use Rattle.wc_module_ways.specs.Modules.{is_of_adapter}

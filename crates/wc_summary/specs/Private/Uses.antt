@@ -34,6 +34,7 @@ part_at name names is_wanted u k = record {
   imports = slice_index u.counts.items k;
   exports = exports_at true names is_wanted (led_at u k);
   stays = exports_at false names is_wanted (led_at u k);
+  roots = [];
   functions = (alone_at u k).items;
   bytes = (alone_at u k).size;
 }

@@ -1,7 +1,7 @@
 use Rattle.std.proofs.Common.{◌≡◌, Bool, IfOk, subst}
 use Rattle.wc_read.specs.Imports.{import_value}
 use Rattle.wc_summary.specs.Leads.{tag_view}
-use Rattle.wc_module_ways.specs.Imports.{tag_if}
+use Rattle.wc_module_ways.specs.Tags.{tag_if}
 use Rattle.wc_module_ways.proofs.imports.main_tag.Goals as goal
 
 pub returns : goal.returns

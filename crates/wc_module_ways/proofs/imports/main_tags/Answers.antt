@@ -3,7 +3,8 @@ use Rattle.std.proofs.Math.ListN.{length-append}
 use Rattle.std.proofs.lemmas.List.{take_all}
 use Rattle.wc_read.specs.Imports.{ImportValue, import_values}
 use Rattle.wc_read.specs.declared.types.Import.{Import}
-use Rattle.wc_module_ways.specs.Imports.{main_tags, tag_if}
+use Rattle.wc_module_ways.specs.Imports.{main_tags}
+use Rattle.wc_module_ways.specs.Tags.{tag_if}
 use Rattle.wc_module_ways.specs.Modules.{is_of_main}
 use Rattle.wc_module_ways.proofs.ImportLemmas.{tags_next}
 use Rattle.wc_module_ways.proofs.imports.main_tags.Goals as goal

@@ -12,4 +12,5 @@ returns-in-Ok-clause-modules c =
     let others = subst (λ z. AreOthers i z c.in-Ok.others)
     (ap (map import_value) c.deref.ensures.value ∙ ap (λ (m : ModuleValue). m.imports) c.code.ensures) c.in-Ok.ensures.others in
     modules_made i c.args.main c.in-Ok.others c.modules_of.result c.requires.is_main c.requires.whole others c.modules_of.ensures.main c.modules_of.ensures.adapters
+    c.modules_of.ensures.core
     c.modules_of.ensures.functions c.modules_of.ensures.names

@@ -8,8 +8,8 @@ use Rattle.wc_module_ways.proofs.LinkLemmas.{all_links, link_more, no_links}
 use Rattle.wc_module_ways.proofs.parts.links_of.Goals as goal
 
 pub loop-position-init : goal.loop-position-init
-loop-position-init c adapters are =
-    no_links (import_values c.args.imports.now) (counts_value c.args.counts.now) adapters c.args.places.now.entries are _ (search rules)
+loop-position-init c servers are =
+    no_links (import_values c.args.imports.now) (counts_value c.args.counts.now) servers c.args.places.now.entries are _ (search rules)
 
 pub index-requires : goal.index-requires
 index-requires c =
@@ -19,17 +19,17 @@ index-requires c =
     search (rules, small)
 
 pub loop-position-preserved : goal.loop-position-preserved
-loop-position-preserved c adapters are =
+loop-position-preserved c servers are =
     let k = c.loop-position.position in
     let lt : k < length c.args.imports.now = omega arith in
-    link_more c.args.imports.now (counts_value c.args.counts.now) adapters c.args.places.now.entries are c.in_ok-items.items.items k _ c.index.result.now _ lt
+    link_more c.args.imports.now (counts_value c.args.counts.now) servers c.args.places.now.entries are c.in_ok-items.items.items k _ c.index.result.now _ lt
     c.in_ok-items.ensures c.index.ensures (map link_view c.loop-position.links.items) (map link_view c.push_link.new.links.items)
-    (c.loop-position.invariant adapters are) c.in_ok-push_link.ensures
+    (c.loop-position.invariant servers are) c.in_ok-push_link.ensures
 
 pub returns : goal.returns
-returns c adapters are =
+returns c servers are =
     let all : c.loop-position.position ≡ length c.args.imports.now = omega arith in
     let over : length (import_values c.args.imports.now) ≤ c.loop-position.position =
     (let e = length-map c.args.imports.now import_value in omega (arith, all, e)) in
-    all_links (import_values c.args.imports.now) (counts_value c.args.counts.now) adapters c.args.places.now.entries are c.loop-position.position
-    (map link_view c.loop-position.links.items) over (c.loop-position.invariant adapters are)
+    all_links (import_values c.args.imports.now) (counts_value c.args.counts.now) servers c.args.places.now.entries are c.loop-position.position
+    (map link_view c.loop-position.links.items) over (c.loop-position.invariant servers are)
