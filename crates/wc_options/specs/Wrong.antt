@@ -4,7 +4,7 @@ use Rattle.std.specs.Borrow.{Bor}
 use Rattle.wc_options.specs.declared.wrong.NoCommand.{NoCommand}
 use Rattle.wc_options.specs.declared.wrong.NoCommand.TheVariants.{Memory, Help, Version, Wrong}
 use Rattle.wc_options.specs.declared.wrong.WrongArgument.{WrongArgument}
-use Rattle.wc_options.specs.declared.wrong.WrongArgument.TheVariants.{UnknownOption, MissingValue, NotAPair, RepeatedOption, Unexpected, Missing, Together}
+use Rattle.wc_options.specs.declared.wrong.WrongArgument.TheVariants.{UnknownOption, MissingValue, NotAPair, RepeatedOption, Unexpected, Missing, Together, Without, NotANumber}
 
 abbrev pub text_of : Bor (List ℕ) → List ℕ
 text_of t = t.now
@@ -18,6 +18,8 @@ pub data WrongView : Type 0 where
   unexpected : (argument : List ℕ) → WrongView
   missing : (name : List ℕ) → WrongView
   together : (option other : List ℕ) → WrongView
+  without : (option other : List ℕ) → WrongView
+  not_a_number : (option value : List ℕ) → WrongView
 
 abbrev pub wrong_view : WrongArgument → WrongView
 wrong_view (UnknownOption argument) = unknown_option argument.now
@@ -27,6 +29,8 @@ wrong_view (RepeatedOption option) = repeated_option option.now
 wrong_view (Unexpected argument) = unexpected argument.now
 wrong_view (Missing name) = missing name.now
 wrong_view (Together option other) = together option.now other.now
+wrong_view (Without option other) = without option.now other.now
+wrong_view (NotANumber option value) = not_a_number option.now value.now
 
 abbrev pub wrong_text : WrongView → List ℕ
 wrong_text (unknown_option argument) = codes "unknown option " ++ argument
@@ -36,6 +40,8 @@ wrong_text (repeated_option option) = option ++ codes " twice"
 wrong_text (unexpected argument) = codes "unexpected argument " ++ argument
 wrong_text (missing name) = codes "missing " ++ name
 wrong_text (together option other) = option ++ (codes " with " ++ other)
+wrong_text (without option other) = option ++ (codes " without " ++ other)
+wrong_text (not_a_number option value) = option ++ (codes " " ++ (value ++ codes ": no number"))
 
 -- why arguments are no command
 pub data Stop : Type 0 where

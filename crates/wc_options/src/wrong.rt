@@ -38,6 +38,10 @@ pub enum WrongArgument<'a> {
     Missing(&'a str),
     /// These two options are given together.
     Together { option: &'a str, other: &'a str },
+    /// This option is given without the other, which it needs.
+    Without { option: &'a str, other: &'a str },
+    /// The value of this option is no number.
+    NotANumber { option: &'a str, value: &'a str },
 }
 
 impl From<AllocError> for NoCommand<'_> {
@@ -85,5 +89,9 @@ fn wrong_text(alloc: Global, wrong: &WrongArgument<'_>) -> Result<String, AllocE
         WrongArgument::Unexpected(argument) => format!(in alloc; "unexpected argument {argument}"),
         WrongArgument::Missing(name) => format!(in alloc; "missing {name}"),
         WrongArgument::Together { option, other } => format!(in alloc; "{option} with {other}"),
+        WrongArgument::Without { option, other } => format!(in alloc; "{option} without {other}"),
+        WrongArgument::NotANumber { option, value } => {
+            format!(in alloc; "{option} {value}: no number")
+        }
     }
 }

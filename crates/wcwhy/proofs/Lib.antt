@@ -1,9 +1,15 @@
 mod TreeLemmas
 mod ArgumentLemmas
+mod ShownLemmas
 mod ExecutionLemmas
+mod WarningLemmas
+mod GetLemmas
+mod ComponentLemmas
+mod CoreFileLemmas
 mod AdapterNameLemmas
 mod InputLemmas
 mod ModuleWayLemmas
 mod RunLemmas
 mod NearExportLemmas
 mod FunctionLemmas
+mod AllowedLemmas

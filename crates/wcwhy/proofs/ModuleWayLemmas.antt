@@ -1,37 +1,48 @@
--- What was printed of a main module and its adapters, or why it could not be.
-use Rattle.std.proofs.Common.{◌≡◌, ℕ, Bool, not, All, List, length, Contains, String, Global, string_bytes, Option, Some, None, Result, Ok, Err, OnOk, IfErr, refl, sym, subst, inl, inr}
+-- What was printed of the modules of a component, or why it could not be.
+use Rattle.std.proofs.Common.{◌≡◌, ℕ, Bool, true, not, All, List, [], length, map, Contains, String, Global, string_bytes, Option, Some, None, Result, Ok, Err, OnOk, IfOk, IfErr, refl, sym, subst, inl, inr}
 use Rattle.std.specs.Prelude.{◌==◌, ◌⊎◌}
 use Rattle.wc_gc.specs.declared.fault.GcFault.{GcFault}
 use Rattle.wc_gc.specs.declared.fault.GcFault.TheVariants.{Memory as gc_memory}
 use Rattle.wc_gc.specs.declared.trim_place.TrimPlace.{TrimPlace}
-use Rattle.wc_import_paths.specs.Patterns.{PatternView, first_unknown, pattern_view}
+use Rattle.wc_import_paths.specs.Patterns.{PatternView, pattern_view}
 use Rattle.wc_module_ways.specs.Adapters.{AdapterView, Given}
 use Rattle.wc_import_paths.specs.Functions.{AreAskedOf}
 use Rattle.wc_import_paths.specs.MainModules.{code_of}
+use Rattle.wc_module_ways.specs.CoreModules.{CoreGiven}
 use Rattle.wc_module_ways.specs.Modules.{InputView, IsModules, ModulesView, imports_of}
 use Rattle.wc_module_ways.specs.Names.{NamePair}
-use Rattle.wc_module_ways.specs.Refusals.{HasNoCause, IsMainFault, IsReadRefusal, IsWaysRefusal, adapter_in}
+use Rattle.wc_module_ways.specs.Refusals.{HasNoCause, IsReadRefusal, IsWaysRefusal, adapter_in}
 use Rattle.wc_module_ways.specs.declared.refusals.ModulesRefusal.{ModulesRefusal}
 use Rattle.wc_module_ways.specs.Tree.{IsTree}
 use Rattle.wc_program.specs.Screen.{Printing, nothing, printed}
 use Rattle.wc_why.specs.Tree.{TreeCallerView, TreeView}
+use Rattle.wc_read.specs.Imports.{ImportValue}
 use Rattle.wcwhy.specs.Arguments.{CommandView}
 use Rattle.wcwhy.specs.Fault.{IsAdapterFault, IsNamedFault, IsSourceFault, of_adapter, of_source}
-use Rattle.wcwhy.specs.ModuleWays.{ArePrinted, AreWays, IsAdapterRefusal, IsModulesCause, IsShown, IsUnfollowed, modules_input}
+use Rattle.wcwhy.specs.Allowed.{way_modules}
+use Rattle.wcwhy.specs.Inputs.{AllowView}
+use Rattle.wcwhy.specs.ModuleWays.{ArePrinted, AreWays, IsAdapterRefusal, IsCoreRefusal, IsMainRefusal, IsModulesCause, IsNoImport, IsUnfollowed, modules_input}
 use Rattle.wcwhy.specs.Functions.{IsFunctionFault}
 use Rattle.wcwhy.specs.NearExports.{IsNearFor}
-use Rattle.wcwhy.specs.Private.Execution.{IsTreeFault, PrintsSome}
-use Rattle.wcwhy.specs.Private.ModuleWays.{AreKnownPrinted, IsKnownCause, IsModulesFault, IsModulesFaultOf, IsPutFault, IsShownCause, IsUnknownOf, IsWaysCause, IsWaysFault, IsWaysFaultOf}
+use Rattle.wcwhy.specs.Private.Execution.{IsTreeFault, IsUnknownOf, PrintsSome}
+use Rattle.wcwhy.specs.Private.ModuleWays.{AreAnswered, IsKnownCause, IsModulesFault, IsModulesFaultOf, IsPutFault, IsShownCause, IsVerdictFault, IsVerdictOf, IsWaysCause, IsWaysFault, IsWaysFaultOf, of_core}
+use Rattle.wcwhy.specs.Private.Warnings.{said_view}
+use Rattle.wcwhy.specs.Warnings.{refused_patterns, said_by}
 use Rattle.wcwhy.specs.Tree.{IsTreeText}
 use Rattle.wcwhy.specs.declared.fault.WhyFault.{WhyFault}
-use Rattle.wcwhy.specs.declared.fault.WhyFault.TheVariants.{Memory, Source, Adapter, NoImport, Output}
+use Rattle.wcwhy.specs.declared.fault.WhyFault.TheVariants.{Memory, Source, Adapter, Core, NoImport, Output}
+use Rattle.wcwhy.specs.declared.warnings.Said.{Said}
+use Rattle.wcwhy.specs.declared.warnings.Verdict.{Verdict}
 
 -- the modules of a command
-pub given_is : (c : CommandView) (main m : List ℕ) (exports : List (List ℕ)) (adapters given : List Given) (asked : List NamePair) → m ≡ main → exports ≡ c.exports
-    → given ≡ adapters → asked ≡ c.adapter_exports → (is_whole : Bool) → is_whole ≡ not (length c.functions == 0)
-    → ◌≡◌ {A = InputView} (record { main = m; exports = exports; adapters = given; adapter_exports = asked; is_whole = is_whole }) (modules_input c main adapters)
-given_is c main m exports adapters given asked a b d e is_whole f =
-    λ t. record { main = a t; exports = b t; adapters = d t; adapter_exports = e t; is_whole = f t }
+pub given_is : (c : CommandView) (main m : List ℕ) (exports : List (List ℕ)) (adapters given : List Given) (core : List CoreGiven) (asked : List NamePair)
+    → m ≡ main → exports ≡ c.exports → given ≡ adapters → core ≡ [] → asked ≡ c.adapter_exports → (is_whole : Bool)
+    → is_whole ≡ not (length c.functions == 0)
+    → ◌≡◌ {A = InputView}
+    (record { main = m; main_offset = 0; exports = exports; adapters = given; core = core; adapter_exports = asked; is_whole = is_whole })
+    (modules_input c main adapters)
+given_is c main m exports adapters given core asked a b d none e is_whole f =
+    λ t. record { main = a t; main_offset = 0; exports = b t; adapters = d t; core = none t; adapter_exports = e t; is_whole = f t }
 
 -- ---- faults of a want of memory
 
@@ -48,10 +59,11 @@ source_memory : (bytes : List ℕ) (place : Option TrimPlace) (fault : WhyFault)
 source_memory bytes place fault (inl none) = none
 source_memory bytes place fault (inr (near, is, of)) = of
 
-modules_memory : (main : List ℕ) (o : Option Given) (place : Option TrimPlace) (fault : WhyFault) → IsModulesFaultOf main o gc_memory place fault
-    → fault ≡ Memory
-modules_memory main None place fault h = source_memory main place fault h
-modules_memory main (Some g) place fault h = adapter_memory g.0 g.1 place fault h
+modules_memory : (main : List ℕ) (o : Option Given) (core : Option ℕ) (place : Option TrimPlace) (fault : WhyFault)
+    → IsModulesFaultOf main o core gc_memory place fault → fault ≡ Memory
+modules_memory main (Some g) core place fault h = adapter_memory g.0 g.1 place fault h
+modules_memory main None (Some index) place fault h = h
+modules_memory main None None place fault h = source_memory main place fault h
 
 ways_memory : (o : Option Given) (place : Option TrimPlace) (fault : WhyFault) → IsWaysFaultOf o gc_memory place fault → fault ≡ Memory
 ways_memory None place fault h = h
@@ -60,12 +72,12 @@ ways_memory (Some g) place fault h = adapter_memory g.0 g.1 place fault h
 -- ---- modules that can't be read
 
 module _ (c : CommandView) (i : InputView) (out : Printing → Type 0) (still : out nothing) where
-  main_with : (f : GcFault) (place : Option TrimPlace) (near : Option (String Global)) → IsMainFault i.is_whole i.main i.exports f place → IsNearFor i.main f near
+  main_with : (f : GcFault) (place : Option TrimPlace) (near : Option (String Global)) → IsMainRefusal i f place → IsNearFor i.main f near
       → IsModulesCause c i out (of_source f place near)
   main_with gc_memory place near h is = tt
   main_with f place near h is = (((λ e. cc), h, is), still)
 
-  main_cause : (f : GcFault) (place : Option TrimPlace) (fault : WhyFault) → IsMainFault i.is_whole i.main i.exports f place → IsSourceFault i.main f place fault
+  main_cause : (f : GcFault) (place : Option TrimPlace) (fault : WhyFault) → IsMainRefusal i f place → IsSourceFault i.main f place fault
       → IsModulesCause c i out fault
   main_cause f place fault h (inl none) = subst (IsModulesCause c i out) (sym none) tt
   main_cause f place fault h (inr (near, near_is, is)) = subst (IsModulesCause c i out) (sym is) (main_with f place near h near_is)
@@ -85,15 +97,29 @@ module _ (c : CommandView) (i : InputView) (out : Printing → Type 0) (still : 
   adapter_cause g f place fault h (inl none) = subst (IsModulesCause c i out) (sym none) tt
   adapter_cause g f place fault h (inr (near, is, named)) = named_cause g f place near fault h is named
 
+  core_cause : (index : ℕ) (f : GcFault) (place : Option TrimPlace) → IsCoreRefusal i index f place → IsModulesCause c i out (of_core index f place)
+  core_cause index gc_memory place h = tt
+  core_cause index f place h = (((λ e. cc), h), still)
+
+  memory_cause : (r : ModulesRefusal) (fault : WhyFault) → r.fault ≡ gc_memory → IsModulesFault i.main r fault → IsModulesCause c i out fault
+  memory_cause r fault memory is =
+      subst (IsModulesCause c i out) (sym (modules_memory i.main (adapter_in r) r.core r.place fault
+      (subst (λ f. IsModulesFaultOf i.main (adapter_in r) r.core f r.place fault) memory is))) tt
+
   pub read_cause : (r : ModulesRefusal) (fault : WhyFault) → IsReadRefusal i r → IsModulesFault i.main r fault
       → IsModulesCause c i out fault
-  read_cause r fault (inl (none, refused)) is =
-      main_cause r.fault r.place fault refused (subst (λ o. IsModulesFaultOf i.main o r.fault r.place fault) none is)
-  read_cause r fault (inr (inl memory)) is =
-      subst (IsModulesCause c i out) (sym (modules_memory i.main (adapter_in r) r.place fault
-      (subst (λ f. IsModulesFaultOf i.main (adapter_in r) f r.place fault) memory is))) tt
-  read_cause r fault (inr (inr (g, has, refused))) is =
-      adapter_cause g r.fault r.place fault (inl (has, refused.1)) (subst (λ o. IsModulesFaultOf i.main o r.fault r.place fault) refused.0 is)
+  read_cause r fault (inl (none, no_core, at, refused, place)) is =
+      main_cause r.fault r.place fault (at, refused, place)
+      (subst (λ o. IsModulesFaultOf i.main None o r.fault r.place fault) no_core
+      (subst (λ o. IsModulesFaultOf i.main o r.core r.fault r.place fault) none is))
+  read_cause r fault (inr (inl (inl memory))) is = memory_cause r fault memory is
+  read_cause r fault (inr (inl (inr (g, has, refused)))) is =
+      adapter_cause g r.fault r.place fault (inl (has, refused.2)) (subst (λ o. IsModulesFaultOf i.main o r.core r.fault r.place fault) refused.0 is)
+  read_cause r fault (inr (inr (inl memory))) is = memory_cause r fault memory is
+  read_cause r fault (inr (inr (inr (g, has, (none, core, at, refused, place))))) is =
+      let same : fault ≡ of_core g.index r.fault r.place
+      = subst (λ o. IsModulesFaultOf i.main None o r.fault r.place fault) core (subst (λ o. IsModulesFaultOf i.main o r.core r.fault r.place fault) none is) in
+      subst (IsModulesCause c i out) (sym same) (core_cause g.index r.fault r.place (g, has, refl, at, refused, place))
 
 -- ---- modules that can't be followed
 
@@ -118,8 +144,39 @@ module _ (w : ModulesView) (out : Printing → Type 0) (still : out nothing) whe
   ways_cause adapters are r fault (inl memory) is =
       subst (IsWaysCause w out) (sym (ways_memory (adapter_in r) r.place fault (subst (λ f. IsWaysFaultOf (adapter_in r) f r.place fault) memory is))) tt
   ways_cause adapters are r fault (inr (a, has, refused)) is =
-      unfollowed_cause (a.name, a.bytes) r.fault r.place fault (a, subst (λ l. Contains l a) are has, refl, refused.1, refused.2)
+      unfollowed_cause (a.name, a.bytes) r.fault r.place fault (a, subst (λ l. Contains l a) are has, refl, refused.2, refused.3)
       (subst (λ o. IsWaysFaultOf o r.fault r.place fault) refused.0 is)
+
+-- ---- what a file of what is allowed says of modules
+
+pub verdict_is : (w : ModulesView) (a : AllowView) (t : TreeView) → IsTree w [] [] t → (r : Result Verdict WhyFault)
+    → IfOk r (λ v. map pattern_view v.patterns.items ≡ refused_patterns a (way_modules t.ways))
+    → IfOk r (λ v. said_view v.said ≡ said_by a (way_modules t.ways))
+    → IfOk r (λ v. IsVerdictOf w a (map pattern_view v.patterns.items) (said_view v.said))
+verdict_is w a t tree (Ok v) are is = (way_modules t.ways, (t, tree, refl), are, is)
+verdict_is w a t tree (Err f) are is = tt
+
+pub verdict_memory : {T : Type 0} (w : ModulesView) (r : Result T WhyFault) → IfErr r (λ f. f ≡ Memory) → IfErr r (IsVerdictFault w)
+verdict_memory w (Ok x) h = tt
+verdict_memory w (Err f) h = subst (IsVerdictFault w) (sym h) tt
+
+-- why it could not be said: nothing was printed
+abbrev Still : Printing → Type 0
+Still p = p ≡ nothing
+
+verdict_by : (w : ModulesView) (f : WhyFault) → IsWaysCause w Still f → IsVerdictFault w f
+verdict_by w Memory h = tt
+verdict_by w Output h = absurd cc
+verdict_by w f h = h.0
+
+pub verdict_cause : (w : ModulesView) (adapters : List AdapterView) → adapters ≡ w.adapters → (r : ModulesRefusal) (f : WhyFault) → IsWaysRefusal adapters r
+    → IsWaysFault r f → IsVerdictFault w f
+verdict_cause w adapters are r f refused is = verdict_by w f (ways_cause w Still refl adapters are r f refused is)
+
+pub verdict_shown : (c : CommandView) (w : ModulesView) (out : Printing → Type 0) → out nothing → (f : WhyFault) → IsVerdictFault w f → IsShownCause c w out f
+verdict_shown c w out still Memory h = inl tt
+verdict_shown c w out still Output h = absurd h
+verdict_shown c w out still f h = inl (h, still)
 
 -- ---- what was printed of modules, or why it could not be
 
@@ -127,12 +184,11 @@ put_cause : (w : ModulesView) (out : Printing → Type 0) (f : WhyFault) → IsP
 put_cause w out Output h = h
 put_cause w out f h = absurd h
 
-pub unknown_cause : (c : CommandView) (w : ModulesView) (out : Printing → Type 0) (patterns : List PatternView) (f : WhyFault) → out nothing
-    → patterns ≡ c.imports → IsUnknownOf (imports_of w) patterns f → IsKnownCause c w out f
-unknown_cause c w out patterns Memory still are h = inl tt
-unknown_cause c w out patterns (NoImport p near) still are h =
-    ((subst (λ l. first_unknown (imports_of w) l ≡ Some (pattern_view p)) are h.0, h.1), still)
-unknown_cause c w out patterns f still are h = absurd h
+pub unknown_cause : (c : CommandView) (w : ModulesView) (out : Printing → Type 0) (imports : List ImportValue) (f : WhyFault) → out nothing
+    → imports ≡ imports_of w → IsUnknownOf imports c.imports f → IsKnownCause c w out f
+unknown_cause c w out imports Memory still are h = inl tt
+unknown_cause c w out imports (NoImport p near) still are h = (subst (λ l. IsNoImport l c.imports p near) are h, still)
+unknown_cause c w out imports f still are h = absurd h
 
 known_cause : (c : CommandView) (w : ModulesView) (out : Printing → Type 0) (f : WhyFault) → IsShownCause c w out f → IsKnownCause c w out f
 known_cause c w out (NoImport p near) (inl h) = absurd h.0
@@ -166,22 +222,16 @@ tree_failed w out (Err f) h = tree_cause w out f h
 -- what was printed of a tree is that of the paths to what is asked for
 pub tree_printed : {T : Type 0} (c : CommandView) (w : ModulesView) (patterns : List PatternView) (fs : List TreeCallerView) (t : TreeView) (out : Printing → Type 0)
     (r : Result T WhyFault) → All HasNoCause w.adapters → AreAskedOf w.bytes (length (code_of w.main).funcs) c.functions fs → IsTree w patterns fs t
-    → OnOk r (PrintsSome (IsTreeText c t) out) → OnOk r (PrintsSome (AreWays c w patterns) out)
+    → OnOk r (PrintsSome (IsTreeText true c t) out) → OnOk r (PrintsSome (AreWays c w patterns) out)
 tree_printed c w patterns fs t out (Ok x) no_cause are is (text, shows, shown) =
     (text, record { no_cause = no_cause; functions = fs; are_functions = are; tree = t; is_tree = is; is = shows }, shown)
 tree_printed c w patterns fs t out (Err f) no_cause are is h = tt
 
-pub ways_printed : {T : Type 0} (c : CommandView) (w : ModulesView) (patterns : List PatternView) (out : Printing → Type 0) (r : Result T WhyFault)
-    → patterns ≡ c.imports → first_unknown (imports_of w) patterns ≡ None → OnOk r (PrintsSome (IsShown c w patterns) out)
-    → OnOk r (AreKnownPrinted c w out)
-ways_printed c w patterns out (Ok x) are known (text, is, shown) =
-    (text, subst (λ l. first_unknown (imports_of w) l ≡ None) are known, subst (λ l. IsShown c w l text) are is, shown)
-ways_printed c w patterns out (Err f) are known h = tt
-
 module _ (c : CommandView) (i : InputView) (w : ModulesView) (is : IsModules i w) (out : Printing → Type 0) where
-  pub known_printed : {T : Type 0} (r : Result T WhyFault) → OnOk r (AreKnownPrinted c w out) → OnOk r (PrintsSome (ArePrinted c i) out)
-  known_printed (Ok x) (text, known, shows, shown) = (text, record { modules = w; are = is; known = known; is = shows }, shown)
-  known_printed (Err f) h = tt
+  pub known_printed : (allow : Option AllowView) (r : Result Said WhyFault) → IfOk r (λ said. PrintsSome (AreAnswered c w allow (said_view said)) out)
+      → IfOk r (λ said. PrintsSome (ArePrinted c i allow (said_view said)) out)
+  known_printed allow (Ok said) (text, is_answer, shown) = (text, record { modules = w; are = is; is = is_answer }, shown)
+  known_printed allow (Err f) h = tt
 
   shown_cause : (f : WhyFault) → IsShownCause c w out f → IsModulesCause c i out f
   shown_cause Memory h = tt
@@ -193,6 +243,8 @@ module _ (c : CommandView) (i : InputView) (w : ModulesView) (is : IsModules i w
   shown_cause (NoImport p near) (inr h) = absurd h.0.4
   shown_cause (Source f place near) (inl h) = absurd h.0
   shown_cause (Source f place near) (inr h) = absurd h.0.4
+  shown_cause (Core index f place) (inl h) = absurd h.0
+  shown_cause (Core index f place) (inr h) = absurd h.0.4
   shown_cause f (inl h) = absurd h.0
   shown_cause f (inr h) = ((w, is, h.0), h.1)
 

@@ -1,5 +1,6 @@
 -- Commands.
-use Rattle.std.specs.Prelude.{ℕ, Bool, List, map}
+use Rattle.std.specs.Prelude.{ℕ, Bool, List, map, Option}
+use Rattle.std.specs.Option.{option_map}
 use Rattle.wc_maps.specs.Texts.{text_pair}
 use Rattle.wc_why.specs.Texts.{text_of}
 use Rattle.wc_import_paths.specs.Patterns.{PatternView, pattern_view}
@@ -15,6 +16,9 @@ pub record CommandView : Type 0 where
   pub dot : Bool
   pub json : Bool
   pub summary : Bool
+  pub allow : Option (List ℕ)
+  pub core : Option ℕ
+  pub out : Option (List ℕ)
   pub exports : List (List ℕ)
 
 abbrev pub command_view : Command → CommandView
@@ -27,5 +31,8 @@ command_view c = record {
   dot = c.dot;
   json = c.json;
   summary = c.summary;
+  allow = option_map text_of c.allow;
+  core = c.core;
+  out = option_map text_of c.out;
   exports = map text_of c.exports.items;
 }

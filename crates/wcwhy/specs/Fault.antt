@@ -1,8 +1,9 @@
 -- The texts of faults.
-use Rattle.std.specs.Prelude.{◌≡◌, ◌⊎◌, ⊤, ℕ, List, [], ◌++◌, cond, codes, Option, Some, None, String, string_bytes}
+use Rattle.std.specs.Prelude.{◌≡◌, ◌⊎◌, ⊤, ℕ, List, [], ◌++◌, cond, codes, decimal, Option, Some, None, String, string_bytes}
 use Rattle.std.specs.Option.{option_and_then, option_map, option_or}
 use Rattle.std.specs.Str.{bytes_eq}
 use Rattle.std.specs.declared.alloc.Global.{Global}
+use Rattle.wc_component_file.specs.Fault.{file_fault_text}
 use Rattle.wc_gc.specs.declared.fault.GcFault.{GcFault}
 use Rattle.wc_gc.specs.declared.fault.GcFault.TheVariants.{Memory as gc_memory}
 use Rattle.wc_gc.specs.Fault.{gc_fault_text}
@@ -19,7 +20,7 @@ use Rattle.wcwhy.specs.Patterns.{named_under, near_import, near_package, near_pa
 use Rattle.wc_why.specs.Keys.{package_text}
 use Rattle.wc_why_text.specs.Texts.{word}
 use Rattle.wcwhy.specs.declared.fault.WhyFault.{WhyFault}
-use Rattle.wcwhy.specs.declared.fault.WhyFault.TheVariants.{Memory, CannotRead, RepeatedAdapter, NoAdapter, Source, Adapter, NoImport, NoFunction, NoNames, Output}
+use Rattle.wcwhy.specs.declared.fault.WhyFault.TheVariants.{Memory, CannotRead, RepeatedAdapter, NoAdapter, Source, Adapter, NoImport, NoFunction, NoNames, Component, NoComponent, File, NoModule, NoSuchModule, Unclear, Core, CannotWrite, NotAllowed, AllowNotText, Output}
 
 -- a text that was given, as a word; an empty one as two quotes
 abbrev pub given_word : List ℕ → List ℕ
@@ -88,6 +89,28 @@ source_text f None None = escaped (gc_fault_text f)
 abbrev pub adapter_text : List ℕ → List ℕ → List ℕ
 adapter_text name text = codes "Adapter `" ++ (escaped name ++ (codes "`: " ++ text))
 
+-- a file could not be written: its path, and why; or it is no text
+abbrev pub unwritten_text : List ℕ → FileProblem → List ℕ
+unwritten_text path p = codes "cannot write " ++ (escaped path ++ problem_text p)
+
+abbrev pub no_text_text : List ℕ → List ℕ
+no_text_text path = escaped path ++ codes " is not UTF-8"
+
+-- a component has no core module, and so many components inside it have some; or none of an index, and so many
+abbrev pub no_module_text : ℕ → List ℕ
+no_module_text inside = codes "the component has no core module; components inside: " ++ decimal inside
+
+abbrev pub no_such_module_text : ℕ → ℕ → List ℕ
+no_such_module_text asked count = codes "no core module " ++ (decimal asked ++ (codes "; the component has " ++ decimal count))
+
+-- it can't be told which core module is which, and under it what core modules there are
+abbrev pub unclear_text : List ℕ → List ℕ
+unclear_text listing = codes "which core module is which can't be told; --core N picks the main module" ++ listing
+
+-- why the core module of an index can't be followed
+abbrev pub core_text : ℕ → List ℕ → List ℕ
+core_text index text = codes "core module " ++ (decimal index ++ (codes ": " ++ text))
+
 -- the text of a fault
 abbrev pub why_fault_text : WhyFault → List ℕ
 why_fault_text Memory = memory_text
@@ -99,6 +122,16 @@ why_fault_text (Adapter name f place near) = adapter_text (string_bytes name) (s
 why_fault_text (NoImport p near) = unknown_text (pattern_view p) (option_map string_bytes near)
 why_fault_text (NoFunction name near) = no_function_text name.now (option_map string_bytes near)
 why_fault_text (NoNames name path) = no_names_text name.now path.now
+why_fault_text Component = codes "IN is a component, which has its adapters: no --adapt"
+why_fault_text NoComponent = codes "--core: IN is no component"
+why_fault_text (File f byte) = file_fault_text f
+why_fault_text (NoModule inside) = no_module_text inside
+why_fault_text (NoSuchModule asked count) = no_such_module_text asked count
+why_fault_text (Unclear listing) = unclear_text (string_bytes listing)
+why_fault_text (Core index f place) = core_text index (source_text f place None)
+why_fault_text (CannotWrite path p) = unwritten_text path.now p
+why_fault_text (NotAllowed text) = string_bytes text
+why_fault_text (AllowNotText path) = no_text_text path.now
 why_fault_text Output = codes "cannot print"
 
 -- memory is needed for the text of a fault, unless it is always the same

@@ -11,6 +11,11 @@ pub mod Functions
 pub mod Tree
 pub mod AdapterNames
 pub mod Inputs
+pub mod Allowed
+pub mod Warnings
+pub mod Shown
 pub mod ModuleWays
+pub mod CoreFile
+pub mod Component
 pub mod Program
 pub mod Private

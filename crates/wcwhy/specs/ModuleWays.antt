@@ -1,5 +1,5 @@
--- What is printed of a main module and its adapters.
-use Rattle.std.specs.Prelude.{◌≡◌, ◌≢◌, ◌⊎◌, ◌==◌, ⊤, ℕ, Bool, true, false, not, All, Contains, length, List, Option, Some, None, String, string_bytes}
+-- What is printed of the modules of a component.
+use Rattle.std.specs.Prelude.{◌≡◌, ◌≢◌, ◌⊎◌, ◌==◌, ⊤, ℕ, Bool, true, false, not, All, Contains, length, List, [], Option, Some, None, String, string_bytes}
 use Rattle.std.specs.Option.{option_map}
 use Rattle.std.specs.declared.alloc.Global.{Global}
 use Rattle.wc_gc.specs.LiveItems.{IsFault}
@@ -15,24 +15,31 @@ use Rattle.wc_import_paths.specs.Functions.{AreAskedOf}
 use Rattle.wc_import_paths.specs.MainModules.{code_of}
 use Rattle.wc_why.specs.Tree.{TreeCallerView, TreeView}
 use Rattle.wc_module_ways.specs.Modules.{InputView, IsModules, ModulesView, imports_of}
-use Rattle.wc_module_ways.specs.Refusals.{HasNoCause, IsAdapterUnread, IsMainFault}
+use Rattle.wc_module_ways.specs.CoreModules.{CoreGiven, is_library_kind}
+use Rattle.wc_module_ways.specs.Refusals.{HasNoCause, IsAdapterUnread, IsCoreFault, IsMainFault, moved}
 use Rattle.wc_module_ways.specs.Tree.{IsTree}
 use Rattle.wc_program.specs.Screen.{Printing, nothing, failed}
 use Rattle.wc_read.specs.Imports.{ImportValue}
+use Rattle.wcwhy.specs.Allowed.{way_modules}
 use Rattle.wcwhy.specs.Arguments.{CommandView}
 use Rattle.wcwhy.specs.Fault.{near_text}
 use Rattle.wcwhy.specs.Functions.{IsFunctionFault}
+use Rattle.wcwhy.specs.Inputs.{AllowView}
 use Rattle.wcwhy.specs.NearExports.{IsNearFor}
+use Rattle.wcwhy.specs.Shown.{IsAnswer}
 use Rattle.wcwhy.specs.Tree.{IsTreeText}
+use Rattle.wcwhy.specs.Warnings.{Saying}
 use Rattle.wcwhy.specs.declared.fault.WhyFault.{WhyFault}
-use Rattle.wcwhy.specs.declared.fault.WhyFault.TheVariants.{Memory, Source, Adapter, NoImport, Output}
+use Rattle.wcwhy.specs.declared.fault.WhyFault.TheVariants.{Memory, Source, Adapter, Core, NoImport, Output}
 
 -- the modules of a command, whose files have these bytes
 abbrev pub modules_input : CommandView → List ℕ → List Given → InputView
 modules_input c main adapters = record {
   main = main;
+  main_offset = 0;
   exports = c.exports;
   adapters = adapters;
+  core = [];
   adapter_exports = c.adapter_exports;
   is_whole = not (length c.functions == 0);
 }
@@ -49,7 +56,7 @@ pub record AreWays (c : CommandView) (w : ModulesView) (patterns : List PatternV
   pub are_functions : AreAskedOf w.bytes (length (code_of w.main).funcs) c.functions functions
   pub tree : TreeView
   pub is_tree : IsTree w patterns functions tree
-  pub is : IsTreeText c tree text
+  pub is : IsTreeText true c tree text
 
 -- what a command asks to print of them
 abbrev pub IsShownBy : Bool → CommandView → ModulesView → List PatternView → List ℕ → Type 0
@@ -59,12 +66,15 @@ IsShownBy false c w patterns text = AreWays c w patterns text
 abbrev pub IsShown : CommandView → ModulesView → List PatternView → List ℕ → Type 0
 IsShown c w patterns text = IsShownBy c.summary c w patterns text
 
--- what is printed of modules: they have some of the imports that each option asks for
-pub record ArePrinted (c : CommandView) (i : InputView) (text : List ℕ) : Type 0 where
+-- the names of the modules from which they import something: of these imports there are paths
+abbrev pub AreWayNames : ModulesView → List (List ℕ) → Type 0
+AreWayNames w names = (tree : TreeView) × IsTree w [] [] tree × (names ≡ way_modules tree.ways)
+
+-- what is printed of modules, and what is said besides
+pub record ArePrinted (c : CommandView) (i : InputView) (allow : Option AllowView) (said : Saying) (text : List ℕ) : Type 0 where
   pub modules : ModulesView
   pub are : IsModules i modules
-  pub known : first_unknown (imports_of modules) c.imports ≡ None
-  pub is : IsShown c modules c.imports text
+  pub is : IsAnswer c true (IsShown c modules) (imports_of modules) (AreWayNames modules) allow said text
 
 -- the first option that asks for none of these imports, and what is there in their place
 abbrev pub IsNoImport : List ImportValue → List PatternView → ImportPattern → Option (String Global) → Type 0
@@ -81,9 +91,20 @@ abbrev pub IsAdapterRefusal : InputView → Given → GcFault → Option TrimPla
 IsAdapterRefusal i g f place =
     (Contains i.adapters g × IsAdapterUnread g.1 f place) ⊎ ((w : ModulesView) × IsModules i w × IsUnfollowed w g f place)
 
+-- the main module is refused, or the core module of an index: at a place in the component's file
+
+abbrev pub IsMainRefusal : InputView → GcFault → Option TrimPlace → Type 0
+IsMainRefusal i f place = (at : Option TrimPlace) × IsMainFault i.is_whole i.main i.exports f at × (place ≡ moved i.main_offset at)
+
+abbrev pub IsCoreRefusal : InputView → ℕ → GcFault → Option TrimPlace → Type 0
+IsCoreRefusal i index f place =
+    (g : CoreGiven) × Contains i.core g × (g.index ≡ index) × (at : Option TrimPlace) × IsCoreFault (is_library_kind g.kind) g.bytes f at
+    × (place ≡ moved g.offset at)
+
 -- why nothing is printed of modules
 abbrev pub AreRefused : CommandView → InputView → WhyFault → Type 0
-AreRefused c i (Source f place near) = (f ≢ gc_memory) × IsMainFault i.is_whole i.main i.exports f place × IsNearFor i.main f near
+AreRefused c i (Source f place near) = (f ≢ gc_memory) × IsMainRefusal i f place × IsNearFor i.main f near
+AreRefused c i (Core index f place) = (f ≢ gc_memory) × IsCoreRefusal i index f place
 AreRefused c i (Adapter name f place near) =
     (f ≢ gc_memory) × (g : Given) × (string_bytes name ≡ g.0) × IsAdapterRefusal i g f place × IsNearFor g.1 f near
 AreRefused c i (NoImport p near) = (w : ModulesView) × IsModules i w × IsNoImport (imports_of w) c.imports p near

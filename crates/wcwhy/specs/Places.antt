@@ -9,7 +9,7 @@ use Rattle.wc_import_paths.specs.Patterns.{PatternView, pattern_view}
 use Rattle.wc_texts.specs.Shapes.{Field, nullable_json, number_json, object_of}
 use Rattle.wc_why_text.specs.JsonParts.{text_or_null}
 use Rattle.wcwhy.specs.declared.fault.WhyFault.{WhyFault}
-use Rattle.wcwhy.specs.declared.fault.WhyFault.TheVariants.{Source, Adapter, NoImport, NoFunction, NoNames}
+use Rattle.wcwhy.specs.declared.fault.WhyFault.TheVariants.{Source, Adapter, NoImport, NoFunction, NoNames, File, Core}
 
 -- an object of a kind
 abbrev pub object_of_kind : List ℕ → List Field → Json
@@ -53,6 +53,11 @@ pattern_json_by key (Some name) = object_of_kind (codes "key") ((codes "key", st
 abbrev pub pattern_json : PatternView → Json
 pattern_json p = pattern_json_by p.0 p.1
 
+-- the byte of a component's file where a section begins, which is in no section of a module
+abbrev pub file_place_json : Option ℕ → Json
+file_place_json None = null
+file_place_json (Some offset) = trim_place_json None (Bytes (record { offset = offset; section = None }))
+
 -- what a fault is about
 abbrev pub place_json : WhyFault → Json
 place_json (Source f place near) = module_place_json None f place
@@ -60,4 +65,6 @@ place_json (Adapter name f place near) = module_place_json (Some (string_bytes n
 place_json (NoImport p near) = pattern_json (pattern_view p)
 place_json (NoFunction name near) = asked_json (codes "func") name.now
 place_json (NoNames name path) = asked_json (codes "func") name.now
+place_json (File f byte) = file_place_json byte
+place_json (Core index f place) = module_place_json None f place
 place_json f = null

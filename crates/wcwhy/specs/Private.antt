@@ -4,3 +4,8 @@ pub mod Execution
 pub mod Inputs
 pub mod ModuleWays
 pub mod Arguments
+pub mod Trees
+pub mod Warnings
+pub mod Component
+pub mod CoreFile
+pub mod Allowed

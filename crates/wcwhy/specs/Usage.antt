@@ -5,12 +5,13 @@ use Rattle.std.specs.Prelude.{ℕ, List, ◌++◌, codes}
 abbrev pub usage_text : List ℕ
 usage_text =
     codes "usage: wcwhy IN [--adapt [NAME=]FILE]... [--adapter-export NAME=EXPORT]...\n"
-    ++ (codes "             [--import KEY[=NAME]]... [--func N|NAME]... [--dot] [--json] [--imports] [EXPORT]...\n" ++ codes "       wcwhy --help | --version\n")
+    ++ (codes "             [--import KEY[=NAME]]... [--func N|NAME]... [--dot] [--json] [--imports]\n"
+    ++ (codes "             [--allow FILE] [--core N [--out FILE]] [EXPORT]...\n" ++ codes "       wcwhy --help | --version\n"))
 
 -- what each argument is
 abbrev pub options_text : List ℕ
 options_text =
-    codes "  IN                      a core module; with --adapt the component's main module\n"
+    codes "  IN                      a component, or a core module; with --adapt a component's main module\n"
     ++ (codes "  EXPORT                  export to start from (default: all)\n"
     ++ (codes "  --adapt [NAME=]FILE     an adapter's module; NAME defaults to FILE's name up to the first `.`\n"
     ++ (codes "  --adapter-export NAME=EXPORT\n"
@@ -20,8 +21,11 @@ options_text =
     ++ (codes "  --dot                   print a graph in the language of Graphviz\n"
     ++ (codes "  --json                  print the paths as JSON; with --imports the interfaces\n"
     ++ (codes "  --imports               list which modules import each interface, and which calls to remove to drop it\n"
+    ++ (codes "  --allow FILE            fail if an interface is imported that no line of FILE allows\n"
+    ++ (codes "  --core N                take core module N of IN as its main module (default: the one named main, or 0)\n"
+    ++ (codes "  --out FILE              with --core: write this core module to FILE, and print nothing\n"
     ++ (codes "  -h, --help              print this text\n"
-    ++ codes "  --version               print the version\n"))))))))))
+    ++ codes "  --version               print the version\n")))))))))))))
 
 abbrev pub help_text : List ℕ
 help_text = usage_text ++ options_text

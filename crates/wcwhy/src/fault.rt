@@ -4,11 +4,12 @@ ghost use Rattle.std.specs.Prelude.{◌≡◌, IfNone, IfOk, IfSome, map, string
 ghost use Rattle.std.specs.Option.{option_map};
 ghost use Rattle.wc_read.specs.Imports.{import_value};
 ghost use Rattle.wc_import_paths.specs.Patterns.{pattern_view};
-ghost use Rattle.wcwhy.specs.Fault.{IsAdapterFault, IsNamedFault, IsSourceFault, NeedsText, adapter_text, given_word, given_text, names_hint, near_package_text, near_text, no_adapter_text, no_function_text, no_names_text, of_adapter, of_source, package_pattern_text, pattern_text, repeated_adapter_text, source_text, unknown_text, unread_text, why_fault_text};
+ghost use Rattle.wcwhy.specs.Fault.{IsAdapterFault, IsNamedFault, IsSourceFault, NeedsText, adapter_text, core_text, given_word, given_text, names_hint, near_package_text, near_text, no_adapter_text, no_function_text, no_module_text, no_names_text, no_such_module_text, no_text_text, of_adapter, of_source, package_pattern_text, pattern_text, repeated_adapter_text, source_text, unclear_text, unknown_text, unread_text, unwritten_text, why_fault_text};
 
 use crate::near_exports::near_for;
 use crate::patterns::{named_under, near_import, near_package, near_pattern};
 use std::alloc::{AllocError, AllocFailed, Global};
+use wc_component_file::FileFault;
 use wc_gc::{GcFault, TrimPlace};
 use wc_import_paths::ImportPattern;
 use wc_program::{FileProblem, problem_text};
@@ -46,6 +47,36 @@ pub enum WhyFault<'a> {
     NoFunction(&'a str, Option<String>),
     /// A function is asked for by this name, and the module of this path has no names of functions.
     NoNames(&'a str, &'a str),
+    /// The file is a component, and an adapter is given, or an export of one.
+    Component,
+    /// A core module is chosen, and the file is no component.
+    NoComponent,
+    /// The file is no component that can be read. It carries why, never `Memory`, and the byte of the file where the
+    /// section begins that is the cause.
+    File(FileFault, Option<usize>),
+    /// The component has no core module. It carries how many components directly inside it have some.
+    NoModule(usize),
+    /// The component has no core module of this index. It carries how many it has.
+    NoSuchModule {
+        asked: usize,
+        count: usize,
+    },
+    /// It can't be told which core module is which. It carries what core modules there are, each in a line after two
+    /// blanks.
+    Unclear(String),
+    /// The core module of this index can't be followed. It carries the reason, never `Memory`, and the place, whose
+    /// bytes are counted in the component's file.
+    Core {
+        module: usize,
+        fault: GcFault,
+        place: Option<TrimPlace>,
+    },
+    /// The file of this path could not be written, and why: never `Memory`.
+    CannotWrite(&'a str, FileProblem),
+    /// Something is imported that no entry allows. It carries from where, as the whole text of the fault.
+    NotAllowed(String),
+    /// The file of this path, which says what is allowed, is not UTF-8.
+    AllowNotText(&'a str),
     /// The lines, or the graph, could not be printed.
     Output,
 }
@@ -73,6 +104,23 @@ impl WhyFault<'_> {
             WhyFault::NoImport(pattern, near) => unknown_text(alloc, pattern, near),
             WhyFault::NoFunction(name, near) => no_function_text(alloc, name, near),
             WhyFault::NoNames(name, path) => no_names_text(alloc, name, path),
+            WhyFault::Component => String::from_str(alloc, NO_ADAPTER_OPTION),
+            WhyFault::NoComponent => String::from_str(alloc, NO_CORE_OPTION),
+            WhyFault::File(fault, _) => text_of(alloc, fault),
+            WhyFault::NoModule(inside) => no_module_text(alloc, *inside),
+            WhyFault::NoSuchModule { asked, count } => no_such_module_text(alloc, *asked, *count),
+            WhyFault::Unclear(listing) => unclear_text(alloc, listing),
+            WhyFault::Core {
+                module,
+                fault,
+                place,
+            } => {
+                let text = source_text(alloc, fault, place, &None)?;
+                core_text(alloc, *module, &text)
+            }
+            WhyFault::CannotWrite(path, problem) => unwritten_text(alloc, path, *problem),
+            WhyFault::NotAllowed(text) => String::from_str(alloc, text),
+            WhyFault::AllowNotText(path) => no_text_text(alloc, path),
             WhyFault::Output => String::from_str(alloc, UNPRINTED),
         }
     }
@@ -85,14 +133,7 @@ impl WhyFault<'_> {
         match self {
             WhyFault::Memory => Some(OUT_OF_MEMORY),
             WhyFault::Output => Some(UNPRINTED),
-            WhyFault::CannotRead(_, _)
-            | WhyFault::RepeatedAdapter(_)
-            | WhyFault::NoAdapter(_, _)
-            | WhyFault::Source(_, _, _)
-            | WhyFault::Adapter(_, _, _, _)
-            | WhyFault::NoImport(_, _)
-            | WhyFault::NoFunction(_, _)
-            | WhyFault::NoNames(_, _) => None,
+            _ => None,
         }
     }
 }
@@ -120,6 +161,12 @@ impl<T: Drop> From<AllocFailed<T>> for WhyFault<'_> {
 /// The text where what was to be printed could not be.
 const UNPRINTED: &str = "cannot print";
 
+/// The text of a component to which an adapter is given.
+const NO_ADAPTER_OPTION: &str = "IN is a component, which has its adapters: no --adapt";
+
+/// The text of a file of which a core module is chosen, and which is no component.
+const NO_CORE_OPTION: &str = "--core: IN is no component";
+
 /// The fault for a file that could not be read: its path, and why.
 fn unread_text(alloc: Global, path: &str, problem: FileProblem) -> Result<String, AllocError>
     ensures { IfOk result (λ text. string_bytes text ≡ unread_text path.now problem) }
@@ -127,6 +174,53 @@ fn unread_text(alloc: Global, path: &str, problem: FileProblem) -> Result<String
     let path = escaped(alloc, path)?;
     let problem = problem_text(problem);
     format!(in alloc; "cannot read {path}{problem}")
+}
+
+/// The fault for a file that could not be written: its path, and why.
+fn unwritten_text(alloc: Global, path: &str, problem: FileProblem) -> Result<String, AllocError>
+    ensures { IfOk result (λ text. string_bytes text ≡ unwritten_text path.now problem) }
+{
+    let path = escaped(alloc, path)?;
+    let problem = problem_text(problem);
+    format!(in alloc; "cannot write {path}{problem}")
+}
+
+/// The fault for a file that is no text: its path.
+fn no_text_text(alloc: Global, path: &str) -> Result<String, AllocError>
+    ensures { IfOk result (λ text. string_bytes text ≡ no_text_text path.now) }
+{
+    let path = escaped(alloc, path)?;
+    format!(in alloc; "{path} is not UTF-8")
+}
+
+/// The fault for a component without a core module: how many components inside have some.
+fn no_module_text(alloc: Global, inside: usize) -> Result<String, AllocError>
+    ensures { IfOk result (λ text. string_bytes text ≡ no_module_text inside) }
+{
+    format!(in alloc; "the component has no core module; components inside: {inside}")
+}
+
+/// The fault for a core module that is not there, by its index: how many there are.
+fn no_such_module_text(alloc: Global, asked: usize, count: usize) -> Result<String, AllocError>
+    ensures { IfOk result (λ text. string_bytes text ≡ no_such_module_text asked count) }
+{
+    format!(in alloc; "no core module {asked}; the component has {count}")
+}
+
+/// The fault for core modules of which it can't be told which is which, and under it what there are.
+fn unclear_text(alloc: Global, listing: &str) -> Result<String, AllocError>
+    ensures { IfOk result (λ text. string_bytes text ≡ unclear_text listing.now) }
+{
+    format!(in alloc;
+        "which core module is which can't be told; --core N picks the main module{listing}"
+    )
+}
+
+/// The text of why the core module of an index can't be followed.
+fn core_text(alloc: Global, index: usize, text: &str) -> Result<String, AllocError>
+    ensures { IfOk result (λ t. string_bytes t ≡ core_text index text.now) }
+{
+    format!(in alloc; "core module {index}: {text}")
 }
 
 /// The fault for a name that two adapters have.
@@ -300,7 +394,7 @@ fn package_pattern_text(
 }
 
 /// A text that was given, as a word; an empty one as `''`, so that it is seen.
-fn given_word(alloc: Global, text: &str) -> Result<String, AllocError>
+pub(crate) fn given_word(alloc: Global, text: &str) -> Result<String, AllocError>
     ensures { IfOk result (λ word. string_bytes word ≡ given_word text.now) }
 {
     if text == "" {

@@ -46,14 +46,7 @@ fn fixed_json(fault: &WhyFault<'_>) -> Option<&'static str>
     match fault {
         WhyFault::Memory => Some(MEMORY),
         WhyFault::Output => Some(UNPRINTED),
-        WhyFault::CannotRead(_, _)
-        | WhyFault::RepeatedAdapter(_)
-        | WhyFault::NoAdapter(_, _)
-        | WhyFault::Source(_, _, _)
-        | WhyFault::Adapter(_, _, _, _)
-        | WhyFault::NoImport(_, _)
-        | WhyFault::NoFunction(_, _)
-        | WhyFault::NoNames(_, _) => None,
+        _ => None,
     }
 }
 

@@ -8,7 +8,10 @@
 #![tactic(auto)]
 
 mod adapter_names;
+mod allowed;
 mod arguments;
+mod component;
+mod core_file;
 mod execution;
 mod fault;
 mod functions;
@@ -22,6 +25,7 @@ mod program;
 mod texts;
 mod tree;
 mod usage;
+mod warnings;
 
 use crate::program::run;
 use std::io::BufWriter;

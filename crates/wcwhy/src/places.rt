@@ -10,7 +10,7 @@ ghost use Rattle.wc_import_paths.specs.Patterns.{pattern_view};
 ghost use Rattle.wc_texts.specs.Shapes.{nullable_json, number_json};
 ghost use Rattle.wc_why.specs.Texts.{text_of};
 ghost use Rattle.wc_why_text.specs.Private.Tokens.{Puts};
-ghost use Rattle.wcwhy.specs.Places.{asked_json, missing_json, module_place_json, pattern_json, place_json, trim_place_json, unplaced_json};
+ghost use Rattle.wcwhy.specs.Places.{asked_json, file_place_json, missing_json, module_place_json, pattern_json, place_json, trim_place_json, unplaced_json};
 
 use crate::fault::WhyFault;
 use json::Writer;
@@ -32,7 +32,26 @@ pub(crate) fn put_place(out: &mut Writer, fault: &WhyFault<'_>) -> Result<(), Al
         WhyFault::NoImport(pattern, _) => put_pattern(out, pattern),
         WhyFault::NoFunction(name, _) => put_asked(out, "func", name),
         WhyFault::NoNames(name, _) => put_asked(out, "func", name),
+        WhyFault::File(_, byte) => put_file_place(out, *byte),
+        WhyFault::Core { fault, place, .. } => put_module_place(out, None, fault, place),
         _ => put_nothing(out),
+    }
+}
+
+/// Writes the byte where a section of a component's file begins, or null for none.
+fn put_file_place(out: &mut Writer, byte: Option<usize>) -> Result<(), AllocError>
+    ensures { OnOk result (Puts out.old out.new (json_tokens (file_place_json byte))) }
+{
+    match byte {
+        Some(offset) => put_bytes(
+            out,
+            None,
+            ReadPlace {
+                offset,
+                section: None,
+            },
+        ),
+        None => put_nothing(out),
     }
 }
 

@@ -15,7 +15,7 @@ pub(crate) fn page() -> Page<'static>
     Page {
         usage: "usage: wcwhy IN",
         end: " [EXPORT]...\n       wcwhy --help | --version\n",
-        words: "  IN                      a core module; with --adapt the component's main module
+        words: "  IN                      a component, or a core module; with --adapt a component's main module
   EXPORT                  export to start from (default: all)
 ",
         last: "  -h, --help              print this text

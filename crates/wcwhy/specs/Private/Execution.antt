@@ -1,16 +1,19 @@
 -- What parts of a run of a command do.
-use Rattle.std.specs.Prelude.{◌≡◌, ◌⊎◌, ⊤, ℕ, List, length, None, string_bytes}
+use Rattle.std.specs.Prelude.{◌≡◌, ◌⊎◌, ⊤, ℕ, false, List, length, Option, string_bytes}
 use Rattle.std.specs.Option.{option_map}
 use Rattle.wc_read.specs.Imports.{ImportValue}
 use Rattle.wc_read.specs.Modules.{module_value}
 use Rattle.wc_program.specs.Screen.{Printing, nothing, printed, failed}
 use Rattle.wc_options.specs.Wrong.{help, version, wrong, wrong_view}
-use Rattle.wc_import_paths.specs.Patterns.{first_unknown, pattern_view}
+use Rattle.wc_import_paths.specs.Patterns.{PatternView, pattern_view}
 use Rattle.wcwhy.specs.Arguments.{CommandView}
 use Rattle.wcwhy.specs.Fault.{near_text}
+use Rattle.wcwhy.specs.Inputs.{AllowView}
 use Rattle.wcwhy.specs.ModuleWays.{IsNoImport}
 use Rattle.wcwhy.specs.Functions.{IsFunctionFault}
-use Rattle.wcwhy.specs.Program.{EndsWithoutMemory, IsSourceText, StopEnds}
+use Rattle.wcwhy.specs.Program.{AreImportNames, EndsWithoutMemory, IsSourceText, StopEnds}
+use Rattle.wcwhy.specs.Shown.{IsAnswer}
+use Rattle.wcwhy.specs.Warnings.{Saying}
 use Rattle.wc_import_paths.specs.Followed.{followed_view}
 use Rattle.wc_import_paths.specs.declared.followed.Followed.{Followed}
 use Rattle.wc_import_paths.specs.declared.patterns.ImportPattern.{ImportPattern}
@@ -26,10 +29,10 @@ AnswersStop Help out err status = StopEnds help out err status
 AnswersStop Version out err status = StopEnds version out err status
 AnswersStop (Wrong w) out err status = StopEnds (wrong (wrong_view w)) out err status ⊎ EndsWithoutMemory out err status
 
--- a module that is followed has some of the imports that each option asks for, and what is asked for is printed of it
-abbrev pub IsSourcePrinted : CommandView → Followed → (Printing → Type 0) → Type 0
-IsSourcePrinted c f out =
-    (text : List ℕ) × (first_unknown (module_value f.code).imports c.imports ≡ None) × IsSourceText c (followed_view f) f.bytes.now text × out (printed text)
+-- what is printed of a module that is followed, and what is said besides
+abbrev pub IsSourceAnswer : CommandView → Followed → Option AllowView → Saying → List ℕ → Type 0
+IsSourceAnswer c f allow said text =
+    IsAnswer c false (IsSourceText c (followed_view f) f.bytes.now) (module_value f.code).imports (AreImportNames (module_value f.code).imports) allow said text
 
 -- why it could not be printed
 abbrev pub IsFollowedCause : CommandView → Followed → (Printing → Type 0) → WhyFault → Type 0
@@ -53,3 +56,9 @@ abbrev pub IsTreeFault : (Printing → Type 0) → WhyFault → Type 0
 IsTreeFault out why_memory = ⊤
 IsTreeFault out Output = out failed
 IsTreeFault out f = ⊥
+
+-- none of these imports is one that an option asks for
+abbrev pub IsUnknownOf : List ImportValue → List PatternView → WhyFault → Type 0
+IsUnknownOf imports patterns why_memory = ⊤
+IsUnknownOf imports patterns (NoImport p near) = IsNoImport imports patterns p near
+IsUnknownOf imports patterns f = ⊥

@@ -6,7 +6,7 @@ use Rattle.wcwhy.proofs.program.WcwhyProgram.run_with.Goals as goal
 pub returns-in-Ok : goal.returns-in-Ok
 returns-in-Ok g c =
     let arguments = map string_bytes c.args.arguments.now in
-    ends_by_command arguments (command_view c.in-Ok.command) _ _ _ _ c.in-Ok.ensures c.run_and_report.ensures.files c.run_and_report.ensures.ends
+    ends_by_command arguments (command_view c.in-Ok.command) _ _ _ _ c.in-Ok.ensures c.run_and_report.ensures
 
 pub returns-in-Err : goal.returns-in-Err
 returns-in-Err g c =
