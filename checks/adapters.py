@@ -3,6 +3,7 @@
 
     checks/adapters.py [PROGRAM]
     checks/adapters.py --cut EXPORT FILE
+    checks/adapters.py --link MAIN FILE
 
 Rust's `wasm-component-ld` carries three WASI adapters, and puts what programs use of them into components, by the Rust crate
 `wit-component`. This script takes the adapters out of each toolchain's linker, links the programs of `checks/c/wasi` with each,
@@ -12,15 +13,17 @@ and one without a start function stays the same when it is trimmed again. A line
 how many agree; the status is 1 if one differs, or if there is none. It needs a rustup toolchain, clang, lld, wabt, wasi-libc and
 libclang-rt-dev-wasm32.
 
---cut writes the first adapter with this export, of the toolchain of the rustc on PATH or of another, to a file. It needs no
-other tool.
+--cut writes the first adapter with this export, of the toolchain of the rustc on PATH or of another, to a file. --link writes
+the component that such a toolchain's linker makes of a main module and its adapter of commands. They need no other tool.
 """
 import argparse
 import glob
 import os
+import shlex
 import shutil
 import subprocess
 import sys
+import tempfile
 
 from module_bytes import HEADER, content, exported_names, number_at, sections
 
@@ -33,6 +36,14 @@ FEATURES = ["--enable-multi-memory", "--enable-memory64", "--enable-extended-con
 INSIDE = "lib/rustlib/*/bin/wasm-component-ld"
 # the positions that ids of sections have in the order of sections; custom sections have none
 ORDER = {1: 1, 2: 2, 3: 3, 4: 4, 5: 5, 6: 6, 7: 7, 8: 8, 9: 9, 12: 10, 10: 11, 11: 12}
+
+# in the place of wasm-ld: it puts a module where the linked one is wanted
+LINKED = """#!/bin/sh
+while [ $# -gt 1 ]; do
+    [ "$1" != -o ] || exec cp {main} "$2"
+    shift
+done
+"""
 
 
 def module_at(data, start):
@@ -104,6 +115,17 @@ def component(linker, objects, options, to):
     return made.returncode == 0
 
 
+def linked_component(linker, main, options, folder):
+    """What a linker makes of a main module, and why it makes nothing."""
+    at = {it: os.path.join(folder, "linked-" + it) for it in ("main", "ld", "o", "out")}
+    for name, data in ("main", main), ("ld", LINKED.format(main=shlex.quote(at["main"])).encode()), ("o", b""):
+        with open(at[name], "wb") as file:
+            file.write(data)
+    os.chmod(at["ld"], 0o755)
+    made = subprocess.run([linker, "--wasm-ld-path", at["ld"], *options, "-o", at["out"], at["o"]], capture_output=True, text=True)
+    return (None, " ".join(made.stderr.split())) if made.returncode else (read(at["out"]), "")
+
+
 def accepted(path):
     return subprocess.run(["wasm-validate", *FEATURES, path], capture_output=True).returncode == 0
 
@@ -160,13 +182,29 @@ def cut(export, target):
     return 1
 
 
+def link(main, target):
+    """Writes the component of a main module and of a linker's adapter of commands to the file `target`."""
+    why = "wasm-component-ld is missing: rustup's toolchains and wasi-sdk have it"
+    for linker in linkers_of_rustc() + linkers():
+        with tempfile.TemporaryDirectory() as folder:
+            made, why = linked_component(linker, read(main), ["--wasi-adapter", "command"], folder)
+        if made:
+            with open(target, "wb") as file:
+                file.write(made)
+            print("%s: %d bytes, by %s" % (target, len(made), linker))
+            return 0
+    print(why, file=sys.stderr)
+    return 1
+
+
 def main():
     parser = argparse.ArgumentParser(description=__doc__, formatter_class=argparse.RawDescriptionHelpFormatter)
     parser.add_argument("program", nargs="?", default=os.path.join(TOP, "crates", "wctrim", "out", "wctrim"))
     parser.add_argument("--cut", nargs=2, metavar=("EXPORT", "FILE"), help="write an adapter to a file, and compare none")
+    parser.add_argument("--link", nargs=2, metavar=("MAIN", "FILE"), help="write a component to a file, and compare none")
     arguments = parser.parse_args()
-    if arguments.cut:
-        return cut(*arguments.cut)
+    if arguments.cut or arguments.link:
+        return cut(*arguments.cut) if arguments.cut else link(*arguments.link)
     program = arguments.program
     shutil.rmtree(MADE, ignore_errors=True)
     os.makedirs(MADE)

@@ -20,37 +20,56 @@ def may_need(module, name, item):
 class Adapter:
     """An adapter of this name: what it has to export whatever the main module imports, and what is imported of it."""
 
+    is_core, is_library, shared, reached = False, False, (), frozenset()
+
     def __init__(self, name, module, main, asked=(), always=None):
         self.name, self.module = name, module
         self.imported = [text for source, text, item in main.imports if source == name and item[0] == "func"]
         needed = [text for text, item in module.exports if may_need(module, text, item)]
         self.always = list(dict.fromkeys([*needed, *asked] if always is None else always))
         self.is_needed = bool(self.imported or asked or always or any("#" in text for text, _ in module.exports))
-        self.exports = dict(module.exports)
+        self.exports, self.begin, self.fill = dict(module.exports), [], []
+
+    def linked(self, name):
+        """The name of the export that a function which the main module imports under this name is."""
+        return name
+
+    def labels(self):
+        """The exports that are required, each with its text, its item, and why it is required."""
+        return [(text, self.exports[text], "stays" if text in self.always else "exports")
+                for text in dict.fromkeys([*self.imported, *self.always])]
+
+
+def root_of(item, space, index):
+    """An active segment, and what is said of it as a root."""
+    return item, {"kind": "fills", "space": space, "index": index}
 
 
 class Component:
     """Items are pairs of a part's number and an item of its module. `found` has for each item to which a list of roots leads the
-    item before it on its path, or the root."""
+    item before it on its path, or the root. Adapters may also be core modules of a component's file, of which `given` are the
+    names that imports from other modules of the component have."""
 
-    def __init__(self, main, adapters=None, exports=()):
-        self.is_alone, self.given = adapters is None, {MAIN, *(it.name for it in adapters or ())}
+    def __init__(self, main, adapters=None, exports=(), given=None):
+        self.is_alone = adapters is None
+        self.given = {MAIN, *(given if given is not None else (it.name for it in adapters or ()))}
         self.adapters = [it for it in adapters or () if it.is_needed]
         self.main, self.modules = main, [main, *(it.module for it in self.adapters)]
         self.names_of_parts = [None, *(it.name for it in self.adapters)]
-        self.links = {(0, item): (self.names_of_parts.index(source), name) for source, name, item in main.imports
-                      if item[0] == "func" and source in self.names_of_parts}
+        self.links = {(0, item): (part, it.linked(name)) for source, name, item in main.imports if item[0] == "func"
+                      for part, it in enumerate(self.adapters, 1) if it.name == source and it.linked(name) is not None}
         self.lists, self.unread = self.roots(exports), None
         reached = self.search(self.lists[1:3])
         closed = [item for part, item in reached if not part and main.names[item] is None]
         if closed:
             self.unread = {"kind": "unread", "body": f"body of function {closed[0][1]}"}
-            self.lists[1:3] = [], []
+            self.lists[1:3] = [], [it for it in self.lists[2] if it[0][0]]
         self.reached = set() if closed else {item for part, item in reached if part == 0}
         if not self.is_alone:
             found = self.search(self.lists)
             others = [(0, item) for _, _, item in main.imports if (0, item) not in found]
-            self.lists.append([(item, self.unread or {"kind": "unreached"}) for item in others])
+            others = [(item, self.unread or {"kind": "unreached"}) for item in others]
+            self.lists.append(others + [(item, {"kind": "library"}) for item in self.imports_of_libraries()])
         self.found = self.search(self.lists)
 
     def is_fault(self, functions):
@@ -59,13 +78,15 @@ class Component:
 
     def roots(self, exports):
         """The first three lists of roots: items, each with what is said of it."""
-        always = [((part, adapter.exports[name]), {"kind": "export", "name": name, "main": None})
-                  for part, adapter in enumerate(self.adapters, 1) for name in adapter.always]
+        always, fill = [], [((0, item), root) for item, root in (root_of(*it) for it in self.main.active)]
+        for part, it in enumerate(self.adapters, 1):
+            always += [((part, it.exports[name]), {"kind": "export", "name": name, "main": None}) for name in it.always]
+            always += [((part, item), root) for item, root in it.begin]
+            fill += [((part, item), root) for item, root in it.fill]
         items = dict(self.main.exports)
         begin = [((0, items[name]), {"kind": "export", "name": name}) for name in exports or items]
         if self.main.start is not None:
             begin.append(((0, ("func", self.main.start)), {"kind": "start"}))
-        fill = [((0, item), {"kind": "fills", "space": space, "index": index}) for item, space, index in self.main.active]
         return [always, begin, fill]
 
     def names(self, item):
@@ -107,23 +128,31 @@ class Component:
 
     def callers(self, before, item):
         """The functions that may call a function of an active segment through its table."""
-        into = {segment: (space, index) for segment, space, index in self.main.active}.get(before[1])
-        if before[0] or into is None or into[0] != "table" or item[1][0] != "func":
+        part, module = before[0], self.modules[before[0]]
+        into = {segment: (space, index) for segment, space, index in module.active}.get(before[1])
+        if into is None or into[0] != "table" or item[1][0] != "func":
             return None
-        kind, types, calls = self.main.type_of(item[1]), self.main.types, self.main.indirect
-        found = [index for space, index in sorted(self.reached) if space == "func"
+        kind, types, calls = module.type_of(item[1]), module.types, module.indirect
+        reached = self.adapters[part - 1].reached if part else self.reached
+        found = [index for space, index in sorted(reached) if space == "func"
                  and any(types[of] == kind and table == into[1] for of, table in calls.get((space, index), ()))]
-        first = [{"index": it, "name": self.main.texts.get(it)} for it in found[:FIRST_CALLERS]]
+        first = [{"index": it, "name": module.texts.get(it)} for it in found[:FIRST_CALLERS]]
         return {"first": first, "count": len(found)} if found else None
+
+    def imports_of_libraries(self):
+        """The items of all that libraries import."""
+        for part, it in enumerate(self.adapters, 1):
+            for _, _, item in it.module.imports if it.is_library else ():
+                yield part, item
 
     def imports(self):
         """The imports to which paths may lead: their texts and items."""
         for source, name, item in self.main.imports:
             if self.is_alone or source not in self.given:
                 yield source, name, (0, item)
-        for part, module in enumerate(self.modules[1:], 1):
-            for source, name, item in module.imports:
-                if source != MAIN and (source, name, item[0]) != ("env", "memory", "memory"):
+        for part, it in enumerate(self.adapters, 1):
+            for source, name, item in it.module.imports:
+                if source != MAIN and (source, name) != ("env", "memory") and source not in it.shared:
                     yield source, name, (part, item)
 
     def tree(self, targets, asked=None):
@@ -138,7 +167,7 @@ class Component:
                     name = self.modules[part].texts.get(index) if space == "func" else None
                     it = {"space": space, "index": index, "name": name, "root": None, "from": None, "callers": None}
                     if before is None:
-                        it["root"] = root
+                        it["root"] = root if root["kind"] != "library" else None
                     elif before[0] == part:
                         it["from"], it["callers"] = places[before], self.callers(before, item)
                     else:

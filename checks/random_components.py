@@ -1,5 +1,8 @@
-"""Random main modules and adapters, with each kind of item, whose bodies only name items: no stack is right in them."""
-from module_bytes import HEADER, name, number, section, vector
+"""Random main modules and adapters, and files of components of them, with each kind of item. Bodies only name items: no stack is
+right in them."""
+import collections
+
+from module_bytes import HEADER, function_import, name, number, section, types, vector
 
 ADAPTERS = "one", "two"
 INTERFACES = "wasi:x/y@0.2.6", "wasi:x/z@0.2.6", "wasi:w/v", "env"
@@ -107,27 +110,91 @@ class Maker:
         ])
 
 
-def adapter_of(chance):
-    """An adapter: its bytes, and the names of the functions that it exports."""
-    imports = [(chance.choice(INTERFACES[:3]), f"f{it}", "func") for it in range(chance.randint(1, 5))]
+def adapter_of(chance, prefix="e", is_whole=False, sources=INTERFACES[:3]):
+    """An adapter: its bytes, and the names of the functions that it exports. `is_whole`: also a start function and segments."""
+    imports = [(chance.choice(sources), f"f{it}", "func") for it in range(chance.randint(1, 5))]
     imports += [("__main_module__", "cabi_realloc", "func")] * chance.randint(0, 1)
     imports += [("env", "memory", "memory")] * chance.randint(0, 1)
     imports += [(chance.choice(INTERFACES[:3]), "g", "global")] * chance.randint(0, 1)
     chance.shuffle(imports)
     maker = Maker(chance, imports, {"func": chance.choice((3, 8, 20)), "table": 1, "memory": 0, "global": 2})
-    exports = [(f"e{it}", "func") for it in range(chance.randint(1, 5))]
+    exports = [(f"{prefix}{it}", "func") for it in range(chance.randint(1, 5))]
     exports += [(text, "memory" if text == "memory" else "func") for text in KNOWN if chance.random() < 0.12]
     chance.shuffle(exports)
-    return maker.bytes(exports, False, 0, False), [text for text, kind in exports if kind == "func" and maker.counts["func"]]
+    made = maker.bytes(exports, is_whole and chance.random() < 0.4, 0.01 if is_whole else 0, is_whole)
+    return made, [text for text, kind in exports if kind == "func" and maker.counts["func"]]
 
 
-def main_of(chance, adapters):
+def renamed(imports):
+    """Imports, of which those with the name of an earlier one have other names, as linkers of components give them."""
+    counts, found = collections.Counter(), []
+    for source, text, kind in imports:
+        counts[source, text] += 1
+        found.append((source, text if counts[source, text] == 1 else f"{text} [v{counts[source, text]}]", kind))
+    return found
+
+
+def main_of(chance, adapters, rename=lambda imports: imports):
     """A main module that imports functions of adapters, whose names and exports these are, and of interfaces."""
     offered = [(source, text, "func") for source, exports in adapters for text in exports]
     # some of them often, so that some are imported more than once
     imports = [chance.choice(offered[:chance.choice((2, 9))]) for _ in range(chance.randint(0, 5))] if offered else []
     imports += [(chance.choice(INTERFACES), f"m{it}", chance.choice(KINDS + ("func",) * 3)) for it in range(chance.randint(0, 4))]
     chance.shuffle(imports)
-    maker = Maker(chance, imports, {"func": chance.choice((3, 8, 20)), "table": 2, "memory": 1, "global": 2})
+    maker = Maker(chance, rename(imports), {"func": chance.choice((3, 8, 20)), "table": 2, "memory": 1, "global": 2})
     exports = [(f"x{it}", chance.choice(KINDS + ("func",) * 3)) for it in range(chance.randint(0, 4))]
     return maker.bytes(exports, chance.random() < 0.3, 0.05 if chance.random() < 0.2 else 0, True)
+
+
+COMPONENT = b"\0asm\x0d\0\1\0"
+# the modules by which an encoder joins a main module and adapters
+SHIM = HEADER + types() + section(3, b"\2\0\0") + section(4, b"\1\x70\0\2") + section(7, vector([
+    name("0") + b"\0\0", name("1") + b"\0\1", name("$imports") + b"\1\0"])) + section(10, vector([b"\2\0\x0b"] * 2))
+FIXUP = HEADER + types() + section(2, vector([function_import("", "0"), name("") + name("$imports") + b"\1\x70\0\1"]))
+# sections that are passed over
+PASSED = 2, 3, 5, 6, 7, 8, 9, 10, 11, 12
+
+
+def core_modules_of(chance):
+    """The core modules of a component: the bytes of each, and the name that an encoder gives it; the main module is the first."""
+    adapters = [(text, *adapter_of(chance, chance.choice((text, text, text, "e")), True))
+                for text in chance.sample(("one", "two", "three"), chance.randint(0, 3))]
+    main = main_of(chance, [(text, exports) for text, _, exports in adapters], renamed)
+    others = [(made, "wit-component:adapter:" + text) for text, made, _ in adapters]
+    if chance.random() < 0.3:
+        others.append((adapter_of(chance, "other", True)[0], "wit-component:adapter:other"))
+    if chance.random() < 0.5:
+        others += [(SHIM, "wit-component-shim-module"), (FIXUP, "wit-component-fixup")]
+    if chance.random() < 0.2:
+        others.append((SHIM, "start-shim-module"))
+    for count in range(chance.choice((0, 0, 0, 1, 2))):
+        sources = (*INTERFACES[:2], "env", "GOT.mem", "GOT.func", "one", "lib0.so")
+        others.append((adapter_of(chance, f"lib{count}", True, sources)[0], f"lib{count}.so"))
+    chance.shuffle(others)
+    return [(main, "main"), *others]
+
+
+def names_of_modules(named):
+    """The custom section with names of core modules, of which these are the indices and the names, and with others."""
+    listed = b"\0\x11" + vector([number(index) + name(text) for index, text in named])
+    return section(0, name("component-name") + section(0, name("made")) + section(1, b"\1\1\0\1f") + section(1, listed)
+                   + section(1, b"\0\x12\1\0" + name("main")))
+
+
+def component_of(chance):
+    """The file of a component: sections, that of names included, among which the core modules are."""
+    modules, kind = core_modules_of(chance), chance.choice(("all", "all", "none", "none", "some"))
+    if kind == "all" and chance.random() < 0.3:
+        chance.shuffle(modules)
+    share = {"all": 1, "none": 0, "some": 0.5}[kind]
+    named = [(index, text) for index, (_, text) in enumerate(modules) if chance.random() < share]
+    parts = [section(1, made) for made, _ in modules]
+    for _ in range(chance.choice((0, 0, 1, 2))):
+        inner = b"".join(chance.sample([section(1, SHIM), section(7, b"\0"), section(4, COMPONENT + section(1, FIXUP)), b"\x0d\0"], 2))
+        parts.insert(chance.randint(0, len(parts)), section(4, COMPONENT + inner))
+    for _ in range(chance.randint(0, 4)):
+        passed = section(chance.choice(PASSED), bytes(chance.randrange(256) for _ in range(chance.choice((0, 3, 200)))))
+        parts.insert(chance.randint(0, len(parts)), passed)
+    if named:
+        parts.insert(chance.randint(0, len(parts)), names_of_modules(named))
+    return COMPONENT + b"".join(parts)

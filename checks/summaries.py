@@ -17,6 +17,7 @@ A line is printed for each difference, and at last how much agrees. The status i
 """
 import argparse
 import collections
+import itertools
 import json
 import os
 import pathlib
@@ -38,6 +39,8 @@ ADAPTER = "wasi_snapshot_preview1"
 RUN = "wasi:cli/run@0.2.6#run"
 REALLOC = "cabi_import_realloc"
 ADAPTER_FILE = "wasi-command-adapter.wasm"
+# the kinds of entries of --imports, in their order
+KINDS = "main", "goes", "stays"
 # functions of the world that a main module imports for itself, with their types
 OWN = [("wasi:clocks/monotonic-clock@0.2.6", "now", b"\x60\0\1\x7e"),
        ("wasi:random/random@0.2.6", "get-random-u64", b"\x60\0\1\x7e"),
@@ -59,11 +62,11 @@ def spelled(kind):
     return b"\x60" + b"".join(map(vector, kind))
 
 
-def main_module(adapter, chance):
-    """The bytes of a random main module."""
+def main_module(adapter, chance, own=3):
+    """The bytes of a random main module, which imports at most `own` functions of the world."""
     offered = [(text, item) for text, item in adapter.exports if item[0] == "func" and text != RUN]
     offered = [(ADAPTER, text, spelled(adapter.type_of(item))) for text, item in offered]
-    imported = chance.choices(offered, k=chance.randint(1, 8)) + chance.sample(OWN, chance.randint(0, 3))
+    imported = chance.choices(offered, k=chance.randint(1, 8)) + chance.sample(OWN, chance.randint(0, own))
     chance.shuffle(imported)
     count = chance.randint(2, 12)
     kinds = [kind for _, _, kind in imported] + [NOTHING] * count
@@ -98,8 +101,9 @@ def counted(count):
     return f"{count} import{'' if count == 1 else 's'}"
 
 
-def texts(names):
-    return " ".join(map(word, names))
+def once(names):
+    """Names, each of which is none that is equal to the one before it."""
+    return [name for name, _ in itertools.groupby(names)]
 
 
 class Summary:
@@ -107,46 +111,77 @@ class Summary:
 
     def __init__(self, component):
         self.component = component
-        self.required = [(part, text) for part, adapter in enumerate(component.adapters, 1)
-                         for text in dict.fromkeys([*adapter.imported, *adapter.always])]
-        roots = {(part, text): (part, component.adapters[part - 1].exports[text]) for part, text in self.required}
-        self.leads = {of: set(component.search([[(root, {})]])) for of, root in roots.items()}
-        live = set().union(*self.leads.values())
-        self.imports = [(source, item) for source, _, item in component.imports() if item[0] == 0 or item in live]
+        self.labels = [[(text, why, set(component.search([[((part, item), {})]]))) for text, item, why in it.labels()]
+                       for part, it in enumerate(component.adapters, 1)]
+        self.live = set().union(*(found for labels in self.labels for _, _, found in labels))
+        self.imports = [(source, item) for source, _, item in component.imports() if self.is_counted(item)]
+
+    def is_counted(self, item):
+        """Whether an import counts; of a core module in a component's file all do that are no functions."""
+        adapter = self.component.adapters[item[0] - 1] if item[0] else None
+        return adapter is None or item in self.live or adapter.is_library or (adapter.is_core and item[1][0] != "func")
 
     def main_part(self, own):
-        """What is said of the main module's imports of an interface."""
+        """What the main module imports of an interface, as the JSON has it; nothing, if it imports nothing."""
         main = self.component.main
         own = {item for part, item in own if part == 0}
         by = [it[1] for it in sorted(self.component.reached) if it[0] == "func" and not own.isdisjoint(main.names[it])]
-        by = [function_text({"index": it, "name": main.texts.get(it)}) for it in by]
-        more = f" and {len(by) - 3} more" if len(by) > 3 else ""
-        return [f"{counted(len(own))} of main" + (f" by {', '.join(by[:3])}{more}" if by else "")] if own else []
+        by = [{"index": it, "name": main.texts.get(it)} for it in by]
+        return [{"adapter": None, "imports": len(own), "by": by}] if own else []
 
     def adapter_part(self, part, own):
-        """What is said of an adapter, how many bytes go, and whether the interface stays."""
-        adapter, sizes = self.component.adapters[part - 1], self.component.modules[part].sizes
-        count = sum(it[0] == part for it in own)
-        if not count:
-            return [], 0, False
-        led = [text for it, text in self.required if it == part and not self.leads[part, text].isdisjoint(own)]
-        others = [found for (it, text), found in self.leads.items() if it == part and text not in led]
-        gone = set().union(*(self.leads[part, text] for text in led)).difference(*others)
-        size = sum(sizes.get(item, 0) for _, item in gone)
-        always = [text for text in led if text in adapter.always]
-        end = f"always needed for {texts(always)}" if always else f"{size} bytes, needed only for {texts(led)}"
-        return [f"{counted(count)} of adapter {word(adapter.name)}, {end}"], size, bool(always)
+        """The same of an adapter."""
+        sizes, labels = self.component.modules[part].sizes, self.labels[part - 1]
+        led = [(text, why) for text, why, found in labels if not found.isdisjoint(own)]
+        gone = set().union(*(found for _, _, found in labels if not found.isdisjoint(own)))
+        gone = gone.difference(*(found for _, _, found in labels if found.isdisjoint(own)))
+        gone = [sizes[item] for _, item in gone if item in sizes]
+        count, name = sum(it[0] == part for it in own), self.component.names_of_parts[part]
+        lists = {why: once(text for text, of in led if of == why) for why in ("exports", "stays", "roots")}
+        return [{"adapter": name, "imports": count, **lists, "functions": len(gone), "bytes": sum(gone)}] if count else []
 
-    def lines(self):
-        """The lines of --imports."""
+    def is_library(self, module):
+        return any(it.is_library and it.name == module["adapter"] for it in self.component.adapters)
+
+    def kind(self, modules):
+        if modules[0]["adapter"] is None:
+            return "main"
+        return "stays" if any(it["stays"] or it["roots"] or self.is_library(it) for it in modules) else "goes"
+
+    def entries(self):
+        """The interfaces, each with the modules that import something of it; roots that are no exports are apart."""
         found = []
         for interface in dict.fromkeys(source for source, _ in self.imports):
             own = {item for source, item in self.imports if source == interface}
-            main, parts = self.main_part(own), [self.adapter_part(part, own) for part in range(1, len(self.component.modules))]
-            rank = 0 if main else 2 if any(stays for _, _, stays in parts) else 1
-            said = "; ".join(main + [it for more, _, _ in parts for it in more])
-            found.append((rank, -sum(size for _, size, _ in parts), f"{word(interface)}: {said}"))
-        return [line for _, _, line in sorted(found, key=lambda it: it[:2])]
+            modules = self.main_part(own)
+            for part in range(1, len(self.component.modules)):
+                modules += self.adapter_part(part, own)
+            found.append({"interface": interface, "kind": self.kind(modules), "modules": modules})
+        return sorted(found, key=lambda it: (KINDS.index(it["kind"]), -sum(module.get("bytes", 0) for module in it["modules"])))
+
+    def text(self, module):
+        """What is said of a module in a line."""
+        if module["adapter"] is None:
+            by = [function_text(it) for it in module["by"]]
+            more = f" and {len(by) - 3} more" if len(by) > 3 else ""
+            return f"{counted(module['imports'])} of main" + (f" by {', '.join(by[:3])}{more}" if by else "")
+        end = " ".join([f"{module['bytes']} bytes, needed only for", *map(word, module["exports"])])
+        if self.is_library(module):
+            end = "always needed"
+        elif module["stays"] or module["roots"]:
+            end = f"always needed for {' '.join([*map(word, module['stays']), *module['roots']])}"
+        return f"{counted(module['imports'])} of adapter {word(module['adapter'])}, {end}"
+
+    def json(self):
+        """What --imports --json has."""
+        def joined(it):
+            return {key: it["stays"] + it["roots"] if key == "stays" else of for key, of in it.items() if key != "roots"}
+
+        return [{**it, "modules": list(map(joined, it["modules"]))} for it in self.entries()]
+
+    def lines(self):
+        """The lines of --imports."""
+        return [f"{word(it['interface'])}: {'; '.join(map(self.text, it['modules']))}" for it in self.entries()]
 
 
 def different_why(component, interface, tree, printed):

@@ -1,10 +1,11 @@
 #!/bin/sh
-# Makes two files in the folder out beside this script: hello.wasm of hello.c, by Debian's clang, lld and wasi-libc;
-# and adapter.wasm, the adapter of WASI commands, cut out of the linker for components that Rust's toolchain has.
+# Makes three files in the folder out beside this script: hello.wasm of hello.c, by Debian's clang, lld and wasi-libc; adapter.wasm,
+# the adapter of WASI commands, cut out of the linker for components that Rust's toolchain has; and hello.component.wasm, which this
+# linker makes of both, with the names of functions.
 #
 #     examples/wasi/make.sh [--picture]
 #
-# With --picture it makes why.svg there besides, by `wcplan --dot` and Graphviz: why the component imports the host's folders.
+# With --picture it makes why.svg there besides, by `wcwhy --dot` and Graphviz: why the component imports the host's folders.
 set -e
 here=$(CDPATH='' cd -P -- "$(dirname -- "$0")" && pwd -P)
 case ${1-} in
@@ -33,10 +34,10 @@ mkdir -p "$here/out"
 clang --target=wasm32-wasi -O2 -c "$here/hello.c" -o "$here/out/hello.o"
 clang --target=wasm32-wasi -s "$here/out/hello.o" -o "$here/out/hello.wasm"
 "$here/../../checks/adapters.py" --cut 'wasi:cli/run@0.2.6#run' "$here/out/adapter.wasm"
-[ $# -gt 0 ] || exit 0
-need dot graphviz
 # with the names of functions, which -s takes out
 clang --target=wasm32-wasi "$here/out/hello.o" -o "$here/out/named.wasm"
-"$here/../../wcplan" "$here/wasi-command.json" wasi:cli/command "$here/out/named.wasm" \
-    --adapt "wasi_snapshot_preview1=$here/out/adapter.wasm" --why wasi:filesystem/preopens --dot |
+"$here/../../checks/adapters.py" --link "$here/out/named.wasm" "$here/out/hello.component.wasm"
+[ $# -gt 0 ] || exit 0
+need dot graphviz
+"$here/../../wcwhy" "$here/out/hello.component.wasm" --import wasi:filesystem/preopens --dot |
     dot -Grankdir=TB -Nfontsize=13 -Nheight=0.3 -Nmargin=0.06,0.04 -Granksep=0.28 -Gnodesep=0.15 -Tsvg >"$here/out/why.svg"
