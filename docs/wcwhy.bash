@@ -6,8 +6,11 @@ _wcwhy() {
         --adapter-export) what=(-W '') ;;
         --import) what=(-W '') ;;
         --func) what=(-W '') ;;
+        --allow) what=(-f) ;;
+        --core) what=(-W '') ;;
+        --out) what=(-f) ;;
     esac
-    [[ $word != -* ]] || what=(-W '--adapt --adapter-export --import --func --dot --json --imports --help --version')
+    [[ $word != -* ]] || what=(-W '--adapt --adapter-export --import --func --dot --json --imports --allow --core --out --help --version')
     mapfile -t COMPREPLY < <(compgen "${what[@]}" -- "$word")
 }
 complete -o filenames -F _wcwhy wcwhy

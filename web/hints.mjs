@@ -21,13 +21,15 @@ const WORLDS = "Print the worlds anew with wasm-tools component wit --json.";
 const BINDINGS = "Make the bindings anew of the worlds that are given here, and build again.";
 const VERSION = "Add the adapter of that name, or the worlds that have the interface, in the version for which the module was built.";
 const EXPORTS = "Export it from the main module, add the adapter that exports it, or choose another world.";
+const APART = "Ask wcwhy FILE, which takes it apart; wcwhy FILE --core N --out OUT writes its core module N.";
+const WIT = "Of WIT text give the worlds, as wasm-tools component wit --json prints them.";
 const ROOT = "Add the function to the world, or import it of its interface.";
 
 /** Of each fault what it means, and what to do. */
 export const HINTS = {
   read: {
-    NOT_WASM: ["It is no WebAssembly module.", "Assemble text (.wat) first, for example with wat2wasm."],
-    COMPONENT: ["It is a component, and not a core module.", "Take the core module of which it was made. Rust makes one for the target wasm32-wasip1."],
+    NOT_WASM: ["It is no WebAssembly module.", `Assemble text (.wat) first, for example with wat2wasm. ${WIT}`],
+    COMPONENT: ["It is a component, and not a core module.", APART],
     TRUNCATED: ["The module ends inside an item.", DAMAGED],
     BAD_NUMBER: ["A number in the module has too many bytes, or is too large.", DAMAGED],
     BAD_NAME: ["A name in the module is not UTF-8.", DAMAGED],
@@ -97,7 +99,7 @@ export const HINTS = {
   },
   validate: {
     READ: ["The module can't be read.", DAMAGED],
-    NOT_A_MODULE: ["It is a component, and not a core module.", "Take the core module of which it was made."],
+    NOT_A_MODULE: ["It is a component, and not a core module.", APART],
     NOT_A_FUNCTION: ["An import is a table, a memory or a global, which no component can give.", "Define it in the module, or link the module that has it."],
     SIGNATURE_MISMATCH: ["A function is imported or exported with another type than its name says.", BINDINGS],
     NO_ROOT_IMPORT: ["The world does not import this function.", ROOT],
