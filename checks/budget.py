@@ -22,7 +22,7 @@ from repository import code_of, crates_below, files_of, used_by_crates
 # expected processor minutes: of a crate, of a function, and of a function for each 1,000 functions in the crates below
 CRATE, FUNCTION, BELOW = 0.46, 0.0289, 0.0097
 # the most minutes of all crates, and of the longest chain
-WHOLE, CHAIN = 208, 72
+WHOLE, CHAIN = 215, 72
 HEAD = re.compile(r'^\s*(?:pub(?:\([a-z]+\))? )?(?:const )?(?:unsafe )?(?:extern "C" )?fn \w', re.M)
 
 

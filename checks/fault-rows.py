@@ -115,6 +115,10 @@ UNPLACED = listed({
 })
 
 
+# what wcwhy prints of a component whose sections can't be read
+OF_SECTIONS = re.compile("error wcwhy: Read: [A-Za-z]+")
+
+
 def faults():
     """Each enum of faults, and each struct that is one: its crate, and its variants."""
     found = dict(STATED)
@@ -206,6 +210,9 @@ def reached(known):
             continue
         # with status 2 `wcwhy` says which argument is wrong
         enum = "WrongArgument" if call.startswith("wcwhy") and "status 2" in lines else CALLS[call]
+        # the fault of a module has a second line
+        if len(lines) == 2 and OF_SECTIONS.fullmatch(lines[0]):
+            enum = "FileFault"
         for text in texts(call, lines):
             faults_shown = readings(known, enum, text) or (enum in OTHERS and readings(known, OTHERS[enum], text))
             if not faults_shown:

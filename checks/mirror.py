@@ -28,7 +28,7 @@ REASONS = {
         "wc_resolve/validate/type_test wc_resolve/walk wc_write/contents wc_write/module_sections wc_encoder/well_formed wc_names/payloads "
         "wc_names/standard wc_validate/exports/first_singles wc_validate/name_fault wc_validate/signatures wc_gc/assemble wc_gc/ranks "
         "wc_paths/counts wc_paths/names wc_world/import_map wc_plan/lowerings "
-        "wc_module_ways/shared",
+        "wc_component_file/laws wc_module_ways/core_tree wc_module_ways/shared",
     "the tree of a world is in `WaysTree`, with its texts": "wc_ways/tree",
     "what all parts of imports answer, and the kinds of these, are in `Functions` and `Kinds`":
         "wc_validate/imports/environment wc_validate/imports/root wc_validate/imports/scheme",
@@ -42,7 +42,8 @@ REASONS = {
     "the links of a component are in `Graph`, those of a part in `Part`": "wc_why/links",
     "names without mangling are in `RustNames`": "wc_why_text/name_parts",
     "the lines of a tree are in `TreeLines`": "wc_why_text/way_items wc_why_text/way_lines",
-    "the file of specs/ is in the plural: it has relations of many": "wc_import_paths/main_module wc_import_paths/part",
+    "the file of specs/ is in the plural: it has relations of many":
+        "wc_component_file/file wc_component_file/main_module wc_import_paths/main_module wc_import_paths/part",
     "the names of functions are in `Names`": "wc_module_ways/functions",
 }
 

@@ -18,7 +18,6 @@ import glob
 import json
 import os
 import re
-import shlex
 import shutil
 import subprocess
 import sys
@@ -35,13 +34,6 @@ SOURCES = sorted(glob.glob(os.path.join(TOP, "checks", "c", "wasi", "*.c"))) + [
 ADAPTER, OLD = "wasi_snapshot_preview1", "old"
 KEY = "wasi:cli/run@0.2.6"
 WRITE = ("wasi:io/streams@0.2.6", "[method]output-stream.blocking-write-and-flush", ["i32"] * 4, [])
-# in the place of wasm-ld: it puts a module where the linked one is wanted
-LINKED = """#!/bin/sh
-while [ $# -gt 1 ]; do
-    [ "$1" != -o ] || exec cp {main} "$2"
-    shift
-done
-"""
 
 
 class Compared:
@@ -106,7 +98,7 @@ def write(path, data):
 
 def compare_world(compared, linker, adapter, seed):
     """Compares the shim for a random world; those of odd numbers have an adapter, with what the linker's says of its world."""
-    at = {name: os.path.join(compared.made, name) for name in ("main.wasm", "old.wasm", "demo.wit", "worlds.json", "out.wasm", "ld", "o")}
+    at = {name: os.path.join(compared.made, name) for name in ("main.wasm", "old.wasm", "demo.wit", "worlds.json")}
     base = json.loads(adapters.read(WORLDS)) if seed % 2 else None
     world = World(seed, base)
     options = ["--adapt", OLD + "=" + at["old.wasm"]] if base else []
@@ -119,18 +111,16 @@ def compare_world(compared, linker, adapter, seed):
         said = [section(id, of) for id, of in sections(adapters.read(adapter)) if id == 0 and name_at(of, 0)[0].startswith("component-type")]
         write(at["old.wasm"], module_of(imports, exports, "imported", b"".join(said)))
     realloc = ("cabi_realloc", ["i32"] * 4, ["i32"])
-    write(at["main.wasm"], module_of(world.imports, [realloc, *world.exports], "exported"))
+    main = module_of(world.imports, [realloc, *world.exports], "exported")
+    write(at["main.wasm"], main)
     write(at["demo.wit"], "\n".join(world.wit).encode())
     write(at["worlds.json"], world.json().encode())
-    write(at["ld"], LINKED.format(main=shlex.quote(at["main.wasm"])).encode())
-    os.chmod(at["ld"], 0o755)
-    write(at["o"], b"")
-    command = [linker, "--wasm-ld-path", at["ld"], "--wasi-adapter", "none", *options, "--component-type", at["demo.wit"]]
-    made = subprocess.run([*command, "-o", at["out.wasm"], at["o"]], capture_output=True, text=True)
-    if made.returncode:
-        print("no component of world %d: %s" % (seed, " ".join(made.stderr.split())))
+    options = ["--wasi-adapter", "none", *options, "--component-type", at["demo.wit"]]
+    made, why = adapters.linked_component(linker, main, options, compared.made)
+    if made is None:
+        print("no component of world %d: %s" % (seed, why))
         return
-    linked = Component(adapters.read(at["out.wasm"]), OLD)
+    linked = Component(made, OLD)
     compared.compare(linked, at["worlds.json"], at["main.wasm"], (OLD, at["old.wasm"]) if base else None)
 
 

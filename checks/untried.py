@@ -4,9 +4,9 @@
     checks/untried.py [--write]
 
 An edit tries a function if it turns its body or its head; a function that a trait declares is tried by an edit of an
-`impl` of it, and a law, whose body is empty, by an edit of a definition that its clauses lead to. An edit leads to the
-definitions that the clauses of the function which it turns lead to, or to the definition that it changes, and those that
-this leads to. A wrong definition to which no edit leads could make clauses empty, and no edit would show it.
+`impl` of it, and a law, which returns and changes nothing, by an edit of a definition that its clauses lead to. An edit
+leads to the definitions that the clauses of the function which it turns lead to, or to the definition that it changes, and
+those that this leads to. A wrong definition to which no edit leads could make clauses empty, and no edit would show it.
 
 checks/untried.txt lists the exported functions that no edit tries, and the definitions behind exported clauses to which no
 edit leads. Its first line says how many it may have of each. It may only become shorter: --write makes the list, and lowers
@@ -26,6 +26,11 @@ LIST = TOP / "checks" / "untried.txt"
 HEAD = "at most %d functions, %d definitions\n"
 
 
+def is_law(function):
+    """Whether a function is a law: it returns nothing, and changes nothing."""
+    return function.has_body and "->" not in function.text and "&mut " not in function.text
+
+
 def untried_functions(house):
     """The exported functions that no edit tries, as crate, file and name."""
     turned = {(crate, it.key) for crate, edit, _ in house.edits for it in edit.functions + edit.heads}
@@ -34,7 +39,7 @@ def untried_functions(house):
     for crate in product_crates():
         for it in house.exported(crate):
             is_tried = (crate, it.key) in turned or bool(it.in_trait) and (it.owner, it.name) in of_impls
-            if not is_tried and not (house.is_empty(crate, it) and house.led_to(house.cited(crate, it)) & changed):
+            if not is_tried and not (is_law(it) and house.led_to(house.cited(crate, it)) & changed):
                 yield crate, it.file, "::".join(part for part in (it.owner, it.name) if part)
 
 

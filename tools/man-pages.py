@@ -109,7 +109,13 @@ def block(lines):
 
 def blocks(text):
     """The paragraphs of a text; a fenced block is one, as if it were indented."""
-    text = re.sub(r"```\w*\n(.*?)```", lambda it: re.sub(r"(?m)^", "    ", re.sub(r"\n\s*\n", "\n", it[1].rstrip())), text, flags=re.S)
+
+    def indented(it):
+        # in a list the fence is indented itself
+        lines = re.sub(r"\n\s*\n", "\n", it[2].rstrip())
+        return re.sub(r"(?m)^", "    ", re.sub(f"(?m)^{it[1]}", "", lines))
+
+    text = re.sub(r"(?ms)^( *)```\w*\n(.*?)```", indented, text)
     return [it.split("\n") for it in re.split(r"\n\s*\n", text.strip("\n")) if it.strip()]
 
 

@@ -6,8 +6,8 @@
 Without --write it prints a line for each picture that is out of date; the status is then 1. Graphviz draws all but `speed`.
 
     NAME            made of
-    paths, why      paths.dot and why.dot beside them, which hold what `wcwhy --dot` of examples/words.wasm and
-                    `wcplan --why wasi:filesystem/preopens --dot` of examples/wasi printed, drawn by Graphviz. Where that is
+    paths, why      paths.dot and why.dot beside them, which hold what `wcwhy --dot` of examples/words.wasm and `wcwhy --import
+                    wasi:filesystem/preopens --dot` of the component of examples/wasi printed, drawn by Graphviz. Where that is
                     missing, or of another version than drew the picture, only the graph that it was drawn of is compared
     instantiation   the lines of the plan of examples/wcplan, on examples/README.md
     crates          crates.txt, and the table of costs and the longest chain on docs/MAP.md
@@ -97,7 +97,7 @@ def cluster(name, label, lines):
 def instantiation():
     """Shims with slots, the main module, the adapter, the fix-up and the host, in the order of their instantiation; by the
     plan of examples/wcplan on examples/README.md."""
-    plan = re.findall(r"^    (main|adapter) ?\S* my:notes/store@1\.2\.0 (\S+) sync slot (\d+) realloc (\S+)$", read("examples", "README.md"), re.M)
+    plan = re.findall(r"^ *(main|adapter) ?\S* my:notes/store@1\.2\.0 (\S+) sync slot (\d+) realloc (\S+)$", read("examples", "README.md"), re.M)
     lines, host = [], ["host: my:notes/store@1.2.0, lowered once main's memory is there"]
     for who, function, slot, realloc in plan:
         lines.append(box("slot " + slot, f"slot {slot}  {function}", "blue"))
