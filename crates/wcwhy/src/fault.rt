@@ -71,7 +71,7 @@ pub enum WhyFault<'a> {
         fault: GcFault,
         place: Option<TrimPlace>,
     },
-    /// The file of this path could not be written, and why: never `Memory`.
+    /// The file of this path could not be written, and why.
     CannotWrite(&'a str, FileProblem),
     /// Something is imported that no entry allows. It carries from where, as the whole text of the fault.
     NotAllowed(String),
