@@ -219,7 +219,8 @@ fn keys<'a>(alloc: Global, entries: &[(&'a str, ())]) -> Result<Vec<&'a str>, Al
 
 /// The names of exports.
 fn export_names<'a>(alloc: Global, exports: &[Export<'a>]) -> Result<Vec<&'a str>, AllocError>
-    ensures { IfOk result (λ v. map bytes_of v.items ≡ export_names (map export_value exports.now)) }
+    ensures { IfOk result (λ v. map bytes_of v.items
+        ≡ export_names (map export_value exports.now)) }
 {
     let mut names = Vec::new(alloc);
     for export in exports {
